@@ -3,7 +3,9 @@
 
 mod checking;
 mod outcomes;
+mod refused;
 mod totals;
 
 pub use crate::checking::check;
+pub use crate::refused::told;
 pub use crate::totals::CheckOptions;

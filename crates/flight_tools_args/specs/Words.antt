@@ -1,5 +1,6 @@
 -- What the words of a command line give. The commands are this project's own; how words are read is `clap`'s.
-use Rattle.std.specs.Prelude.{◌≡◌, Bool, true, false, List, map, codes, option_map, Some, None, Result, Ok, Err}
+use Rattle.std.specs.Prelude.{◌≡◌, ℕ, Bool, true, false, List, [], map, codes, option_map, unwrap_or, Some, None, Result, Ok, Err}
+use Rattle.std.specs.Borrow.{Bor}
 use Rattle.clap.specs.Words.{Row, Text, all_of, first_of, one_of}
 use Rattle.clap.specs.declared.error.Error.{Error}
 use Rattle.clap.specs.declared.error.kind.ErrorKind.{ErrorKind}
@@ -57,6 +58,10 @@ abbrev pub HoldsForm : List Row → RowWords → Type 0
 HoldsForm rows how = IsFlag (codes "csv") rows how.csv × IsFlag (codes "json") rows how.json
     × (first_of (codes "epoch") rows ≡ option_map (λ word. word.now) how.epoch)
 
+-- these are all words of an option; there are none where it isn't given
+abbrev pub HoldsWords : Text → List Row → List (Bor (List ℕ)) → Type 0
+HoldsWords id rows words = unwrap_or (all_of id rows) [] ≡ map (λ word. word.now) words
+
 -- a plan is of the command with this word, and holds the files that it is given
 abbrev pub HoldsRows : Text × List Row → CommandPlan → Type 0
 HoldsRows found (Said error) = ⊥
@@ -80,11 +85,12 @@ HoldsRows found (Report schedule stream page rules epoch) = (found.0 ≡ codes "
 HoldsRows found (Check schedule rules all strict json) = (found.0 ≡ codes "check")
     × (first_of (codes "schedule") found.1 ≡ option_map (λ word. word.now) schedule) × (all_of (codes "RULES") found.1 ≡ Some (map (λ rule. rule.now) rules.items))
     × IsFlag (codes "all") found.1 all × IsFlag (codes "strict") found.1 strict × IsFlag (codes "json") found.1 json
-HoldsRows found (Compare schedule stream old new) = (found.0 ≡ codes "compare")
+HoldsRows found (Compare schedule stream old new further) = (found.0 ≡ codes "compare")
     × (first_of (codes "SCHEDULE") found.1 ≡ Some schedule.now) × (first_of (codes "STREAM") found.1 ≡ Some stream.now)
     × (first_of (codes "OLD") found.1 ≡ Some old.now) × (first_of (codes "NEW") found.1 ≡ Some new.now)
-HoldsRows found (Try script schedule rules) = (found.0 ≡ codes "try")
+    × HoldsWords (codes "with") found.1 further.items
+HoldsRows found (Try script schedule rules strict) = (found.0 ≡ codes "try")
     × (first_of (codes "SCRIPT") found.1 ≡ Some script.now) × (first_of (codes "SCHEDULE") found.1 ≡ Some schedule.now)
-    × (all_of (codes "RULES") found.1 ≡ Some (map (λ rule. rule.now) rules.items))
+    × (all_of (codes "RULES") found.1 ≡ Some (map (λ rule. rule.now) rules.items)) × IsFlag (codes "strict") found.1 strict
 HoldsRows found (Live schedule rules) = (found.0 ≡ codes "live")
     × (first_of (codes "SCHEDULE") found.1 ≡ Some schedule.now) × (all_of (codes "RULES") found.1 ≡ Some (map (λ rule. rule.now) rules.items))

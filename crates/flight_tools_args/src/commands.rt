@@ -20,10 +20,14 @@ enum More {
     Imported,
     /// Rule texts, one at least.
     Rules,
+    /// Rule texts, and whether a warning is a fault.
+    Tried,
     /// Rule texts, and the instant of second 0.
     Dated,
     /// Rule texts, and how they are checked.
     Checked,
+    /// Further rule texts, which a stream may bring.
+    Further,
 }
 
 /// A command: its word, what it does, the files that have to be named, with what each is, and what more it takes.
@@ -103,7 +107,7 @@ const ROWS: [CommandEntry; 11] = [
             ("OLD", "The rule text that flies"),
             ("NEW", "The rule text that is to fly"),
         ],
-        more: More::Nothing,
+        more: More::Further,
     },
     CommandEntry {
         word: "try",
@@ -112,7 +116,7 @@ const ROWS: [CommandEntry; 11] = [
             ("SCRIPT", "The script, line by line"),
             ("SCHEDULE", "The schedule"),
         ],
-        more: More::Rules,
+        more: More::Tried,
     },
     CommandEntry {
         word: "live",
@@ -132,6 +136,18 @@ fn rule_words<'a>(alloc: Global) -> Arg<'a> {
     file_word(alloc, "RULES", "The rule texts, numbered from 0")
         .action(ArgAction::Append)
         .num_args(1..)
+}
+
+/// Further rule texts, behind an option.
+fn further_words<'a>(alloc: Global) -> Arg<'a> {
+    option_word(
+        alloc,
+        "with",
+        "The rule texts that the stream brings, numbered from 1",
+    )
+    .value_name("TEXTS")
+    .action(ArgAction::Append)
+    .num_args(1..)
 }
 
 /// A file that may be named behind an option.
@@ -215,6 +231,15 @@ fn with_rows<'a>(alloc: Global, command: Command<'a>) -> Result<Command<'a>, All
         .arg(epoch_word(alloc))
 }
 
+/// Whether a warning is a fault.
+fn strict_word<'a>(alloc: Global) -> Arg<'a> {
+    flag_word(
+        alloc,
+        "strict",
+        "Ends with status 1 where there is a warning",
+    )
+}
+
 /// A check with how it is made.
 fn with_checks<'a>(alloc: Global, command: Command<'a>) -> Result<Command<'a>, AllocError> {
     command
@@ -228,11 +253,7 @@ fn with_checks<'a>(alloc: Global, command: Command<'a>) -> Result<Command<'a>, A
             "all",
             "Says of each rule for which values it fails and passes",
         ))?
-        .arg(flag_word(
-            alloc,
-            "strict",
-            "Ends with status 1 where there is a warning",
-        ))?
+        .arg(strict_word(alloc))?
         .arg(flag_word(alloc, "json", "Says all of it in JSON, an object a line"))?
         .arg(rule_words(alloc))
 }
@@ -276,8 +297,10 @@ fn with_more<'a>(
             alloc,
         )),
         More::Rules => command.arg(rule_words(alloc)),
+        More::Tried => command.arg(strict_word(alloc))?.arg(rule_words(alloc)),
         More::Dated => command.arg(epoch_word(alloc))?.arg(rule_words(alloc)),
         More::Checked => with_checks(alloc, command),
+        More::Further => command.arg(further_words(alloc)),
     }
 }
 

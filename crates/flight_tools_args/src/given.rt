@@ -2,7 +2,7 @@
 
 ghost use Rattle.std.specs.Prelude.{◌≡◌, codes, map, option_map, IfOk, IfSome, IsSomeAnd, Some};
 ghost use Rattle.clap.specs.Words.{all_of, first_of, found_of, rows_of, subcommand_rows_of};
-ghost use Rattle.flight_tools_args.specs.Words.{HoldsForm, HoldsImport, HoldsRows, IsFlag, word_of};
+ghost use Rattle.flight_tools_args.specs.Words.{HoldsForm, HoldsImport, HoldsRows, HoldsWords, IsFlag, word_of};
 
 use crate::kind::{CommandKind, kind_of};
 use crate::plan::{CommandPlan, ImportWords, RowWords};
@@ -44,7 +44,7 @@ fn plan_by<'a>(
         CommandKind::Export => Ok(export_plan(found)),
         CommandKind::Report => report_plan(alloc, found),
         CommandKind::Check => check_plan(alloc, found),
-        CommandKind::Compare => Ok(compare_plan(found)),
+        CommandKind::Compare => compare_plan(alloc, found),
         CommandKind::Try => try_plan(alloc, found),
         CommandKind::Live => live_plan(alloc, found),
     }
@@ -244,7 +244,20 @@ fn check_plan<'a>(
     }
 }
 
-fn compare_plan<'a>(found: &ArgMatches<'a>) -> Option<CommandPlan<'a>>
+/// The further rule texts; none where the option isn't given.
+fn further_of<'a>(alloc: Global, found: &ArgMatches<'a>) -> Result<Vec<&'a str>, AllocError>
+    ensures { IfOk result (λ texts. HoldsWords (codes "with") (rows_of (found_of found.now))
+        texts.items) }
+{
+    match found.get_strs("with") {
+        Some(texts) => Ok(Vec::from_slice(alloc, texts)?),
+        None => Ok(Vec::new(alloc)),
+    }
+}
+
+/// The plan of a comparison with these further rule texts.
+fn compare_of<'a>(found: &ArgMatches<'a>, further: Vec<&'a str>) -> Option<CommandPlan<'a>>
+    requires { HoldsWords (codes "with") (rows_of (found_of found.now)) further.items }
     ensures { IfSome result (HoldsRows (codes "compare", rows_of (found_of found.now))) }
 {
     Some(CommandPlan::Compare {
@@ -252,7 +265,19 @@ fn compare_plan<'a>(found: &ArgMatches<'a>) -> Option<CommandPlan<'a>>
         stream: file_of(found, "STREAM")?,
         old: file_of(found, "OLD")?,
         new: file_of(found, "NEW")?,
+        further,
     })
+}
+
+fn compare_plan<'a>(
+    alloc: Global,
+    found: &ArgMatches<'a>,
+) -> Result<Option<CommandPlan<'a>>, AllocError>
+    ensures { IfOk result (λ plan. IfSome plan
+        (HoldsRows (codes "compare", rows_of (found_of found.now)))) }
+{
+    let further = further_of(alloc, found)?;
+    Ok(compare_of(found, further))
 }
 
 /// The plan of a script that is tried with these rule texts.
@@ -261,10 +286,12 @@ fn try_of<'a>(found: &ArgMatches<'a>, rules: Vec<&'a str>) -> Option<CommandPlan
         Some (map (λ word. word.now) rules.items) }
     ensures { IfSome result (HoldsRows (codes "try", rows_of (found_of found.now))) }
 {
+    let strict = flag(found, "strict");
     Some(CommandPlan::Try {
         script: file_of(found, "SCRIPT")?,
         schedule: file_of(found, "SCHEDULE")?,
         rules,
+        strict,
     })
 }
 

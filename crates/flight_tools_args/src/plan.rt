@@ -56,18 +56,21 @@ pub enum CommandPlan<'a> {
         strict: bool,
         json: bool,
     },
-    /// `compare SCHEDULE STREAM OLD NEW`: what comes of one of two rule texts alone.
+    /// `compare SCHEDULE STREAM OLD NEW [--with TEXTS..]`: what comes of one of two rule texts alone, over a stream that may bring
+    /// further ones.
     Compare {
         schedule: &'a str,
         stream: &'a str,
         old: &'a str,
         new: &'a str,
+        further: Vec<&'a str>,
     },
-    /// `try SCRIPT SCHEDULE RULES..`: a run of a script, and whether what it expects comes.
+    /// `try [--strict] SCRIPT SCHEDULE RULES..`: a run of a script, and whether what it expects comes.
     Try {
         script: &'a str,
         schedule: &'a str,
         rules: Vec<&'a str>,
+        strict: bool,
     },
     /// `live SCHEDULE RULES..`: a run over a stream as it comes, from standard input to standard output.
     Live {

@@ -1,5 +1,5 @@
 -- Which fault each failure of a run is. This project's own.
-use Rattle.std.specs.Prelude.{◌≡◌, Bool, not, ◌||◌, if◌then◌else◌, nat_lt, List, ℕ, Option, Some, None, Result, Ok, Err, unwrap_or, slice_get}
+use Rattle.std.specs.Prelude.{◌≡◌, Bool, not, ◌&&◌, ◌||◌, if◌then◌else◌, nat_lt, length, ◌==◌, List, ℕ, Option, Some, None, Result, Ok, Err, unwrap_or, slice_get}
 use Rattle.std.specs.Borrow.{Bor}
 use Rattle.std_io.specs.declared.io.kind.ErrorKind.{ErrorKind}
 use Rattle.program_io.specs.Why.{why_of}
@@ -15,16 +15,25 @@ use Rattle.run_page.specs.declared.error.ReportError.TheVariants as page
 use Rattle.run_comparison.specs.declared.comparison.Compared.{Compared}
 use Rattle.run_comparison.specs.declared.error.ComparisonError.{ComparisonError}
 use Rattle.run_comparison.specs.declared.error.ComparisonError.TheVariants as comparison
+use Rattle.run_comparison.specs.declared.error.Which.{Which}
 use Rattle.run_comparison.specs.declared.error.Which.TheVariants as which
+use Rattle.run_comparison.specs.declared.counts.LineCounts.{LineCounts}
+use Rattle.run_comparison.specs.declared.stop.Stop.{Stop}
+use Rattle.run_comparison.specs.declared.stop.Stop.TheVariants as stop
+use Rattle.scenario_trial.specs.declared.trial.TrialOutcome.{TrialOutcome}
 use Rattle.scenario_trial.specs.declared.error.TrialError.{TrialError}
 use Rattle.scenario_trial.specs.declared.error.TrialError.TheVariants as trial
 use Rattle.scenario_trial.specs.declared.expectation_lines.ReadError.{ReadError}
 use Rattle.scenario_trial.specs.declared.expectation_lines.ReadError.TheVariants as reading
 use Rattle.scenarios.specs.declared.error.ScenarioError.{ScenarioError}
 use Rattle.scenarios.specs.declared.error.ScenarioError.TheVariants as scenario
+use Rattle.stream_script.specs.declared.error.ScriptError.TheVariants as script
+use Rattle.run_commands.specs.declared.line_error.LineError.{LineError}
+use Rattle.run_commands.specs.declared.line_error.LineError.TheVariants as line
 use Rattle.tool_faults.specs.Cause.{IsOfInput, IsOfOutput, IsOfScript, IsOfWrite, IsToldFault}
 use Rattle.tool_faults.specs.declared.fault.Fault.{Fault}
 use Rattle.tool_faults.specs.declared.fault.Fault.TheVariants as fault
+use Rattle.run_commands.specs.declared.comparing.ComparedFiles.{ComparedFiles}
 
 -- of a file of this name, which failed by an error of this kind, if it was noted
 abbrev pub fault_of_device : Bor (List ℕ) → Option ErrorKind → Fault
@@ -46,12 +55,19 @@ answer_of_ending name (ending.NoRecord n) = Err (fault.Stream name (run.BadRecor
 answer_of_ending name (ending.Cut n) = Err (fault.Stream name (run.Truncated n))
 answer_of_ending name ending.Bound = Err (fault.Stream name run.ReadBound)
 
--- of two rule texts in files of these names that aren't compared
-abbrev pub IsOfComparison : (old new : Bor (List ℕ)) → ComparisonError → Option ErrorKind → Fault → Type 0
-IsOfComparison old new (comparison.Rules which.Old error) noted found = found ≡ fault.Rules old error
-IsOfComparison old new (comparison.Rules which.New error) noted found = found ≡ fault.Rules new error
-IsOfComparison old new comparison.Memory noted found = found ≡ fault.Memory
-IsOfComparison old new comparison.Write noted found = IsOfWrite noted found
+-- of a rule text of a comparison of files of these names that is refused
+abbrev pub fault_of_comparison_text : ComparedFiles → Which → CompileError → Fault
+fault_of_comparison_text files which.Old error = fault.Rules files.old error
+fault_of_comparison_text files which.New error = fault.Rules files.new error
+fault_of_comparison_text files (which.Further text) error = fault.Rules (unwrap_or (slice_get files.further.now text) files.new) error
+
+-- of a comparison that isn't made, or not to its end, where the stream and the output failed by errors of these kinds, if they were noted
+abbrev pub IsOfComparison : ComparedFiles → ComparisonError → (read written : Option ErrorKind) → Fault → Type 0
+IsOfComparison files (comparison.Rules which error) read written found = found ≡ fault_of_comparison_text files which error
+IsOfComparison files comparison.Memory read written found = found ≡ fault.Memory
+IsOfComparison files comparison.Read read written found = found ≡ fault_of_device files.stream read
+IsOfComparison files comparison.Bound read written found = found ≡ fault.Stream files.stream run.ReadBound
+IsOfComparison files comparison.Write read written found = IsOfWrite written found
 
 -- of a scenario whose words say no plain script
 abbrev pub IsOfScenario : ScenarioError → Fault → Type 0
@@ -63,21 +79,41 @@ abbrev pub IsOfReading : ReadError → Fault → Type 0
 IsOfReading reading.Memory found = found ≡ fault.Memory
 IsOfReading (reading.Line n reason) found = IsToldFault found
 
+-- the line of a scenario that says no stream; none where there was no memory
+abbrev pub line_in : LineError → Option ℕ
+line_in (line.Words (scenario.Line n reason)) = Some n
+line_in (line.Words scenario.Memory) = None
+line_in (line.Expectation (reading.Line n fault)) = Some n
+line_in (line.Expectation reading.Memory) = None
+line_in (line.Script (script.Line n reason)) = Some n
+line_in (line.Script script.Memory) = None
+
+-- of such a scenario
+abbrev pub IsOfLine : LineError → Fault → Type 0
+IsOfLine (line.Words error) found = IsOfScenario error found
+IsOfLine (line.Expectation error) found = IsOfReading error found
+IsOfLine (line.Script error) found = IsOfScript error found
+
 -- of a scenario in a file of this name that isn't tried with rule texts in these files
 abbrev pub IsOfTrial : (script : Bor (List ℕ)) → (rules : List (Bor (List ℕ))) → TrialError → Option ErrorKind → Fault → Type 0
 IsOfTrial script rules (trial.Scenario error) noted found = IsOfScenario error found
 IsOfTrial script rules (trial.Expectation error) noted found = IsOfReading error found
 IsOfTrial script rules (trial.Script error) noted found = IsOfScript error found
 IsOfTrial script rules (trial.Rules text error) noted found = found ≡ fault.Rules (unwrap_or (slice_get rules text) script) error
+IsOfTrial script rules (trial.NoRule n) noted found = IsToldFault found
 IsOfTrial script rules (trial.Stopped n) noted found = IsToldFault found
 IsOfTrial script rules trial.Memory noted found = found ≡ fault.Memory
 IsOfTrial script rules trial.Write noted found = IsOfWrite noted found
 
--- a stream that ends early has a status of its own, and so has a difference
-abbrev pub answer_of_comparison : Compared → Result (Unit {0}) Fault
-answer_of_comparison found =
-    if not found.is_whole then Err fault.Early
-    else (if nat_lt 0 found.old || nat_lt 0 found.new then Err fault.Differs else Ok tt)
+-- a stream in a file of this name that ends early is a fault, which says where and why; else a difference is one
+abbrev pub answer_by_stop : Bor (List ℕ) → LineCounts → Option Stop → Result (Unit {0}) Fault
+answer_by_stop name counts (Some (stop.NoText n text)) = Err (fault.TextMissing name n text)
+answer_by_stop name counts (Some (stop.NoRecord n)) = Err (fault.Stream name (run.BadRecord n))
+answer_by_stop name counts (Some (stop.Cut n)) = Err (fault.Stream name (run.Truncated n))
+answer_by_stop name counts None = if nat_lt 0 counts.old || nat_lt 0 counts.new then Err fault.Differs else Ok tt
+
+abbrev pub answer_of_comparison : Bor (List ℕ) → Compared → Result (Unit {0}) Fault
+answer_of_comparison name found = answer_by_stop name found.counts found.stop
 
 abbrev pub named_fault : Option (Bor (List ℕ)) → ℕ → CompileError → Fault
 named_fault (Some name) text error = fault.Rules name error
@@ -95,3 +131,10 @@ IsAnswered rules (Err (run.Compile text error)) read written answer = answer ≡
 IsAnswered rules (Err run.Read) (Some kind) written (Err found) = IsOfInput kind found
 IsAnswered rules (Err (run.Write sent)) read (Some kind) (Err found) = IsOfOutput kind found
 IsAnswered rules (Err error) read written answer = answer ≡ Err (fault.Run error)
+
+-- how a trial ends that came to this: where an expectation isn't met, and, where it is strict, with a warning
+abbrev pub ending_of : TrialOutcome → Bool → Result (Unit {0}) Fault
+ending_of outcome is_strict =
+    if nat_lt 0 outcome.tried.unmet then Err fault.Unmet
+    else if is_strict && not (length outcome.warnings.items == 0) then Err fault.Warned
+    else Ok tt

@@ -1,149 +1,205 @@
-//! `compare SCHEDULE STREAM OLD NEW`
+//! `compare SCHEDULE STREAM OLD NEW [--with TEXTS..]`
 
 ghost use Rattle.std.specs.Prelude.{◌≡◌};
-ghost use Rattle.run_commands.specs.Cause.{IsOfComparison, answer_of_comparison};
+ghost use Rattle.run_commands.specs.Cause.{answer_of_comparison, fault_of_comparison_text, IsOfComparison};
 
+use crate::report::{failed_file, stream_of};
+use crate::rule_texts::rule_text_of;
+use flight_core::RunError;
+use lc_model::Reading;
 use program_io::Noting;
 use rpn_compiler::{CompileError, RuleText};
-use run_comparison::{Compared, ComparisonError, Side, Which, write_comparison};
+use run_comparison::{
+    Compared, ComparisonError, LineCounts, Side, Sides, Stop, Which, write_comparison,
+};
 use schedules::Schedule;
 use std::alloc::Global;
 use std::cell::Cell;
 use std::fs::Files;
-use std::io::{self, ErrorKind, Write};
-use tool_faults::{
-    Fault, LONGEST_WHOLE, listing_result, read, read_text, schedule_in, written_fault,
-};
+use std::io::{ErrorKind, Read, Write};
+use tool_faults::{Fault, listing_result, read_text, schedule_in, texts_in, written_fault};
 
-/// Why rule texts in files of these names aren't compared.
-fn comparison_fault<'a>(
+/// The files of a comparison, by their names.
+#[derive(Clone, Copy)]
+struct ComparedFiles<'a, 'f> {
+    stream: &'a str,
     old: &'a str,
     new: &'a str,
+    further: &'f [&'a str],
+}
+
+/// A rule text in one of these files that is refused.
+fn text_fault<'a>(files: ComparedFiles<'a, '_>, which: Which, error: CompileError) -> Fault<'a>
+    ensures { result ≡ fault_of_comparison_text files.entry which error }
+{
+    match which {
+        Which::Old => Fault::Rules(files.old, error),
+        Which::New => Fault::Rules(files.new, error),
+        Which::Further(text) => match files.further.get(text) {
+            Some(name) => Fault::Rules(name, error),
+            None => Fault::Rules(files.new, error),
+        },
+    }
+}
+
+/// Why rule texts in these files aren't compared, where the stream and the output failed by these kinds of errors, if they did.
+fn comparison_fault<'a>(
+    files: ComparedFiles<'a, '_>,
     error: ComparisonError,
-    kind: Option<ErrorKind>,
+    read: Option<ErrorKind>,
+    written: Option<ErrorKind>,
 ) -> Fault<'a>
-    ensures { IsOfComparison old.entry new.entry error kind result }
+    ensures { IsOfComparison files.entry error read written result }
 {
     match error {
-        ComparisonError::Rules {
-            which: Which::Old,
-            error,
-        } => Fault::Rules(old, error),
-        ComparisonError::Rules {
-            which: Which::New,
-            error,
-        } => Fault::Rules(new, error),
+        ComparisonError::Rules { which, error } => text_fault(files, which, error),
         ComparisonError::Memory => Fault::Memory,
-        ComparisonError::Write => written_fault(kind),
+        ComparisonError::Read => failed_file(files.stream, read),
+        ComparisonError::Bound => Fault::Stream(files.stream, RunError::ReadBound),
+        ComparisonError::Write => written_fault(written),
     }
 }
 
-/// What a comparison comes to: a stream that ends early has another status, and so has a difference.
-fn answer_of(found: Compared) -> Result<(), Fault<'static>>
-    ensures { result ≡ answer_of_comparison found }
+/// What a comparison over a stream in a file of this name comes to: a stream that ends early is a fault, which says where, and so
+/// is a difference.
+fn answer_of<'a>(stream: &'a str, found: Compared) -> Result<(), Fault<'a>>
+    ensures { result ≡ answer_of_comparison stream.entry found }
 {
-    if !found.is_whole {
-        return Err(Fault::Early);
-    }
-    if found.old > 0 || found.new > 0 {
-        Err(Fault::Differs)
-    } else {
-        Ok(())
+    match found.stop {
+        Some(Stop::NoText { n, text }) => Err(Fault::TextMissing(stream, n, text)),
+        Some(Stop::NoRecord { n }) => Err(Fault::Stream(stream, RunError::BadRecord { n })),
+        Some(Stop::Cut { n }) => Err(Fault::Stream(stream, RunError::Truncated { n })),
+        None => {
+            let LineCounts { old, new, both: _ } = found.counts;
+            if old > 0 || new > 0 {
+                return Err(Fault::Differs);
+            }
+            Ok(())
+        }
     }
 }
-
-/// What a comparison that was written comes to.
-fn listed(flushed: io::Result<()>, found: Compared) -> Result<(), Fault<'static>> {
-    listing_result(flushed)?;
-    answer_of(found)
-}
-
-/// Why a comparison isn't made, and of what kind the fault of the output is, if it has one.
-type Stopped = (ComparisonError, Option<ErrorKind>);
 
 /// Runs two rule texts over a stream, and lists the requests and events that came of one alone.
-fn list_differences<W: Write>(
+fn list_differences<'a, I: Read + Drop, W: Write>(
     alloc: Global,
     plan: &Schedule,
-    stream: &[u8],
-    old: Side<'_, '_>,
-    new: Side<'_, '_>,
+    files: ComparedFiles<'a, '_>,
+    sides: Sides<'_, '_>,
+    input: I,
     out: &mut W,
-) -> Result<Result<(), Fault<'static>>, Stopped> {
-    let kind = Cell::new(None);
-    let mut noted = Noting::new(&mut *out, &kind);
-    match write_comparison(alloc, plan, stream, old, new, &mut noted) {
-        Ok(found) => Ok(listed(noted.flush(), found)),
-        Err(error) => Err((error, kind.get())),
+) -> Result<(), Fault<'a>> {
+    let (read, wrote) = (Cell::new(None), Cell::new(None));
+    let mut reader = Reading::new(Noting::new(input, &read));
+    let mut noted = Noting::new(&mut *out, &wrote);
+    match write_comparison(alloc, plan, sides, &mut reader, &mut noted) {
+        Ok(found) => {
+            listing_result(noted.flush())?;
+            answer_of(files.stream, found)
+        }
+        Err(error) => Err(comparison_fault(files, error, read.get(), wrote.get())),
     }
 }
 
-/// One of the two rule texts, which has to be valid.
-fn text_of(alloc: Global, which: Which, bytes: &[u8]) -> Result<RuleText<'_>, Stopped> {
-    match RuleText::read_valid(alloc, bytes) {
-        Ok(text) => Ok(text),
-        Err(CompileError::Memory) => Err((ComparisonError::Memory, None)),
-        Err(error) => Err((ComparisonError::Rules { which, error }, None)),
+/// The valid rule texts in files of these names.
+fn further_texts<'a, 't>(
+    alloc: Global,
+    names: &[&'a str],
+    texts: &'t [Vec<u8>],
+) -> Result<Vec<RuleText<'t>>, Fault<'a>> {
+    let mut further = Vec::new(alloc);
+    for (name, text) in names.iter().zip(texts.iter()) {
+        further.push(rule_text_of(alloc, name, text.as_slice())?)?;
     }
+    Ok(further)
 }
 
-/// Reads the new rule text, which has this name, and compares the old one with it.
-fn compare_with<'t, W: Write>(
+/// The bytes of the rule texts of a comparison.
+#[derive(Clone, Copy)]
+struct ComparedBytes<'t> {
+    old: &'t [u8],
+    new: &'t [u8],
+    further: &'t [Vec<u8>],
+}
+
+/// Reads the new rule text, and compares the old one with it, where both runs get these further texts.
+fn compare_with<'a, 't, I: Read + Drop, W: Write>(
     alloc: Global,
     plan: &Schedule,
-    stream: &[u8],
-    old: Side<'_, '_>,
-    (new, bytes): (&'t str, &'t [u8]),
+    files: ComparedFiles<'a, '_>,
+    bytes: ComparedBytes<'t>,
+    old: &RuleText<'t>,
+    further: &[RuleText<'t>],
+    input: I,
     out: &mut W,
-) -> Result<Result<(), Fault<'static>>, Stopped> {
-    let text = text_of(alloc, Which::New, bytes)?;
-    let new = Side {
-        name: new,
-        text: &text,
+) -> Result<(), Fault<'a>> {
+    let new = rule_text_of(alloc, files.new, bytes.new)?;
+    let sides = Sides {
+        old: Side {
+            name: files.old,
+            text: old,
+        },
+        new: Side {
+            name: files.new,
+            text: &new,
+        },
+        further,
     };
-    list_differences(alloc, plan, stream, old, new, out)
+    list_differences(alloc, plan, files, sides, input, out)
 }
 
-/// Reads the old rule text, and compares it with the new one, each with the name of its file.
-fn compare_texts<'t, W: Write>(
+/// Reads the old rule text, and compares it with the new one, where both runs get these further texts.
+fn compare_texts<'a, 't, I: Read + Drop, W: Write>(
     alloc: Global,
     plan: &Schedule,
-    stream: &[u8],
-    (old, bytes): (&'t str, &'t [u8]),
-    new: (&'t str, &'t [u8]),
+    files: ComparedFiles<'a, '_>,
+    bytes: ComparedBytes<'t>,
+    further: &[RuleText<'t>],
+    input: I,
     out: &mut W,
-) -> Result<Result<(), Fault<'static>>, Stopped> {
-    let text = text_of(alloc, Which::Old, bytes)?;
-    let old = Side {
-        name: old,
-        text: &text,
-    };
-    compare_with(alloc, plan, stream, old, new, out)
+) -> Result<(), Fault<'a>> {
+    let old = rule_text_of(alloc, files.old, bytes.old)?;
+    compare_with(alloc, plan, files, bytes, &old, further, input, out)
 }
 
-/// Runs each of two rule texts over a stream, and lists the requests and events that came of one alone.
+/// Reads the further texts, and compares the two rule texts.
+fn compare_bytes<'a, 't, I: Read + Drop, W: Write>(
+    alloc: Global,
+    plan: &Schedule,
+    files: ComparedFiles<'a, '_>,
+    bytes: ComparedBytes<'t>,
+    input: I,
+    out: &mut W,
+) -> Result<(), Fault<'a>> {
+    let further = further_texts(alloc, files.further, bytes.further)?;
+    compare_texts(alloc, plan, files, bytes, further.as_slice(), input, out)
+}
+
+/// Runs each of two rule texts over a stream, and lists the requests and events that came of one alone. Both runs get the further
+/// texts. The stream is read in pieces.
 pub fn compare<'a, R: Files + AllocGlobal, W: Write>(
     rt: &R,
     schedule: &'a str,
     stream: &'a str,
     old: &'a str,
     new: &'a str,
+    further: &[&'a str],
     out: &mut W,
 ) -> Result<(), Fault<'a>> {
     let plan = schedule_in(rt, schedule)?;
-    let bytes = read(rt, stream, LONGEST_WHOLE)?;
     let old_bytes = read_text(rt, old)?;
     let new_bytes = read_text(rt, new)?;
-    let compared = compare_texts(
-        rt.alloc(),
-        &plan,
-        bytes.as_slice(),
-        (old, old_bytes.as_slice()),
-        (new, new_bytes.as_slice()),
-        out,
-    );
-    match compared {
-        Ok(answer) => answer,
-        Err((error, kind)) => Err(comparison_fault(old, new, error, kind)),
-    }
+    let further_bytes = texts_in(rt, further)?;
+    let (input, _length) = stream_of(rt, stream)?;
+    let files = ComparedFiles {
+        stream,
+        old,
+        new,
+        further,
+    };
+    let bytes = ComparedBytes {
+        old: old_bytes.as_slice(),
+        new: new_bytes.as_slice(),
+        further: further_bytes.as_slice(),
+    };
+    compare_bytes(rt.alloc(), &plan, files, bytes, input, out)
 }

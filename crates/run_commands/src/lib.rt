@@ -3,6 +3,7 @@
 #![tactic(auto)]
 
 mod comparing;
+mod line_error;
 mod live;
 mod report;
 mod rule_texts;

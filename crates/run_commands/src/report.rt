@@ -80,7 +80,7 @@ fn page_fault<'a>(
 }
 
 /// A file that failed by this kind of error, if it was noted.
-fn failed_file<'a>(name: &'a str, kind: Option<ErrorKind>) -> Fault<'a>
+pub fn failed_file<'a>(name: &'a str, kind: Option<ErrorKind>) -> Fault<'a>
     ensures { result ≡ fault_of_device name.entry kind }
 {
     match kind {
@@ -131,7 +131,7 @@ fn epoch_text<'a>(alloc: Global, word: Option<&'a str>) -> Result<Option<String>
 }
 
 /// The file of a stream, and how many bytes it has, where it is one whose length the system knows.
-fn stream_of<'a, R: Files>(rt: &R, name: &'a str) -> Result<(R::File, Option<u64>), Fault<'a>> {
+pub fn stream_of<'a, R: Files>(rt: &R, name: &'a str) -> Result<(R::File, Option<u64>), Fault<'a>> {
     let file = match File::open(rt, name) {
         Ok(file) => file,
         Err(error) => return Err(fault_at(name, fault_of(&error))),

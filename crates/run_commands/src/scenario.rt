@@ -1,64 +1,18 @@
 //! `scenario [--rules RULES] SCRIPT STREAM`
 
-ghost use Rattle.run_commands.specs.Cause.{IsOfReading, IsOfScenario};
-
+use crate::line_error::{line_error_fault, read_scenario};
 use crate::rule_texts::rule_text_of;
 use diagnostics::warnings_page_of;
 use program_io::{begin, discard, fault_of, keep};
 use rpn_compiler::RuleText;
-use scenario_trial::{ReadError, read_expectations, script_error_at, silence};
-use scenarios::{ScenarioError, declared_in, plain_script};
+use scenarios::declared_in;
 use script_errors::script_warnings;
 use std::alloc::Global;
 use std::fs::Files;
 use std::io::{Eprint, Write};
-use stream_script::read_script;
-use tool_faults::{
-    Fault, LONGEST_WHOLE, check_apart, fault_at, line_fault, read, read_text, script_fault,
-};
+use tool_faults::{Fault, LONGEST_WHOLE, check_apart, fault_at, read, read_text};
 
-/// The number of a line of a scenario that says no line of a plain script.
-const NO_WORDS: u8 = 169;
-
-/// The number of a line that says no expectation.
-const NO_EXPECTATION: u8 = 170;
-
-/// The fault of a scenario in a file of this name whose words say no plain script.
-pub fn words_fault(
-    alloc: Global,
-    name: &str,
-    scenario: &[u8],
-    error: ScenarioError,
-) -> Fault<'static>
-    ensures { IsOfScenario error result }
-{
-    match error {
-        ScenarioError::Memory => Fault::Memory,
-        ScenarioError::Line { n, reason } => {
-            line_fault(alloc, name, scenario, NO_WORDS, n, &reason)
-        }
-    }
-}
-
-/// The fault of a scenario in a file of this name whose expectations can't be read.
-pub fn expectation_fault(
-    alloc: Global,
-    name: &str,
-    scenario: &[u8],
-    error: ReadError,
-) -> Fault<'static>
-    ensures { IsOfReading error result }
-{
-    match error {
-        ReadError::Memory => Fault::Memory,
-        ReadError::Line { n, fault } => {
-            line_fault(alloc, name, scenario, NO_EXPECTATION, n, &fault)
-        }
-    }
-}
-
-/// The stream that a scenario in a file of this name says, in the words of a rule text. What it expects of a run says nothing of
-/// the stream.
+/// The stream that a scenario in a file of this name says, in the words of these rule texts.
 fn stream_of<'a>(
     alloc: Global,
     name: &'a str,
@@ -66,18 +20,9 @@ fn stream_of<'a>(
     texts: &[RuleText<'_>],
 ) -> Result<Vec<u8>, Fault<'a>> {
     let declared = declared_in(alloc, texts)?;
-    let plain = match plain_script(alloc, scenario, &declared) {
-        Ok(plain) => plain,
-        Err(error) => return Err(words_fault(alloc, name, scenario, error)),
-    };
-    let script = plain.text.as_slice();
-    if let Err(error) = read_expectations(alloc, script) {
-        return Err(expectation_fault(alloc, name, scenario, error.at(&plain)));
-    }
-    let quiet = silence(alloc, script)?;
-    match read_script(alloc, quiet.as_slice()) {
+    match read_scenario(alloc, scenario, &declared) {
         Ok(stream) => Ok(stream),
-        Err(error) => Err(script_fault(alloc, name, scenario, script_error_at(&plain, error))),
+        Err(error) => Err(line_error_fault(alloc, name, scenario, texts, error)),
     }
 }
 

@@ -1,2 +1,5 @@
 pub mod Difference
 pub mod Compared
+pub mod Counted
+pub mod Coming
+pub mod Course

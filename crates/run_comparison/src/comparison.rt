@@ -1,14 +1,29 @@
 //! From two rule texts and a stream to what differs.
 
-ghost use Rattle.std.specs.Prelude.{◌∷◌, [], IfOk};
-ghost use Rattle.run_stepper.specs.Trace.{IsTraced};
+ghost use Rattle.std.specs.Prelude.{◌≡◌, ◌+◌, ◌<◌, ◌^◌, ℕ, List, length, IfOk};
+ghost use Rattle.flight_core.specs.Compiled.{sources_of};
+ghost use Rattle.flight_core.specs.Records.{piece_size};
+ghost use Rattle.lc_model.specs.Host.Schedule.{Schedule as Plan};
+ghost use Rattle.run_stepper.specs.Stepping.{BeginsWith, IsAtRest, host_in, written_by};
+ghost use Rattle.run_stepper.specs.Trace.{moment_in};
+ghost use Rattle.run_comparison.specs.Coming.{hosts_in};
+ghost use Rattle.run_comparison.specs.Counted.{CountsRecord};
+ghost use Rattle.run_comparison.specs.Course.{AreNew, ComparesTaken, IsBad, IsComparison, run_sources, stop_at};
 
-use crate::difference::only_in;
+use crate::arriving::handle_next;
+use crate::counts::{LineCounts, RecordPlace, TextNames, write_record};
 use crate::error::{ComparisonError, Which};
-use crate::lines::{OutputLine, lines_of};
+use crate::inflow::Inflow;
+use crate::lines::lines_of;
+use crate::naming::{RuleNames, rules_of};
+use crate::stop::Stop;
+use flight_core::laws::{records_are_handed_out, the_rest_says_the_end};
+use lc_model::stream::{self, HALF, HEADER, PIECE};
+use lc_model::{ByteSource, Moment, u16_at};
 use packet_listing::Time;
 use rpn_compiler::RuleText;
-use run_stepper::{Ending, Trace, trace_of};
+use run_stepper::laws::steps_are_a_run;
+use run_stepper::{Handled, Stepping};
 use schedules::Schedule;
 use std::alloc::{AllocError, Global};
 use std::io::{self, Write};
@@ -20,195 +35,297 @@ pub struct Side<'a, 't> {
     pub text: &'a RuleText<'t>,
 }
 
-/// What was found: how many requests and events came of each text alone, and of both.
+/// What was found: how many requests and events came of each text alone, and of both, and why the runs ended before the stream
+/// did, where they did.
 #[derive(Clone, Copy, Debug, PartialEq, Eq)]
 pub struct Compared {
-    pub old: u64,
-    pub new: u64,
-    pub both: u64,
-    /// The stream ended behind a whole record.
-    pub is_whole: bool,
+    pub counts: LineCounts,
+    pub stop: Option<Stop>,
 }
 
-/// The lines in front that came of this record, and the lines behind them.
-fn split_lines(lines: &[OutputLine], place: usize) -> (&[OutputLine], &[OutputLine]) {
-    let count = lines.iter().take_while(|line| line.place == place).count();
-    match lines.split_at_checked(count) {
-        Some(parts) => parts,
-        None => (lines, &[]),
+/// What is compared: the texts' names, how events speak of the rules of each, and how many texts each run has.
+#[derive(Clone, Copy)]
+struct Comparison<'a> {
+    alloc: Global,
+    names: TextNames<'a>,
+    old: &'a [RuleNames<'a>],
+    new: &'a [RuleNames<'a>],
+    texts: usize,
+}
+
+/// The moment of a record; second 0 where its header isn't whole.
+fn moment_of(record: &[u8]) -> Moment
+    ensures { result ≡ moment_in «record».now }
+{
+    if record.len() < HEADER {
+        return Moment {
+            seconds: 0,
+            subseconds: 0,
+        };
+    }
+    stream::moment_of(record)
+}
+
+/// Where the number of a text stands in a record that brings a half of it.
+const TEXT_NUMBER: usize = HEADER + HALF - 2;
+
+/// Whether a record brings a file, or a half of a further text: from there on other rules may be in force than those of the compared
+/// texts.
+fn brings_other_rules(record: &[u8]) -> bool {
+    match record.first() {
+        Some(3) => true,
+        Some(4) if record.len() == HEADER + HALF => u16_at(record, TEXT_NUMBER) > 0,
+        _ => false,
     }
 }
 
-/// The texts of lines.
-fn texts_of<'a>(alloc: Global, lines: &'a [OutputLine]) -> Result<Vec<&'a [u8]>, AllocError> {
+/// These rules where they may be named, and none else: events then speak of rules by their numbers.
+fn named<'r, 'a>(is_named: bool, rules: &'r [RuleNames<'a>]) -> &'r [RuleNames<'a>] {
+    if is_named { rules } else { &[] }
+}
+
+impl Comparison<'_> {
+    /// Writes what differs of the record of this number, which both runs handled last, and answers the counts with it. Rules are
+    /// called by their names in the compared texts, where `is_named`.
+    fn compare_record<W: Write>(
+        &self,
+        old: &Stepping,
+        new: &Stepping,
+        number: u64,
+        is_named: bool,
+        counts: LineCounts,
+        out: &mut W,
+    ) -> Result<LineCounts, ComparisonError>
+        ensures { IfOk result (CountsRecord (written_by old.now) (written_by new.now) counts) }
+    {
+        let place = RecordPlace {
+            time: Time::at(moment_of(old.last_record())),
+            record: number,
+        };
+        let olds = lines_of(self.alloc, old.packets(), named(is_named, self.old))?;
+        let news = lines_of(self.alloc, new.packets(), named(is_named, self.new))?;
+        let (olds, news) = (olds.as_slice(), news.as_slice());
+        write_record(self.alloc, place, self.names, olds, news, counts, out)
+    }
+
+    /// Both runs over a stream, side by side, record by record.
+    fn compare_all<R: ByteSource, W: Write>(
+        &self,
+        old: &mut Stepping,
+        new: &mut Stepping,
+        inflow: &mut Inflow,
+        room: &mut [u8],
+        reader: &mut R,
+        out: &mut W,
+    ) -> Result<Compared, ComparisonError>
+        requires old { IsAtRest old.old }
+        requires new { IsAtRest new.old }
+        requires first { AreNew (hosts_in old.old new.old) }
+        requires room { length room.old ≡ piece_size }
+        ensures old { IsAtRest old.new }
+        ensures new { IsAtRest new.new }
+        ensures compared { IfOk result (ComparesTaken (R.source reader.old).rest
+            (R.source reader.new).rest inflow.old.is_ended inflow.new.is_ended
+            (hosts_in old.old new.old)) }
+    {
+        records_are_handed_out();
+        the_rest_says_the_end();
+        let mut counts = LineCounts::none();
+        let mut number = 0u64;
+        let mut is_named = true;
+        for _ in 0..u64::MAX {
+            let next = number + 1;
+            match handle_next(old, new, inflow, room, reader)? {
+                Handled::Whole => {}
+                Handled::NoRecord => {
+                    let stop = Some(bad_stop(inflow, self.texts, next));
+                    return Ok(Compared { counts, stop });
+                }
+                Handled::Part => {
+                    let stop = last_stop(old, number);
+                    return Ok(Compared { counts, stop });
+                }
+            }
+            inflow.pass();
+            is_named = is_named && !brings_other_rules(old.last_record());
+            counts = self.compare_record(old, new, next, is_named, counts, out)?;
+            number = next;
+        }
+        Err(ComparisonError::Bound)
+    }
+}
+
+/// Why the runs stop at what is no record, which has this number.
+fn bad_stop(inflow: &mut Inflow, texts: usize, n: u64) -> Stop
+    ensures bad { IsBad n result }
+    ensures ended { inflow.new.is_ended ≡ inflow.old.is_ended }
+{
+    match inflow.missing_text(texts) {
+        Some(text) => Stop::NoText { n, text },
+        None => Stop::NoRecord { n },
+    }
+}
+
+/// Why the runs stop behind so many records, where no more comes and something is held.
+fn last_stop(stepping: &Stepping, records: u64) -> Option<Stop>
+    requires { records + 1 < 2 ^ 64 }
+    ensures { result ≡ stop_at (host_in stepping.now).held.bytes records }
+{
+    if stepping.held_size() == 0 {
+        return None;
+    }
+    Some(Stop::Cut { n: records + 1 })
+}
+
+/// The rule texts of the run of a text: it, and the further ones.
+fn texts_of<'t>(
+    alloc: Global,
+    text: &RuleText<'t>,
+    further: &[RuleText<'t>],
+) -> Result<Vec<&'t [u8]>, AllocError>
+    ensures { IfOk result (λ texts. sources_of texts.items ≡ run_sources text.now further.now) }
+{
     let mut texts = Vec::new(alloc);
-    for line in lines {
-        texts.push(line.text.as_slice())?;
+    texts.push(text.bytes)?;
+    for text in further {
+        texts.push(text.bytes)?;
     }
     Ok(texts)
 }
 
-/// Where a record stands: its moment and its number from 0.
-#[derive(Clone, Copy)]
-struct RecordPlace {
-    time: Time,
-    record: usize,
-}
-
-/// The record of which a line came.
-fn place_of(line: &OutputLine) -> RecordPlace {
-    RecordPlace {
-        time: Time::at(line.moment),
-        record: line.place,
-    }
-}
-
-/// The least record of which one of these lines came first.
-fn first_place(old: &[OutputLine], new: &[OutputLine]) -> Option<RecordPlace> {
-    match (old.first(), new.first()) {
-        (None, None) => None,
-        (Some(line), None) | (None, Some(line)) => Some(place_of(line)),
-        (Some(one), Some(other)) => {
-            if one.place <= other.place {
-                Some(place_of(one))
-            } else {
-                Some(place_of(other))
-            }
-        }
-    }
-}
-
-/// Writes the lines that came of a record with one text alone, and answers how many there are.
-fn write_alone<W: Write>(
-    place: RecordPlace,
-    name: &str,
-    lines: &[&[u8]],
-    out: &mut W,
-) -> io::Result<u64> {
-    let RecordPlace { time, record } = place;
-    let number = record.saturating_add(1);
-    let mut count = 0u64;
-    for line in lines {
-        write!(out, "{time} record {number}: only {name}: ")?;
-        out.write_all(line)?;
-        out.write_all(b"\n")?;
-        count = count.saturating_add(1);
-    }
-    Ok(count)
-}
-
-/// The two texts' names.
-#[derive(Clone, Copy)]
-struct TextNames<'a> {
-    old: &'a str,
-    new: &'a str,
-}
-
-/// Writes what differs of a record, and answers the counts with it.
-fn write_record<W: Write>(
+/// A run of these texts, to which nothing has come.
+fn stepping_of(
     alloc: Global,
-    place: RecordPlace,
-    names: TextNames<'_>,
-    old: &[OutputLine],
-    new: &[OutputLine],
-    counts: Compared,
-    out: &mut W,
-) -> Result<Compared, ComparisonError> {
-    let old = texts_of(alloc, old)?;
-    let new = texts_of(alloc, new)?;
-    let only_old = only_in(alloc, old.as_slice(), new.as_slice())?;
-    let only_new = only_in(alloc, new.as_slice(), old.as_slice())?;
-    let olds = write_alone(place, names.old, only_old.as_slice(), out)?;
-    let news = write_alone(place, names.new, only_new.as_slice(), out)?;
-    let both = (old.len() as u64).saturating_sub(olds);
-    Ok(Compared {
-        old: counts.old.saturating_add(olds),
-        new: counts.new.saturating_add(news),
-        both: counts.both.saturating_add(both),
-        is_whole: counts.is_whole,
-    })
-}
-
-/// Writes what differs, record by record.
-fn write_records<W: Write>(
-    alloc: Global,
-    names: TextNames<'_>,
-    old: &[OutputLine],
-    new: &[OutputLine],
-    is_whole: bool,
-    out: &mut W,
-) -> Result<Compared, ComparisonError> {
-    let mut counts = Compared {
-        old: 0,
-        new: 0,
-        both: 0,
-        is_whole,
-    };
-    let (mut olds, mut news) = (old, new);
-    for _ in 0..u64::MAX {
-        let Some(place) = first_place(olds, news) else {
-            break;
-        };
-        let (old_here, old_behind) = split_lines(olds, place.record);
-        let (new_here, new_behind) = split_lines(news, place.record);
-        counts = write_record(alloc, place, names, old_here, new_here, counts, out)?;
-        olds = old_behind;
-        news = new_behind;
-    }
-    Ok(counts)
-}
-
-/// Whether a run's stream ended behind a whole record.
-fn is_whole(trace: &Trace) -> bool {
-    matches!(trace.ending(), Ending::Whole { .. })
-}
-
-/// A run of one of the texts over the stream, record by record.
-fn run_of(
-    alloc: Global,
+    texts: &[&[u8]],
     schedule: &Schedule,
-    stream: &[u8],
-    text: &[u8],
     which: Which,
-) -> Result<Trace, ComparisonError>
-    ensures { IfOk result (IsTraced (text.now ∷ []) schedule.now stream.now) }
+) -> Result<Stepping, ComparisonError>
+    ensures rest { IfOk result IsAtRest }
+    ensures begun { IfOk result
+        (λ it. BeginsWith (sources_of texts.now) schedule.now (host_in it)) }
 {
-    match trace_of(alloc, &[text], schedule, stream) {
-        Ok(trace) => Ok(trace),
+    match Stepping::new(alloc, texts, schedule) {
+        Ok(stepping) => Ok(stepping),
         Err(error) => Err(ComparisonError::of(which, error)),
     }
 }
 
-/// Runs each of two rule texts over a stream, and writes a line for each sequence request and event that came of one alone: its
-/// record's moment and number from 1, which text it is, and what came. Rules are called by their names, so that a rule may have
-/// another number in the other text. Of what came of one record the order doesn't count. A last line says how many came of each
-/// alone, and of both.
-///
-/// Errors: `Rules` with the first text that doesn't compile, before anything is written; `Memory`; `Write`, where the writer
-/// fails. What was written before stands.
-pub fn write_comparison<W: Write>(
+/// Two rule texts, and the further ones that both runs get.
+#[derive(Clone, Copy)]
+pub struct Sides<'a, 't> {
+    pub old: Side<'a, 't>,
+    pub new: Side<'a, 't>,
+    /// The texts 1, 2 and so on of both runs, for a stream that brings them.
+    pub further: &'a [RuleText<'t>],
+}
+
+/// Writes what differs between two runs to which nothing has come.
+fn compare_runs<R: ByteSource, W: Write>(
+    alloc: Global,
+    sides: Sides<'_, '_>,
+    old: &mut Stepping,
+    new: &mut Stepping,
+    reader: &mut R,
+    out: &mut W,
+) -> Result<Compared, ComparisonError>
+    requires old { IsAtRest old.old }
+    requires new { IsAtRest new.old }
+    requires first { AreNew (hosts_in old.old new.old) }
+    ensures old { IsAtRest old.new }
+    ensures new { IsAtRest new.new }
+    ensures compared { (olds news : List (List ℕ)) (schedule : Plan) →
+        BeginsWith olds schedule (host_in old.old) → BeginsWith news schedule (host_in new.old) →
+        IfOk result (IsComparison olds news schedule
+        (R.source reader.old).rest (R.source reader.new).rest) }
+{
+    steps_are_a_run();
+    let olds = rules_of(alloc, sides.old.text)?;
+    let news = rules_of(alloc, sides.new.text)?;
+    let comparison = Comparison {
+        alloc,
+        names: TextNames {
+            old: sides.old.name,
+            new: sides.new.name,
+        },
+        old: olds.as_slice(),
+        new: news.as_slice(),
+        texts: 1 + sides.further.len(),
+    };
+    let mut inflow = Inflow::new(alloc)?;
+    let mut room = vec![in alloc; 0; PIECE]?;
+    comparison.compare_all(old, new, &mut inflow, room.as_mut_slice(), reader, out)
+}
+
+/// Runs the new text beside the old one, to which nothing has come, and writes what differs.
+fn compare_new<R: ByteSource, W: Write>(
     alloc: Global,
     schedule: &Schedule,
-    stream: &[u8],
-    old: Side<'_, '_>,
-    new: Side<'_, '_>,
+    sides: Sides<'_, '_>,
+    old: &mut Stepping,
+    reader: &mut R,
     out: &mut W,
-) -> Result<Compared, ComparisonError> {
-    let before = run_of(alloc, schedule, stream, old.text.bytes, Which::Old)?;
-    let after = run_of(alloc, schedule, stream, new.text.bytes, Which::New)?;
-    let names = TextNames {
-        old: old.name,
-        new: new.name,
-    };
-    let olds = lines_of(alloc, &before, old.text)?;
-    let news = lines_of(alloc, &after, new.text)?;
-    let whole = is_whole(&before) && is_whole(&after);
-    let found = write_records(alloc, names, olds.as_slice(), news.as_slice(), whole, out)?;
-    let Compared { old, new, both, .. } = found;
+) -> Result<Compared, ComparisonError>
+    requires rest { IsAtRest old.old }
+    requires begun { BeginsWith (run_sources sides.old.text.now sides.further.now)
+        schedule.now (host_in old.old) }
+    ensures rest { IsAtRest old.new }
+    ensures compared { IfOk result (IsComparison
+        (run_sources sides.entry.old.text.now sides.entry.further.now)
+        (run_sources sides.entry.new.text.now sides.entry.further.now)
+        schedule.now (R.source reader.old).rest (R.source reader.new).rest) }
+{
+    let texts = texts_of(alloc, sides.new.text, sides.further)?;
+    let mut new = stepping_of(alloc, texts.as_slice(), schedule, Which::New)?;
+    let compared = compare_runs(alloc, sides, old, &mut new, reader, out);
+    new.close();
+    compared
+}
+
+/// Writes why both runs ended early, where they did, and how many requests and events came of each text alone, and of both.
+fn write_summary<W: Write>(names: TextNames<'_>, found: Compared, out: &mut W) -> io::Result<()> {
+    if let Some(stop) = found.stop {
+        writeln!(out, "both runs end here: {stop}")?;
+    }
+    let LineCounts { old, new, both } = found.counts;
     writeln!(
         out,
         "{} alone: {old}; {} alone: {new}; both: {both}",
         names.old, names.new
-    )?;
+    )
+}
+
+/// Runs each of two rule texts over a stream, and writes a line for each sequence request and event that came of one alone: its
+/// record's moment and number from 1, which text it is, and what came. Rules are called by their names, so that a rule may have
+/// another number in the other text; from a record on that brings a file or a half of a further text they are called by number, since
+/// other rules may then be in force. Of what came of one record the order doesn't count. A last line says how many came of each
+/// alone, and of both; one before it, why both runs ended before the stream did, where they did.
+///
+/// The stream is read in pieces of 8,192 bytes at most, once, and both runs go over it side by side, so that memory does not grow
+/// with it. Both runs get the same further texts, for records that bring them.
+///
+/// Errors: `Rules` with the first text that doesn't compile, before anything is read or written; `Memory`; `Read`, where a read
+/// fails; `Write`, where the writer fails; `Bound`, where there are more records than 64 bits count. What was written before stands.
+pub fn write_comparison<R: ByteSource, W: Write>(
+    alloc: Global,
+    schedule: &Schedule,
+    sides: Sides<'_, '_>,
+    reader: &mut R,
+    out: &mut W,
+) -> Result<Compared, ComparisonError>
+    ensures { IfOk result (IsComparison
+        (run_sources sides.entry.old.text.now sides.entry.further.now)
+        (run_sources sides.entry.new.text.now sides.entry.further.now)
+        schedule.now (R.source reader.old).rest (R.source reader.new).rest) }
+{
+    let texts = texts_of(alloc, sides.old.text, sides.further)?;
+    let mut old = stepping_of(alloc, texts.as_slice(), schedule, Which::Old)?;
+    let compared = compare_new(alloc, schedule, sides, &mut old, reader, out);
+    old.close();
+    let found = compared?;
+    let names = TextNames {
+        old: sides.old.name,
+        new: sides.new.name,
+    };
+    write_summary(names, found, out)?;
     Ok(found)
 }

@@ -6,11 +6,13 @@ use std::alloc::{AllocError, AllocFailed};
 use std::io::{self, ErrorKind};
 use thiserror::Error;
 
-/// Which of two rule texts.
+/// Which of the rule texts of a comparison.
 #[derive(Clone, Copy, Debug, PartialEq, Eq)]
 pub enum Which {
     Old,
     New,
+    /// The further text of this number, from 0, which both runs get.
+    Further(usize),
 }
 
 /// Why a comparison is not, or not wholly, written.
@@ -22,16 +24,33 @@ pub enum ComparisonError {
     /// Out of memory.
     #[error("out of memory")]
     Memory,
+    /// The stream can't be read.
+    #[error("a read failed")]
+    Read,
+    /// The stream has more records than 64 bits count.
+    #[error("as many records were handled as may be")]
+    Bound,
     /// The comparison can't be written.
     #[error("a write failed")]
     Write,
 }
 
+/// Which text it is that has this number in the run of another one.
+fn which_of(first: Which, text: usize) -> Which {
+    if text == 0 {
+        return first;
+    }
+    Which::Further(text - 1)
+}
+
 impl ComparisonError {
-    /// Why there is no course of this text.
-    pub(crate) fn of(which: Which, error: CourseError) -> ComparisonError {
+    /// Why there is no course of this text, and of the further ones behind it.
+    pub(crate) fn of(first: Which, error: CourseError) -> ComparisonError {
         match error {
-            CourseError::Rules { text: _, error } => ComparisonError::Rules { which, error },
+            CourseError::Rules { text, error } => ComparisonError::Rules {
+                which: which_of(first, text),
+                error,
+            },
             CourseError::Memory => ComparisonError::Memory,
         }
     }

@@ -1,13 +1,19 @@
 //! Two rule texts over one recording: what one leads to and the other doesn't.
 #![tactic(auto)]
 
+mod arriving;
 mod comparison;
+mod counts;
 mod difference;
 mod error;
+mod inflow;
 mod lines;
 mod naming;
 mod said;
+mod stop;
 
-pub use comparison::{Compared, Side, write_comparison};
+pub use comparison::{Compared, Side, Sides, write_comparison};
+pub use counts::LineCounts;
 pub use difference::only_in;
 pub use error::{ComparisonError, Which};
+pub use stop::Stop;

@@ -1,36 +1,16 @@
-//! What a run of one rule text led to, packet by packet, as lines.
+//! What a record led to in a run of one rule text, packet by packet, as lines.
 
-ghost use Rattle.std.specs.Prelude.{◌≡◌, is_some, map, IfOk};
+ghost use Rattle.std.specs.Prelude.{◌≡◌, ◌+◌, ◌∷◌, [], filter, is_some, length, IfOk, OnOk};
 ghost use Rattle.packet_listing.specs.Told.{told_in};
-ghost use Rattle.run_stepper.specs.Trace.{arrived_from};
-ghost use Rattle.run_comparison.specs.Compared.{compared_of, is_told, spoken_of};
+ghost use Rattle.run_comparison.specs.Compared.{compared_in, is_compared, is_told};
 
 use crate::error::ComparisonError;
-use crate::naming::{RuleNames, rules_of};
+use crate::naming::RuleNames;
 use crate::said::RuleOutput;
-use lc_model::Moment;
+use lc_model::packet::first_packet;
 use packet_listing::{Sent, read_packet};
-use rpn_compiler::RuleText;
-use run_stepper::{Came, Trace};
 use std::alloc::Global;
 use std::io::Write;
-use std::marker::Model;
-
-/// The line that says a request or an event, with its record's number from 0 and its moment. Contracts see of which record it speaks.
-#[derive(Drop)]
-pub struct OutputLine {
-    pub place: usize,
-    pub moment: Moment,
-    pub text: Vec<u8>,
-}
-
-impl Model for OutputLine {
-    ghost use Rattle.run_comparison.specs.Compared.{Spoken};
-
-    ghost Value = { Spoken };
-
-    ghost view = { λ line. record { place = line.place; moment = line.moment } };
-}
 
 /// What a packet is, where it is compared: a request or an event.
 fn compared_packet(packet: &[u8]) -> Option<Sent<'_>>
@@ -46,49 +26,44 @@ fn compared_packet(packet: &[u8]) -> Option<Sent<'_>>
 /// The line of a request or an event.
 fn line_of(
     alloc: Global,
-    came: &Came<'_>,
     sent: Sent<'_>,
     rules: &[RuleNames<'_>],
-) -> Result<OutputLine, ComparisonError>
-    ensures { IfOk result (λ line. line ≡ spoken_of came.now) }
-{
+) -> Result<Vec<u8>, ComparisonError> {
     let mut text = Vec::new(alloc);
     let said = RuleOutput { sent, rules };
     write!(text, "{said}")?;
-    Ok(OutputLine {
-        place: came.place,
-        moment: came.moment,
-        text,
-    })
+    Ok(text)
 }
 
-/// The lines of the requests and events among the packets that came, in order.
-fn lines_among(
+/// The line of a packet, behind others, where it is compared.
+fn push_line(
     alloc: Global,
-    came: &[Came<'_>],
+    lines: &mut Vec<Vec<u8>>,
+    packet: &[u8],
     rules: &[RuleNames<'_>],
-) -> Result<Vec<OutputLine>, ComparisonError>
-    ensures { IfOk result (λ lines. lines.items ≡ map spoken_of (compared_of came.now)) }
+) -> Result<(), ComparisonError>
+    ensures { OnOk result (length lines.new.items ≡
+        length lines.old.items + length (filter is_compared (packet.now ∷ []))) }
 {
-    let mut lines = Vec::new(alloc);
-    for one in came {
-        if let Some(sent) = compared_packet(one.packet) {
-            lines.push(line_of(alloc, one, sent, rules)?)?;
-        }
+    if let Some(sent) = compared_packet(packet) {
+        lines.push(line_of(alloc, sent, rules)?)?;
     }
-    Ok(lines)
+    Ok(())
 }
 
-/// The lines of a run of this rule text: one for each request and each event that its records led to, in order.
+/// The lines of the requests and events among packets that stand one behind the other, in order, where these are the rules.
 pub fn lines_of(
     alloc: Global,
-    trace: &Trace,
-    text: &RuleText<'_>,
-) -> Result<Vec<OutputLine>, ComparisonError>
-    ensures { IfOk result (λ lines. lines.items ≡
-        map spoken_of (compared_of (arrived_from 0 trace.now.parts))) }
+    packets: &[u8],
+    rules: &[RuleNames<'_>],
+) -> Result<Vec<Vec<u8>>, ComparisonError>
+    ensures { IfOk result (λ lines. length lines.items ≡ length (compared_in packets.now)) }
 {
-    let rules = rules_of(alloc, text)?;
-    let came = trace.came(alloc)?;
-    lines_among(alloc, came.as_slice(), rules.as_slice())
+    let mut lines = Vec::new(alloc);
+    let mut rest = packets;
+    while let Some((packet, behind)) = first_packet(rest) {
+        push_line(alloc, &mut lines, packet, rules)?;
+        rest = behind;
+    }
+    Ok(lines)
 }

@@ -85,7 +85,7 @@ four_in_front (a ∷ b ∷ []) ys some = absurd (omega (arith, some))
 four_in_front (a ∷ b ∷ c ∷ []) ys some = absurd (omega (arith, some))
 four_in_front (a ∷ b ∷ c ∷ d ∷ ds) ys some = refl
 
-same_size : (xs ys : List ℕ) → 11 ≤ length xs → body_size (xs ++ ys) ≡ body_size xs
+pub same_size : (xs ys : List ℕ) → 11 ≤ length xs → body_size (xs ++ ys) ≡ body_size xs
 same_size xs ys long =
     ap (from_be_bytes w32) (drop-append-le 7 xs ys (omega (arith, long))) ∙ four_in_front (drop 7 xs) ys (omega (arith, length-drop 7 xs, long))
 
@@ -98,7 +98,7 @@ long_size bytes long = rw (test_not_less (length bytes) 11 long) refl
 pub short_size : (bytes : List ℕ) → length bytes < 11 → size_in_front bytes ≡ length bytes
 short_size bytes short = rw (test_less (length bytes) 11 short) refl
 
-drop_least : (n : ℕ) (xs : List ℕ) → drop (min n (length xs)) xs ≡ drop n xs
+pub drop_least : (n : ℕ) (xs : List ℕ) → drop (min n (length xs)) xs ≡ drop n xs
 drop_least n xs = by_test (nat_lt n (length xs)) refl
   where
     by_test : (b : Bool) → nat_lt n (length xs) ≡ b → drop (min n (length xs)) xs ≡ drop n xs
@@ -112,7 +112,7 @@ drop_least n xs = by_test (nat_lt n (length xs)) refl
 
 -- what is taken of the record in front, and what there is behind it
 module _ (n : ℕ) (stream piece more : List ℕ) (is : stream ≡ piece ++ more) where
-  whole_stays : (entry : StreamEntry) (rest : List ℕ) → front all_kinds n piece ≡ Record entry rest → front all_kinds n stream ≡ Record entry (rest ++ more)
+  pub whole_stays : (entry : StreamEntry) (rest : List ℕ) → front all_kinds n piece ≡ Record entry rest → front all_kinds n stream ≡ Record entry (rest ++ more)
   whole_stays entry rest there = ap (front all_kinds n) is ∙ (all_fronts_stay all_kinds n piece more).a_record entry rest there
 
   -- a whole record is all that was taken, and the rest stands behind it

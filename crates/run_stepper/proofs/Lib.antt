@@ -6,3 +6,4 @@ pub mod Arriving
 pub mod Output
 pub mod TextsRead
 pub mod Stepped
+pub mod Walking

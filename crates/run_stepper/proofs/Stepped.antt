@@ -77,7 +77,7 @@ module _ (n : ℕ) (bytes more : List ℕ) (entry : StreamEntry) (one : records_
   past_is : more ≡ drop (size_in_front both) both
   past_is = sym (drop-append_seam bytes more) ∙ ap (λ k. drop k both) (sym as_long)
 
-  moment_is : moment_in bytes ≡ moment_in both
+  pub moment_is : moment_in bytes ≡ moment_in both
   moment_is =
       let alone = a_record n bytes entry [] own in
       long_moment bytes alone.long ∙ sym alone.moment ∙ there.moment ∙ sym (long_moment both there.long)
@@ -85,7 +85,7 @@ module _ (n : ℕ) (bytes more : List ℕ) (entry : StreamEntry) (one : records_
 -- ---- step by step
 
 module _ (pairs : List TablePair) (first : Executive (List ℕ)) (stream : List ℕ) where
-  goes : (it last : Feeding) (done : List Part) (rest behind : List ℕ) (steps : List Step) (entries : List StreamEntry) → Tracing pairs first stream it done rest → Went it steps last →
+  pub goes : (it last : Feeding) (done : List Part) (rest behind : List ℕ) (steps : List Step) (entries : List StreamEntry) → Tracing pairs first stream it done rest → Went it steps last →
       bytes_of steps ++ behind ≡ rest → map (λ (step : Step). records_of (length pairs) step.bytes) steps ≡ map one_record entries →
       Tracing pairs first stream last (done ++ map part_of steps) behind
   goes it last done rest behind [] entries far went is each =

@@ -7,7 +7,7 @@ use Rattle.lc_model.specs.Device.{Sink}
 use Rattle.lc_model.specs.Tables.Interpretation.{FileMeanings}
 use Rattle.lc_model.specs.Host.Run.{input_of}
 use Rattle.lc_model.specs.Host.Schedule.{Schedule}
-use Rattle.lc_model.specs.Host.Stream.{StreamEntry, End, Bad, Truncated, Front, Record, NoRecord, CutRecord, all_kinds, front, records_by_front, records_numbered, records_of}
+use Rattle.lc_model.specs.Host.Stream.{StreamEntry, End, Bad, Truncated, Front, Record, NoRecord, CutRecord, all_kinds, body_size, front, records_by_front, records_numbered, records_of}
 use Rattle.lc_model.specs.Kept.Executive.{Executive, Member, first_executive, step_by}
 use Rattle.lc_model.specs.Kept.Stations as model
 use Rattle.lc_model.specs.Kept.Stations.{first_host}
@@ -36,10 +36,10 @@ use Rattle.run_stepper.specs.declared.ending.Ending.TheVariants as ended
 use Rattle.run_stepper.specs.declared.error.CourseError.{CourseError}
 use Rattle.run_stepper.specs.declared.handled.Handled.{Handled}
 use Rattle.run_stepper.specs.declared.handled.Handled.TheVariants as handled
-use Rattle.run_stepper.specs.Stepping.{HasStepped, BeginsWith, engine_among, engine_of, told_of}
-use Rattle.run_stepper.specs.declared.behind.RuleStanding.{RuleStanding}
-use Rattle.run_stepper.specs.Trace.{HasRun, IsStanding, Part, Traced, ending_by, engine_in, moment_in, parts_from, size_in_front, standing_in}
-use Rattle.run_stepper.proofs.InFront.{IsAllOf, all_of, long_size, none_of, part_of_all, short_size}
+use Rattle.run_stepper.specs.Stepping.{HasStepped, BeginsWith, engine_among, engine_of, one_record, told_of}
+use Rattle.run_stepper.specs.declared.standing.RuleStanding.{RuleStanding}
+use Rattle.run_stepper.specs.Trace.{HasRun, Part, Traced, ending_by, engine_in, moment_in, parts_from, size_in_front}
+use Rattle.run_stepper.proofs.InFront.{IsAllOf, a_record, all_of, by_itself, long_size, none_of, part_of_all, short_size}
 
 -- ---- so far
 
@@ -49,6 +49,27 @@ some_size bytes some = by_test (nat_lt (length bytes) 11) refl
     by_test : (b : Bool) → nat_lt (length bytes) 11 ≡ b → 0 < size_in_front bytes
     by_test true short = omega (arith, short_size bytes (tested_less (length bytes) 11 short), some)
     by_test false long = let enough : 11 ≤ length bytes = tested_not_less (length bytes) 11 long in omega (arith, long_size bytes enough, enough)
+
+-- no record is in front of what is left, by which the stream ends so behind so many records, and the host stays as it was
+pub record MeetsFault (now before : Hosted) (left : List StreamEntry × End) (count : ℕ) (ending : Ending) : Type 0 where
+  pub end : End
+  pub none : left ≡ ([], end)
+  pub ends : ending ≡ ending_by count end
+  pub host : now ≡ before
+
+-- bytes are one record, and nothing else
+pub record IsOneRecord (texts : ℕ) (bytes : List ℕ) : Type 0 where
+  pub entry : StreamEntry
+  pub one : records_of texts bytes ≡ one_record entry
+
+-- the bytes up to the end of a record that is in front of others are it
+alone_in_front : (n : ℕ) (bytes given : List ℕ) (entry : StreamEntry) (rest : List ℕ) → front all_kinds n bytes ≡ Record entry rest → given ≡ take (size_in_front bytes) bytes → records_of n given ≡ one_record entry
+alone_in_front n bytes given entry rest there is =
+    let record_is = a_record n bytes entry rest there in
+    let size : size_in_front bytes ≡ 11 + body_size bytes = omega (arith, long_size bytes record_is.long, record_is.inside) in
+    let own : given ≡ take (11 + body_size bytes) bytes = is ∙ ap (λ k. take k bytes) size in
+    front_decides all_kinds n 1 given
+    ∙ ap (records_by_front (records_numbered all_kinds n 2) 1) (ap (front all_kinds n) own ∙ by_itself n bytes entry rest there)
 
 module _ (pairs : List TablePair) (first : Executive (List ℕ)) (stream : List ℕ) where
   abbrev texts : ℕ
@@ -88,7 +109,7 @@ module _ (pairs : List TablePair) (first : Executive (List ℕ)) (stream : List 
   }
 
   -- no whole record is in front of what is left
-  ends_there : (it : Feeding) (done : List Part) (rest : List ℕ) (e : End) → Tracing it done rest → left (length done) rest ≡ ([], e) → Finishes it.host done (ending_by (length done) e)
+  pub ends_there : (it : Feeding) (done : List Part) (rest : List ℕ) (e : End) → Tracing it done rest → left (length done) rest ≡ ([], e) → Finishes it.host done (ending_by (length done) e)
   unfolding parts_from executive_after
   ends_there it done rest e far none = record {
     writes =
@@ -130,17 +151,18 @@ module _ (pairs : List TablePair) (first : Executive (List ℕ)) (stream : List 
         λ i. records_by_front (records_numbered all_kinds texts (next i)) (1 + length done) (there i))
 
     -- what comes next is no record
-    pub no_record : (new : Feeding) (written : List ℕ) → HasStepped given it new written (Ok handled.NoRecord) → Finishes new.host done (ended.NoRecord (length done + 1))
+    pub no_record : (new : Feeding) (written : List ℕ) → HasStepped given it new written (Ok handled.NoRecord) → MeetsFault new.host it.host (left (length done) rest) (length done) (ended.NoRecord (length done + 1))
     no_record new written step = by_answer step.answer step.one step.told
       where
-        meets : {before now : Sink} → MeetsNone (meanings_of it.files) (fed_with given it).held new.held it.host new.host before now → Finishes new.host done (ended.NoRecord (length done + 1))
+        meets : {before now : Sink} → MeetsNone (meanings_of it.files) (fed_with given it).held new.held it.host new.host before now →
+            MeetsFault new.host it.host (left (length done) rest) (length done) (ended.NoRecord (length done + 1))
         meets none =
             let there : front all_kinds texts rest ≡ NoRecord = none_of texts rest piece (drop 73739 given ++ behind) parted (in_texts NoRecord none.front) in
             let number : 1 + length done ≡ length done + 1 = omega arith in
-            subst (λ (h : Hosted). Finishes h done (ended.NoRecord (length done + 1))) (sym none.host)
-            (subst (λ n. Finishes it.host done (ended.NoRecord n)) number (ends_there it done rest (Bad (1 + length done)) far (decided NoRecord there)))
+            record { end = Bad (1 + length done); none = decided NoRecord there; ends = ap ended.NoRecord (sym number); host = none.host }
 
-        by_answer : {before now : Sink} (answer : Result (Option ℕ) Halt) → HandlesOne (fed_with given it) new before now answer → Ok handled.NoRecord ≡ told_of answer → Finishes new.host done (ended.NoRecord (length done + 1))
+        by_answer : {before now : Sink} (answer : Result (Option ℕ) Halt) → HandlesOne (fed_with given it) new before now answer → Ok handled.NoRecord ≡ told_of answer →
+            MeetsFault new.host it.host (left (length done) rest) (length done) (ended.NoRecord (length done + 1))
         by_answer (Ok (Some total)) one told = absurd (cc told)
         by_answer (Ok None) one told = absurd (cc told)
         by_answer (Err halt.NoRecord) one told = meets (one.where_open far.is_open)
@@ -149,14 +171,16 @@ module _ (pairs : List TablePair) (first : Executive (List ℕ)) (stream : List 
         by_answer (Err halt.Bound) one told = absurd (cc told)
 
     -- the stream ends inside it
-    pub a_part : (new : Feeding) (written : List ℕ) → 0 < length rest → HasStepped given it new written (Ok handled.Part) → Finishes new.host done (ended.Cut (length done + 1))
+    pub a_part : (new : Feeding) (written : List ℕ) → 0 < length rest → HasStepped given it new written (Ok handled.Part) →
+        MeetsFault new.host it.host (left (length done) rest) (length done) (ended.Cut (length done + 1))
     a_part new written some step = by_answer step.answer step.one step.told
       where
         cut_of : (bytes : List ℕ) → 0 < length bytes → part_of bytes ≡ CutRecord
         cut_of [] more = absurd (omega (arith, more))
         cut_of (b ∷ bytes) more = refl
 
-        holds : {before now : Sink} → NoneIsHeld (meanings_of it.files) (fed_with given it).held new.held it.host new.host before now → Finishes new.host done (ended.Cut (length done + 1))
+        holds : {before now : Sink} → NoneIsHeld (meanings_of it.files) (fed_with given it).held new.held it.host new.host before now →
+            MeetsFault new.host it.host (left (length done) rest) (length done) (ended.Cut (length done + 1))
         holds none =
             let short : length piece < 65547 = none.few in
             let size : 0 < size_in_front rest = some_size rest some in
@@ -165,10 +189,10 @@ module _ (pairs : List TablePair) (first : Executive (List ℕ)) (stream : List 
             let there : front all_kinds texts piece ≡ CutRecord =
             in_texts CutRecord (none.front ∙ cut_of piece (omega (arith, ap length whole, length-take (size_in_front rest) rest, size, some))) in
             let number : 1 + length done ≡ length done + 1 = omega arith in
-            subst (λ (h : Hosted). Finishes h done (ended.Cut (length done + 1))) (sym none.host)
-            (subst (λ n. Finishes it.host done (ended.Cut n)) number (ends_there it done rest (Truncated (1 + length done)) far (decided CutRecord (part_of_all texts rest piece whole some there))))
+            record { end = Truncated (1 + length done); none = decided CutRecord (part_of_all texts rest piece whole some there); ends = ap ended.Cut (sym number); host = none.host }
 
-        by_answer : {before now : Sink} (answer : Result (Option ℕ) Halt) → HandlesOne (fed_with given it) new before now answer → Ok handled.Part ≡ told_of answer → Finishes new.host done (ended.Cut (length done + 1))
+        by_answer : {before now : Sink} (answer : Result (Option ℕ) Halt) → HandlesOne (fed_with given it) new before now answer → Ok handled.Part ≡ told_of answer →
+            MeetsFault new.host it.host (left (length done) rest) (length done) (ended.Cut (length done + 1))
         by_answer (Ok (Some total)) one told = absurd (cc told)
         by_answer (Ok None) one told = holds (one.where_open far.is_open)
         by_answer (Err halt.NoRecord) one told = absurd (cc told)
@@ -241,6 +265,25 @@ module _ (pairs : List TablePair) (first : Executive (List ℕ)) (stream : List 
         by_answer (Err halt.Fault) one told = absurd (cc told)
         by_answer (Err halt.Bound) one told = absurd (cc told)
 
+    -- its bytes are that record, and nothing else
+    pub one_alone : (new : Feeding) (written : List ℕ) → HasStepped given it new written (Ok handled.Whole) → IsOneRecord texts given
+    one_alone new written step = by_answer step.answer step.one step.told
+      where
+        goes : {before now : Sink} {total : ℕ} → IsHandled (meanings_of it.files) (fed_with given it).held new.held it.host new.host before now total → IsOneRecord texts given
+        goes is_handled =
+            let entry : StreamEntry = is_handled.next.entry in
+            let there : front all_kinds texts piece ≡ Record entry is_handled.next.rest = in_texts (Record entry is_handled.next.rest) is_handled.next.front in
+            let found : IsAllOf texts rest piece (drop 73739 given ++ behind) parted entry is_handled.next.rest = all_of texts rest piece (drop 73739 given ++ behind) parted entry is_handled.next.rest few there in
+            record { entry = entry; one = alone_in_front texts rest given entry (drop (size_in_front rest) rest) found.there is }
+
+        by_answer : {before now : Sink} (answer : Result (Option ℕ) Halt) → HandlesOne (fed_with given it) new before now answer → Ok handled.Whole ≡ told_of answer → IsOneRecord texts given
+        by_answer (Ok (Some total)) one told = goes (one.where_open far.is_open)
+        by_answer (Ok None) one told = absurd (cc told)
+        by_answer (Err halt.NoRecord) one told = absurd (cc told)
+        by_answer (Err (halt.Unsent sent)) one told = absurd (cc told)
+        by_answer (Err halt.Fault) one told = absurd (cc told)
+        by_answer (Err halt.Bound) one told = absurd (cc told)
+
 -- ---- the beginning and the end
 
 pub begun : (sources : List (List ℕ)) (schedule : Schedule) (stream : List ℕ) (it : Feeding) → BeginsWith sources schedule it → Tracing it.files (executive_in it.host) stream it [] stream
@@ -277,62 +320,7 @@ has_run sources schedule stream it h t is done =
 
 -- ---- the Limit Checker that runs
 
-same_engine : (seats : List (Option Object)) → engine_among seats ≡ engine_in (map (option_map member_of) seats)
+pub same_engine : (seats : List (Option Object)) → engine_among seats ≡ engine_in (map (option_map member_of) seats)
 same_engine [] = refl
 same_engine (None ∷ seats) = same_engine seats
 same_engine (Some o ∷ seats) = ap (λ own. option_or (engine_of (Some o)) own) (same_engine seats)
-
-pub standing : (sources : List (List ℕ)) (schedule : Schedule) (stream : List ℕ) (rule : ℕ) (t : Traced) (h : Hosted) (checker : Option LcOwn) (found : RuleStanding) →
-    HasRun sources schedule stream t (executive_in h) → checker ≡ engine_among h.seats → found ≡ standing_in checker rule → IsStanding sources schedule stream rule found
-standing sources schedule stream rule t h checker found run is stands =
-    (t, executive_in h, run, stands ∙ ap (λ own. standing_in own rule) (is ∙ same_engine h.seats))
-
--- ---- the loop
-
-pub nothing_left : (rest : List ℕ) (none : Bool) → none ≡ (length rest == 0) → none ≡ true → rest ≡ []
-nothing_left [] none is test = refl
-nothing_left (b ∷ rest) none is test = absurd (true≢false (sym test ∙ is ∙ test_unequal (length (b ∷ rest)) 0 (λ same. omega (arith, same))))
-
-module _ (sources : List (List ℕ)) (schedule : Schedule) (stream : List ℕ) (start : Feeding) (is_begun : BeginsWith sources schedule start) where
-  abbrev SoFar : Feeding → List Part → List ℕ → Type 0
-  SoFar it done rest = Tracing start.files (executive_in start.host) stream it done rest
-
-  pub starts : (done : List Part) → done ≡ [] → SoFar start done stream
-  starts done none = subst (λ (d : List Part). SoFar start d stream) (sym none) (begun sources schedule stream start is_begun)
-
-  -- what was traced, where it ends
-  returned : (h : Hosted) (done : List Part) (e : Ending) → Finishes start.files (executive_in start.host) stream h done e →
-      HasRun sources schedule stream (record { parts = done; ending = e }) (executive_in h)
-  returned h done e finishes = has_run sources schedule stream start h (record { parts = done; ending = e }) is_begun finishes
-
-  pub ends_whole : (it : Feeding) (done : List Part) (rest : List ℕ) (n : ℕ) → SoFar it done rest → rest ≡ [] → n ≡ length done →
-      HasRun sources schedule stream (record { parts = done; ending = ended.Whole n }) (executive_in it.host)
-  ends_whole it done rest n far none count =
-      returned it.host done (ended.Whole n)
-      (subst (λ n. Finishes start.files (executive_in start.host) stream it.host done (ended.Whole n)) (sym count)
-      (over start.files (executive_in start.host) stream it done rest far none))
-
-  module _ (it : Feeding) (done : List Part) (rest : List ℕ) (far : SoFar it done rest) (given behind : List ℕ)
-      (is : given ≡ take (size_in_front rest) rest) (past : behind ≡ drop (size_in_front rest) rest)
-      (new : Feeding) (written : List ℕ) (result : Result Handled CourseError) (step : HasStepped given it new written result) where
-    pub goes_on : (part : Part) (after : List Part) → result ≡ Ok handled.Whole → part ≡ record { moment = moment_in rest; packets = written } → after ≡ done ++ part ∷ [] →
-        SoFar new after behind
-    goes_on part after whole made pushed =
-        let own : Part = record { moment = moment_in rest; packets = written } in
-        subst (λ (d : List Part). SoFar new d behind) (sym (pushed ∙ ap (λ (p : Part). done ++ p ∷ []) made))
-        (one_more start.files (executive_in start.host) stream it done rest far given behind is past new own refl
-        (subst (HasStepped given it new written) whole step))
-
-    pub ends_at_none : (n : ℕ) → result ≡ Ok handled.NoRecord → n ≡ length done →
-        HasRun sources schedule stream (record { parts = done; ending = ended.NoRecord (n + 1) }) (executive_in new.host)
-    ends_at_none n none count =
-        returned new.host done (ended.NoRecord (n + 1))
-        (subst (λ n. Finishes start.files (executive_in start.host) stream new.host done (ended.NoRecord (n + 1))) (sym count)
-        (no_record start.files (executive_in start.host) stream it done rest far given behind is past new written (subst (HasStepped given it new written) none step)))
-
-    pub ends_in_part : (n : ℕ) → 0 < length rest → result ≡ Ok handled.Part → n ≡ length done →
-        HasRun sources schedule stream (record { parts = done; ending = ended.Cut (n + 1) }) (executive_in new.host)
-    ends_in_part n some part count =
-        returned new.host done (ended.Cut (n + 1))
-        (subst (λ n. Finishes start.files (executive_in start.host) stream new.host done (ended.Cut (n + 1))) (sym count)
-        (a_part start.files (executive_in start.host) stream it done rest far given behind is past new written some (subst (HasStepped given it new written) part step)))

@@ -1,3 +1,5 @@
 pub mod Stepping
 pub mod Trace
 pub mod Steps
+pub mod Force
+pub mod Walk

@@ -22,8 +22,8 @@ use Rattle.flight_core.specs.Brought.{meanings_of}
 use Rattle.flight_core.specs.Compiled.{AreAllCompiled}
 use Rattle.flight_profile.specs.Stock.{own_names}
 use Rattle.run_stepper.specs.Stepping.{engine_by}
-use Rattle.run_stepper.specs.declared.behind.RuleStanding.{RuleStanding}
-use Rattle.run_stepper.specs.declared.behind.RuleStanding.TheVariants as standing
+use Rattle.run_stepper.specs.declared.standing.RuleStanding.{RuleStanding}
+use Rattle.run_stepper.specs.declared.standing.RuleStanding.TheVariants as standing
 use Rattle.run_stepper.specs.declared.ending.Ending.{Ending}
 use Rattle.run_stepper.specs.declared.ending.Ending.TheVariants as ended
 

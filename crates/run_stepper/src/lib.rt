@@ -1,7 +1,6 @@
 //! A run that goes record by record, and what each record of a stream led to.
 #![tactic(auto)]
 
-mod behind;
 mod ending;
 mod error;
 mod framing;
@@ -9,14 +8,17 @@ mod handled;
 pub mod laws;
 mod plan;
 mod rule_texts;
+mod standing;
 mod stepping;
 mod trace;
+mod walk;
 
-pub use behind::{RuleStanding, standing_of};
 pub use ending::Ending;
 pub use error::CourseError;
 pub use handled::Handled;
 pub use plan::RunInputs;
-pub use rule_texts::read_texts;
+pub use rule_texts::{compile_texts, read_texts};
+pub use standing::RuleStanding;
 pub use stepping::Stepping;
-pub use trace::{Came, Trace, trace_of};
+pub use trace::{Came, Trace};
+pub use walk::{Walk, trace_of};

@@ -1,21 +1,29 @@
 //! A run that goes record by record, and lets be seen how the Limit Checker stands behind each.
 
-ghost use Rattle.std.specs.Prelude.{◌≡◌, ◌<◌, ◌≤◌, length, option_map, IfErr, IfOk, Some};
+ghost use Rattle.std.specs.Prelude.{◌≡◌, ◌<◌, ◌≤◌, drop, length, option_map, IfErr, IfOk, Some};
+ghost use Rattle.app_host.specs.Delivered.{executive_in};
 ghost use Rattle.app_host.specs.Hosted.{object_at};
 ghost use Rattle.flight_core.specs.Compiled.{IsNotCompiled, sources_of};
 ghost use Rattle.flight_core.specs.Feeding.{fed_with};
 ghost use Rattle.flight_core.specs.Records.{most_held, taken_of};
 ghost use Rattle.run_stepper.specs.declared.error.CourseError.TheVariants.{Memory};
+ghost use Rattle.lc_model.specs.Tables.File.{headers_length};
+ghost use Rattle.run_stepper.specs.Force.{is_of_file, is_of_pair, text_in_force};
 ghost use Rattle.run_stepper.specs.Stepping.{BeginsWith, GoesOn, HandlesAlone, HasHandled, HasStepped, IsAtRest, IsRefusal, engine_among, engine_of, host_in, refusal_of, written_by};
 
 use crate::error::CourseError;
 use crate::handled::Handled;
 use flight_core::{FedHost, Halt, RunError};
 use flight_profile::{Member, own_stock};
-use lc_model::{ByteSink, DeviceFault, Seat};
+use lc_model::{ByteSink, DeviceFault, Kind, Seat};
 use limit_engine::Engine;
+use rpn_compiler::TablePair;
 use schedules::Schedule;
 use std::alloc::Global;
+use table_file::table_name;
+
+/// The bytes of the two headers in front of the image in a table file.
+const HEADERS_LENGTH: usize = 116;
 
 /// What one record leads to, in memory. A write fails only for want of memory.
 #[derive(Drop)]
@@ -55,6 +63,32 @@ fn course_error(error: RunError) -> CourseError
         RunError::Compile { text, error } => CourseError::Rules { text, error },
         _other => CourseError::Memory,
     }
+}
+
+/// The image in a table file.
+fn image_of(file: &[u8]) -> &[u8]
+    ensures { result.now ≡ drop headers_length file.now }
+{
+    let (_, image) = file.split_at(HEADERS_LENGTH.min(file.len()));
+    image
+}
+
+/// Whether an image, where there is one, is that of a table file.
+fn is_of_file(image: Option<&[u8]>, file: &[u8]) -> bool
+    ensures { result ≡ is_of_file (option_map (λ image. image.now) image.entry) file.now }
+{
+    match image {
+        None => false,
+        Some(image) => image == image_of(file),
+    }
+}
+
+/// Whether the active images of the two tables are those of a text's files.
+fn is_of_pair(wdt: Option<&[u8]>, adt: Option<&[u8]>, pair: &TablePair) -> bool
+    ensures { result ≡ is_of_pair (option_map (λ image. image.now) wdt.entry)
+        (option_map (λ image. image.now) adt.entry) pair.now }
+{
+    is_of_file(wdt, pair.wdt.as_slice()) && is_of_file(adt, pair.adt.as_slice())
 }
 
 impl Stepping {
@@ -168,6 +202,16 @@ impl Stepping {
             },
             None => None,
         }
+    }
+
+    /// The number, from 0, of the rule text in force, of those whose table files these are: the first whose images are the active
+    /// ones of both tables. None where no text is.
+    pub fn text_in_force(&self, pairs: &[TablePair]) -> Option<usize>
+        ensures { result ≡ text_in_force pairs.now (executive_in (host_in self.now).host) }
+    {
+        let wdt = self.fed.host().active_image(table_name(Kind::Wdt));
+        let adt = self.fed.host().active_image(table_name(Kind::Adt));
+        pairs.iter().position(|pair| is_of_pair(wdt, adt, pair))
     }
 
     /// All that run retire, and all applications are dropped.

@@ -1,26 +1,17 @@
-//! A run over a whole stream, and what each of its records led to.
+//! What each record of a stream led to.
 
-ghost use Rattle.std.specs.Prelude.{◌≡◌, ◌++◌, IfErr, IfOk};
-ghost use Rattle.app_host.specs.Delivered.{executive_in};
-ghost use Rattle.flight_core.specs.Compiled.{sources_of};
-ghost use Rattle.run_stepper.specs.declared.error.CourseError.TheVariants.{Memory};
-ghost use Rattle.run_stepper.specs.Stepping.{IsAtRest, BeginsWith, IsRefusal, host_in};
-ghost use Rattle.run_stepper.specs.Trace.{HasRun, IsTraced, arrived_by, arrived_from};
+ghost use Rattle.std.specs.Prelude.{◌≡◌, ◌++◌, IfOk};
+ghost use Rattle.run_stepper.specs.Trace.{arrived_by, arrived_from};
 
 use crate::ending::Ending;
-use crate::error::CourseError;
-use crate::framing::{moment_of, record_size};
-use crate::handled::Handled;
-use crate::stepping::Stepping;
 use lc_model::Moment;
 use lc_model::packet::first_packet;
-use schedules::Schedule;
 use std::alloc::{AllocError, Global};
 use std::marker::Model;
 
 /// A record's moment, and what it led to: packets, one behind the other.
 #[derive(Drop)]
-struct Led {
+pub(crate) struct Led {
     moment: Moment,
     packets: Vec<u8>,
 }
@@ -35,7 +26,7 @@ impl Model for Led {
 
 impl Led {
     /// These packets, at this moment.
-    fn of(alloc: Global, moment: Moment, packets: &[u8]) -> Result<Led, AllocError>
+    pub(crate) fn of(alloc: Global, moment: Moment, packets: &[u8]) -> Result<Led, AllocError>
         ensures { IfOk result (λ led. led ≡ record { moment = moment; packets = packets.now }) }
     {
         Ok(Led {
@@ -64,8 +55,8 @@ impl<'a> Model for Came<'a> {
 /// A run over a whole stream: what each of its records led to, up to the first fault, and how it ended.
 #[derive(Drop)]
 pub struct Trace {
-    parts: Vec<Led>,
-    ending: Ending,
+    pub(crate) parts: Vec<Led>,
+    pub(crate) ending: Ending,
 }
 
 impl Model for Trace {
@@ -110,63 +101,4 @@ impl Trace {
         }
         Ok(came)
     }
-}
-
-/// Handles the records of a stream, one after the other, up to the first fault.
-pub(crate) fn trace_all(
-    alloc: Global,
-    stepping: &mut Stepping,
-    texts: &[&[u8]],
-    schedule: &Schedule,
-    stream: &[u8],
-) -> Result<Trace, CourseError>
-    requires ready { IsAtRest stepping.old }
-    requires begun { BeginsWith (sources_of texts.now) schedule.now (host_in stepping.old) }
-    ensures ready { IsAtRest stepping.new }
-    ensures run { IfOk result (λ t. HasRun (sources_of texts.now) schedule.now stream.now t
-        (executive_in (host_in stepping.new).host)) }
-    ensures memory { IfErr result (λ error. error ≡ Memory) }
-{
-    let mut parts = Vec::new(alloc);
-    let mut rest = stream;
-    while !rest.is_empty() {
-        let (record, behind) = rest.split_at(record_size(rest));
-        match stepping.step(record)? {
-            Handled::Whole => {
-                parts.push(Led::of(alloc, moment_of(rest), stepping.packets())?)?;
-                rest = behind;
-            }
-            Handled::NoRecord => {
-                let n = parts.len() as u64 + 1;
-                let ending = Ending::NoRecord { n };
-                return Ok(Trace { parts, ending });
-            }
-            Handled::Part => {
-                let n = parts.len() as u64 + 1;
-                let ending = Ending::Cut { n };
-                return Ok(Trace { parts, ending });
-            }
-        }
-    }
-    let records = parts.len() as u64;
-    let ending = Ending::Whole { records };
-    Ok(Trace { parts, ending })
-}
-
-/// Runs rule texts over a stream, record by record, and keeps what each record led to.
-///
-/// Errors: `Rules` with the first text that doesn't compile; `Memory`.
-pub fn trace_of(
-    alloc: Global,
-    texts: &[&[u8]],
-    schedule: &Schedule,
-    stream: &[u8],
-) -> Result<Trace, CourseError>
-    ensures traced { IfOk result (IsTraced (sources_of texts.now) schedule.now stream.now) }
-    ensures refused { IfErr result (IsRefusal (sources_of texts.now)) }
-{
-    let mut stepping = Stepping::new(alloc, texts, schedule)?;
-    let traced = trace_all(alloc, &mut stepping, texts, schedule, stream);
-    stepping.close();
-    traced
 }

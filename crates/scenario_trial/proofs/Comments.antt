@@ -147,7 +147,7 @@ same_lines said n (line ∷ lines) =
     by_answer (Err reason) rest = refl
     by_answer (Ok after) rest = rest after
 
-lines_again : (script : List ℕ) → lines_of (silenced_in script) ≡ map silenced_line (lines_of script)
+pub lines_again : (script : List ℕ) → lines_of (silenced_in script) ≡ map silenced_line (lines_of script)
 lines_again script = by_parts (lines_of script) (some_parts is_feed script) (lines_free script)
   where
     by_parts : (parts : List (List ℕ)) → AreSome parts → AllByRecursion IsFree parts → lines_of (join_with_byte 10 (map silenced_line parts)) ≡ map silenced_line parts

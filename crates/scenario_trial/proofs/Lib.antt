@@ -1,3 +1,4 @@
 mod Lines
 mod Comments
+mod Ahead
 mod TrialSteps

@@ -8,19 +8,11 @@ use Rattle.std.specs.List.{join_with_byte}
 use Rattle.text_lines.specs.Lines.{is_feed, lines_in}
 use Rattle.scenario_trial.specs.Reading.{silenced_line}
 
--- the bytes of parts, with one more for each
-abbrev pub sizes : List (List ℕ) → ℕ
-sizes [] = 0
-sizes (part ∷ parts) = length part + 1 + sizes parts
-
 -- a first part, and others
 pub record AreSome (parts : List (List ℕ)) : Type 0 where
   pub first : List ℕ
   pub others : List (List ℕ)
   pub are : parts ≡ first ∷ others
-
-longer : (a b n : ℕ) → a + 1 + b ≡ n + 1 → suc a + 1 + b ≡ suc n + 1
-longer a b n is = omega (arith, is)
 
 module _ (ends : ℕ → Bool) where
   pub some_parts : (text : List ℕ) → AreSome (parted ends text)
@@ -30,17 +22,6 @@ module _ (ends : ℕ → Bool) where
       by_test : (b : Bool) → ends byte ≡ b → AreSome (parted ends bytes) → AreSome (parted ends (byte ∷ bytes))
       by_test true is rest = record { first = []; others = parted ends bytes; are = rw is refl }
       by_test false is rest = record { first = byte ∷ rest.first; others = rest.others; are = rw is (ap (onto_first byte) rest.are) }
-
-  pub all_sizes : (text : List ℕ) → sizes (parted ends text) ≡ length text + 1
-  all_sizes [] = refl
-  all_sizes (byte ∷ bytes) = by_test (ends byte) refl (some_parts bytes) (all_sizes bytes)
-    where
-      by_test : (b : Bool) → ends byte ≡ b → AreSome (parted ends bytes) → sizes (parted ends bytes) ≡ length bytes + 1 →
-          sizes (parted ends (byte ∷ bytes)) ≡ length (byte ∷ bytes) + 1
-      by_test true is rest later = rw is (omega (arith, later))
-      by_test false is rest later =
-          let parts : length rest.first + 1 + sizes rest.others ≡ length bytes + 1 = sym (ap sizes rest.are) ∙ later in
-          rw is (ap (λ (parts : List (List ℕ)). sizes (onto_first byte parts)) rest.are ∙ longer (length rest.first) (sizes rest.others) (length bytes) parts)
 
 -- the parts of what is left, where something is
 pub some_left : (rest : Option (Bor (List ℕ))) → is_none rest ≡ false → AreSome (lines_in rest)
@@ -59,9 +40,9 @@ join_more quiet text line parts some is =
     ∙ sym (ap (λ (others : List (List ℕ)). join_with_byte 10 (map silenced_line (line ∷ others))) some.are))
 
 -- the line in front of what is left is refused, and so is the script
-pub line_refused : (found : List PlacedExpected) (n at : ℕ) (left : Option (Bor (List ℕ))) (line : List ℕ) (rest : Option (Bor (List ℕ)))
+pub line_refused : (found : List PlacedExpected) (n : ℕ) (left : Option (Bor (List ℕ))) (line : List ℕ) (rest : Option (Bor (List ℕ)))
     (whole : Result (List PlacedExpected) ReadFault) (error : ReadError) →
-    lines_expected found n at (lines_in left) ≡ whole → lines_in left ≡ line ∷ lines_in rest →
-    ((lines : List (List ℕ)) → IsReadError (lines_expected found n at (line ∷ lines)) error) → IsReadError whole error
-line_refused found n at left line rest whole error says parts refuses =
-    subst (λ (r : Result (List PlacedExpected) ReadFault). IsReadError r error) (sym (ap (lines_expected found n at) parts) ∙ says) (refuses (lines_in rest))
+    lines_expected found n (lines_in left) ≡ whole → lines_in left ≡ line ∷ lines_in rest →
+    ((lines : List (List ℕ)) → IsReadError (lines_expected found n (line ∷ lines)) error) → IsReadError whole error
+line_refused found n left line rest whole error says parts refuses =
+    subst (λ (r : Result (List PlacedExpected) ReadFault). IsReadError r error) (sym (ap (lines_expected found n) parts) ∙ says) (refuses (lines_in rest))

@@ -1,5 +1,5 @@
 -- What a trial comes to.
-use Rattle.std.proofs.Common.{◌≡◌, refl, sym, ◌∙◌, ap, ℕ, List, [], ◌∷◌, length, map, Result, Ok, Err}
+use Rattle.std.proofs.Common.{◌≡◌, refl, sym, ◌∙◌, ap, subst, ℕ, true, List, [], ◌∷◌, length, map, find, None, Result, Ok, Err}
 use Rattle.std.specs.Prelude.{IfErr, IfOk}
 use Rattle.std.specs.List.{AllByRecursion}
 use Rattle.std.proofs.lemmas.List.{length-map}
@@ -8,45 +8,64 @@ use Rattle.scenarios.specs.Declarations.{Declarations, AreDeclared, nothing_decl
 use Rattle.scenarios.specs.Plain.{PlainScript, plain_in}
 use Rattle.scenario_trial.specs.declared.error.TrialError.{TrialError}
 use Rattle.scenario_trial.specs.declared.error.TrialError.TheVariants as trial
+use Rattle.scenario_trial.specs.declared.trial.TrialOutcome.{TrialOutcome}
 use Rattle.scenario_trial.specs.declared.trial.Tried.{Tried}
-use Rattle.scenario_trial.specs.declared.expectation.Arrival.{Arrival}
+use Rattle.scenario_trial.specs.Outcomes.{IsPlainTried, IsTried}
+use Rattle.scenario_trial.specs.Warned.{warnings_of}
+use Rattle.stream_script.specs.Script.{script_in}
+use Rattle.run_stepper.specs.Trace.{IsTraced, Traced, arrived_from}
 use Rattle.scenario_trial.specs.declared.expectation_lines.Placed.{Placed}
 use Rattle.scenario_trial.specs.declared.verdict.Judged.{Judged}
-use Rattle.scenario_trial.specs.Arrivals.{IsFound, IsJudged, IsPlainTried, IsTried, placed_in}
+use Rattle.scenario_trial.specs.Arrivals.{IsFound, arrivals_of, has_no_rule, is_whole, placed_in}
 use Rattle.scenario_trial.specs.Judged.{unmet_of}
-use Rattle.scenario_trial.specs.Reading.{placed_of}
+use Rattle.scenario_trial.specs.Reading.{expectations_in, placed_of, silenced_in}
 use Rattle.scenario_trial.specs.Untried.{IsPlainUntried, IsUntried}
 
 each_placed : (judged : List Judged) → map (λ (one : Judged). placed_of one.placed) judged ≡ map placed_of (map placed_in judged)
 each_placed [] = refl
 each_placed (one ∷ others) = ap (λ rest. placed_of one.placed ∷ rest) (each_placed others)
 
-pub judged_so : (sources : List (List ℕ)) (schedule : Schedule) (declared : Declarations) (script : List ℕ) (expectations : List Placed) (came : List Arrival) (judged unmet : List Judged) (count : ℕ) →
-    map placed_in judged ≡ expectations → AllByRecursion (IsFound sources schedule declared script) judged → unmet ≡ unmet_of came judged → count ≡ length unmet →
-    IsJudged sources schedule declared script (map placed_of expectations) came (record { expected = length expectations; unmet = count })
-judged_so sources schedule declared script expectations came judged unmet count each found those counts = record {
-  judged = judged;
-  each = each_placed judged ∙ ap (map placed_of) each;
-  found = found;
-  counted = sym (length-map expectations placed_of);
-  counts = counts ∙ ap length those;
+-- what a run and its expectations come to
+pub tried_by : (sources : List (List ℕ)) (schedule : Schedule) (declared : Declarations) (plain : PlainScript) (stream : List ℕ) (expectations : List Placed) (judged : List Judged) (trace : Traced) (outcome : TrialOutcome) →
+    expectations_in plain.script ≡ Ok (map placed_of expectations) → find (has_no_rule declared) (map placed_of expectations) ≡ None → script_in (silenced_in plain.script) ≡ Ok stream →
+    IsTraced sources schedule stream trace → is_whole trace.ending ≡ true → map placed_in judged ≡ expectations → AllByRecursion (IsFound sources schedule declared (silenced_in plain.script)) judged →
+    outcome.tried ≡ record { expected = length judged; unmet = length (unmet_of (arrivals_of trace) judged) } →
+    outcome.warnings.items ≡ warnings_of declared plain.lines (map placed_of expectations) (arrived_from 0 trace.parts) → IsPlainTried sources schedule declared plain outcome
+tried_by sources schedule declared plain stream expectations judged trace outcome expects known says traced whole each found counts warned = record {
+  expectations = map placed_of expectations;
+  expects = expects;
+  stream = stream;
+  says = says;
+  trace = trace;
+  traced = traced;
+  whole = whole;
+  judged = record {
+    known = known;
+    judged = judged;
+    each = each_placed judged ∙ ap (map placed_of) each;
+    found = found;
+    counted = ap (λ (t : Tried). t.expected) counts ∙ sym (length-map judged placed_in) ∙ ap length each ∙ sym (length-map expectations placed_of);
+    counts = ap (λ (t : Tried). t.unmet) counts;
+  };
+  warned = warned;
 }
 
 -- why a plain script isn't tried is why the scenario isn't that is short for it
-pub untried : (sources : List (List ℕ)) (schedule : Schedule) (text : List ℕ) (declared : Declarations) (plain : PlainScript) (result : Result Tried TrialError) →
-    AreDeclared sources nothing_declared declared → plain_in declared text ≡ Ok plain → IfErr result (IsPlainUntried sources schedule plain) → IfErr result (IsUntried sources schedule text)
+pub untried : (sources : List (List ℕ)) (schedule : Schedule) (text : List ℕ) (declared : Declarations) (plain : PlainScript) (result : Result TrialOutcome TrialError) →
+    AreDeclared sources nothing_declared declared → plain_in declared [] text ≡ Ok plain → IfErr result (IsPlainUntried sources schedule declared plain) → IfErr result (IsUntried sources schedule text)
 untried sources schedule text declared plain (Ok tried) declares short why = tt
 untried sources schedule text declared plain (Err trial.Memory) declares short why = tt
 untried sources schedule text declared plain (Err trial.Write) declares short why = tt
 untried sources schedule text declared plain (Err (trial.Rules number error)) declares short why = why
 untried sources schedule text declared plain (Err (trial.Scenario error)) declares short why = absurd why
-untried sources schedule text declared plain (Err (trial.Script error)) declares short why = (plain, record { declared = declared; declares = declares; short = short }, why)
-untried sources schedule text declared plain (Err (trial.Expectation error)) declares short why = (plain, record { declared = declared; declares = declares; short = short }, why)
-untried sources schedule text declared plain (Err (trial.Stopped n)) declares short why = (plain, record { declared = declared; declares = declares; short = short }, why)
+untried sources schedule text declared plain (Err (trial.Script error)) declares short why = (declared, plain, record { declares = declares; short = short }, why)
+untried sources schedule text declared plain (Err (trial.Expectation error)) declares short why = (declared, plain, record { declares = declares; short = short }, why)
+untried sources schedule text declared plain (Err (trial.NoRule n)) declares short why = (declared, plain, record { declares = declares; short = short }, why)
+untried sources schedule text declared plain (Err (trial.Stopped n)) declares short why = (declared, plain, record { declares = declares; short = short }, why)
 
 -- what a plain script comes to is what the scenario comes to that is short for it
-pub tried_so : (sources : List (List ℕ)) (schedule : Schedule) (text : List ℕ) (declared : Declarations) (plain : PlainScript) (result : Result Tried TrialError) →
-    AreDeclared sources nothing_declared declared → plain_in declared text ≡ Ok plain → IfOk result (IsPlainTried sources schedule declared plain.script) →
+pub tried_so : (sources : List (List ℕ)) (schedule : Schedule) (text : List ℕ) (declared : Declarations) (plain : PlainScript) (result : Result TrialOutcome TrialError) →
+    AreDeclared sources nothing_declared declared → plain_in declared [] text ≡ Ok plain → IfOk result (IsPlainTried sources schedule declared plain) →
     IfOk result (IsTried sources schedule text)
 tried_so sources schedule text declared plain (Ok tried) declares short tries = record {
   declared = declared;
@@ -56,3 +75,24 @@ tried_so sources schedule text declared plain (Ok tried) declares short tries = 
   tries = tries;
 }
 tried_so sources schedule text declared plain (Err error) declares short tries = tries
+
+-- the same by the answer, where what is the same has several names
+pub outcome_so : (sources : List (List ℕ)) (schedule : Schedule) (declared : Declarations) (plain : PlainScript) (quiet quiet' stream stream' : List ℕ) (ps asked run_with warned_of : List Placed)
+    (judged counted_of : List Judged) (trace : Traced) (result : Result TrialOutcome TrialError) →
+    quiet ≡ silenced_in plain.script → quiet' ≡ silenced_in plain.script → stream' ≡ stream → asked ≡ ps → run_with ≡ ps → warned_of ≡ ps → counted_of ≡ judged →
+    expectations_in plain.script ≡ Ok (map placed_of ps) → find (has_no_rule declared) (map placed_of asked) ≡ None → script_in quiet ≡ Ok stream → IsTraced sources schedule stream' trace →
+    is_whole trace.ending ≡ true → map placed_in judged ≡ run_with → AllByRecursion (IsFound sources schedule declared quiet') judged →
+    IfOk result (λ (outcome : TrialOutcome). outcome.tried ≡ record { expected = length counted_of; unmet = length (unmet_of (arrivals_of trace) counted_of) }) →
+    IfOk result (λ (outcome : TrialOutcome). outcome.warnings.items ≡ warnings_of declared plain.lines (map placed_of warned_of) (arrived_from 0 trace.parts)) →
+    IfOk result (IsPlainTried sources schedule declared plain)
+outcome_so sources schedule declared plain quiet quiet' stream stream' ps asked run_with warned_of judged counted_of trace (Err error) q q' s a r w j expects known says traced whole each found counts warned = counts
+outcome_so sources schedule declared plain quiet quiet' stream stream' ps asked run_with warned_of judged counted_of trace (Ok outcome) q q' s a r w j expects known says traced whole each found counts warned =
+    tried_by sources schedule declared plain stream ps judged trace outcome expects
+    (ap (λ them. find (has_no_rule declared) (map placed_of them)) (sym a) ∙ known)
+    (ap script_in (sym q) ∙ says)
+    (subst (λ (it : List ℕ). IsTraced sources schedule it trace) s traced)
+    whole
+    (each ∙ r)
+    (subst (λ (it : List ℕ). AllByRecursion (IsFound sources schedule declared it) judged) q' found)
+    (counts ∙ ap (λ them. record { expected = length them; unmet = length (unmet_of (arrivals_of trace) them) }) j)
+    (warned ∙ ap (λ them. warnings_of declared plain.lines (map placed_of them) (arrived_from 0 trace.parts)) w)

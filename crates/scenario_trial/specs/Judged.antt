@@ -8,8 +8,8 @@ use Rattle.scenario_trial.specs.declared.expectation.Arrival.{Arrival}
 use Rattle.scenario_trial.specs.declared.expectation.Span.{Span}
 use Rattle.scenario_trial.specs.declared.expectation.What.{What}
 use Rattle.scenario_trial.specs.declared.expectation.What.TheVariants.{Sequence, Event}
-use Rattle.run_stepper.specs.declared.behind.RuleStanding.{RuleStanding}
-use Rattle.run_stepper.specs.declared.behind.RuleStanding.TheVariants.{Stands}
+use Rattle.run_stepper.specs.declared.standing.RuleStanding.{RuleStanding}
+use Rattle.run_stepper.specs.declared.standing.RuleStanding.TheVariants.{Stands}
 use Rattle.scenario_trial.specs.declared.verdict.Judged.{Judged}
 use Rattle.scenario_trial.specs.Expected.{Absent, Comes, Expected, LastResult, State, expected_of}
 

@@ -5,3 +5,5 @@ pub mod Judged
 pub mod Arrivals
 pub mod Untried
 pub mod Telling
+pub mod Warned
+pub mod Outcomes

@@ -1,5 +1,5 @@
 -- The expectations of a script, and the script without them. This project's own.
-use Rattle.std.specs.Prelude.{◌≡◌, ℕ, ◌+◌, Bool, false, List, [], ◌∷◌, ◌++◌, length, take, drop, map, codes, bytes_eq, Option, Some, None, Result, Ok, Err, ⊤, if◌then◌else◌}
+use Rattle.std.specs.Prelude.{◌≡◌, ℕ, ◌+◌, Bool, false, List, [], ◌∷◌, ◌++◌, take, drop, map, codes, bytes_eq, Option, Some, None, Result, Ok, Err, ⊤, if◌then◌else◌}
 use Rattle.std.specs.List.{join_with_byte, prefix_len}
 use Rattle.lc_model.specs.Host.ScheduleText.{lines_of, words_of}
 use Rattle.text_lines.specs.Lines.{is_blank}
@@ -13,15 +13,14 @@ use Rattle.scenario_trial.specs.declared.expectation_lines.LineFault.{LineFault}
 use Rattle.scenario_trial.specs.declared.expectation_lines.LineFault.TheVariants as line
 use Rattle.scenario_trial.specs.Expected.{Expected, expected_in, expected_of}
 
--- an expectation, with the number of its line from 1, and how many bytes of the script come before the line
+-- an expectation, with the number of its line from 1
 pub record PlacedExpected : Type 0 where
   pub n : ℕ
-  pub at : ℕ
   pub expected : Expected
 
 -- an expectation as it is held
 abbrev pub placed_of : Placed → PlacedExpected
-placed_of p = record { n = p.n; at = p.at; expected = expected_of p.expectation }
+placed_of p = record { n = p.n; expected = expected_of p.expectation }
 
 -- a line that says no expectation, and why
 pub record ReadFault : Type 0 where
@@ -54,24 +53,24 @@ abbrev pub line_expected : List (List ℕ) → Result (Option Expected) Expectat
 line_expected words = if is_expectation words then some_expected (expected_in (drop 1 words)) else Ok None
 
 -- those so far, and that of a line of this number, where there is one
-abbrev pub with_expected : List PlacedExpected → ℕ → ℕ → Option Expected → List PlacedExpected
-with_expected found n at None = found
-with_expected found n at (Some expected) = found ++ record { n = n; at = at; expected = expected } ∷ []
+abbrev pub with_expected : List PlacedExpected → ℕ → Option Expected → List PlacedExpected
+with_expected found n None = found
+with_expected found n (Some expected) = found ++ record { n = n; expected = expected } ∷ []
 
 -- ---- the whole script
 
--- what those so far become by the lines from this number on, where so many bytes come before
-abbrev pub lines_expected : List PlacedExpected → ℕ → ℕ → List (List ℕ) → Result (List PlacedExpected) ReadFault
-lines_expected found n at [] = Ok found
-lines_expected found n at (line ∷ lines) =
+-- what those so far become by the lines from this number on
+abbrev pub lines_expected : List PlacedExpected → ℕ → List (List ℕ) → Result (List PlacedExpected) ReadFault
+lines_expected found n [] = Ok found
+lines_expected found n (line ∷ lines) =
     elim (line_expected (words_of line)) [
       | Err fault ↦ Err (record { line = n; fault = fault })
-      | Ok expected ↦ lines_expected (with_expected found n at expected) (n + 1) (at + length line + 1) lines
+      | Ok expected ↦ lines_expected (with_expected found n expected) (n + 1) lines
     ]
 
 -- the expectations of a script, in order, or the fault of the least line
 abbrev pub expectations_in : List ℕ → Result (List PlacedExpected) ReadFault
-expectations_in script = lines_expected [] 1 0 (lines_of script)
+expectations_in script = lines_expected [] 1 (lines_of script)
 
 -- ---- without them
 

@@ -1,5 +1,5 @@
 -- Why a scenario isn't tried. This project's own.
-use Rattle.std.specs.Prelude.{◌≡◌, ℕ, false, List, take, Ok, Err, ⊤}
+use Rattle.std.specs.Prelude.{◌≡◌, ℕ, false, List, [], find, Some, Ok, Err, ⊤}
 use Rattle.lc_model.specs.Host.Schedule.{Schedule}
 use Rattle.scenarios.specs.Declarations.{Declarations, AreDeclared, nothing_declared}
 use Rattle.scenarios.specs.Error.{IsScenarioError}
@@ -18,8 +18,8 @@ use Rattle.scenario_trial.specs.declared.error.TrialError.{TrialError}
 use Rattle.scenario_trial.specs.declared.error.TrialError.TheVariants as trial
 use Rattle.scenario_trial.specs.declared.expectation_lines.ReadError.{ReadError}
 use Rattle.scenario_trial.specs.declared.expectation_lines.ReadError.TheVariants as reading
-use Rattle.scenario_trial.specs.Arrivals.{is_whole}
-use Rattle.scenario_trial.specs.Reading.{expectations_in, silenced_in}
+use Rattle.scenario_trial.specs.Arrivals.{has_no_rule, is_whole}
+use Rattle.scenario_trial.specs.Reading.{PlacedExpected, expectations_in, silenced_in}
 
 -- ---- as a trial's
 
@@ -73,15 +73,25 @@ IsUnexpected text lines (trial.Expectation (reading.Line n fault)) =
     (line : ℕ) × (expectations_in text ≡ Err (record { line = line; fault = fault })) × (n ≡ line_of lines line)
 IsUnexpected text lines other = ⊥
 
--- how a rule stands isn't found: a rule text doesn't compile, or what the script says in front of a place says no stream
-abbrev pub IsNotFound : (sources : List (List ℕ)) (text lines : List ℕ) → TrialError → Type 0
-IsNotFound sources text lines trial.Memory = ⊤
-IsNotFound sources text lines trial.Write = ⊤
-IsNotFound sources text lines (trial.Rules number why) = IsRefusal sources (course.Rules number why)
-IsNotFound sources text lines (trial.Script error) = (at : ℕ) × IsUnsaid (take at text) lines (trial.Script error)
-IsNotFound sources text lines (trial.Scenario error) = ⊥
-IsNotFound sources text lines (trial.Expectation error) = ⊥
-IsNotFound sources text lines (trial.Stopped n) = ⊥
+-- rule texts aren't run: one doesn't compile, or want of memory
+abbrev pub IsNotRun : List (List ℕ) → TrialError → Type 0
+IsNotRun sources trial.Memory = ⊤
+IsNotRun sources (trial.Rules number why) = IsRefusal sources (course.Rules number why)
+IsNotRun sources other = ⊥
+
+-- an expectation is about a rule that no text has: the first of these, by the scenario's line that says it
+abbrev pub IsFirstOfNobody : Declarations → List PlacedExpected → List ℕ → ℕ → Type 0
+IsFirstOfNobody declared expectations lines n =
+    (placed : PlacedExpected) × (find (has_no_rule declared) expectations ≡ Some placed) × (n ≡ line_of lines placed.n)
+
+abbrev pub IsOfNobody : Declarations → List PlacedExpected → List ℕ → TrialError → Type 0
+IsOfNobody declared expectations lines (trial.NoRule n) = IsFirstOfNobody declared expectations lines n
+IsOfNobody declared expectations lines other = ⊥
+
+-- one of the expectations of a script is
+abbrev pub AsksForNobody : Declarations → PlainScript → ℕ → Type 0
+AsksForNobody declared plain n =
+    (expectations : List PlacedExpected) × (expectations_in plain.script ≡ Ok expectations) × IsFirstOfNobody declared expectations plain.lines n
 
 -- without its expectations a plain script says a stream, and the run over it stops before its end
 pub record StopsEarly (sources : List (List ℕ)) (schedule : Schedule) (script : List ℕ) : Type 0 where
@@ -91,39 +101,47 @@ pub record StopsEarly (sources : List (List ℕ)) (schedule : Schedule) (script 
   pub traced : IsTraced sources schedule stream trace
   pub early : is_whole trace.ending ≡ false
 
--- a plain script isn't tried: one of its lines says no expectation, without these it says no stream, or the run over that stops early
-abbrev pub IsPlainUntried : (sources : List (List ℕ)) (schedule : Schedule) → PlainScript → TrialError → Type 0
-IsPlainUntried sources schedule plain trial.Memory = ⊤
-IsPlainUntried sources schedule plain trial.Write = ⊤
-IsPlainUntried sources schedule plain (trial.Rules number why) = IsRefusal sources (course.Rules number why)
-IsPlainUntried sources schedule plain (trial.Script error) = (at : ℕ) × IsUnsaid (take at (silenced_in plain.script)) plain.lines (trial.Script error)
-IsPlainUntried sources schedule plain (trial.Scenario error) = ⊥
-IsPlainUntried sources schedule plain (trial.Expectation error) = IsUnexpected plain.script plain.lines (trial.Expectation error)
-IsPlainUntried sources schedule plain (trial.Stopped n) = StopsEarly sources schedule plain.script
+-- a plain script isn't tried: one of its lines says no expectation, or one about a rule that no text has; without these it says no stream,
+-- or the run over that stops early
+abbrev pub IsPlainUntried : (sources : List (List ℕ)) (schedule : Schedule) → Declarations → PlainScript → TrialError → Type 0
+IsPlainUntried sources schedule declared plain trial.Memory = ⊤
+IsPlainUntried sources schedule declared plain trial.Write = ⊤
+IsPlainUntried sources schedule declared plain (trial.Rules number why) = IsRefusal sources (course.Rules number why)
+IsPlainUntried sources schedule declared plain (trial.Script error) = IsUnsaid (silenced_in plain.script) plain.lines (trial.Script error)
+IsPlainUntried sources schedule declared plain (trial.Scenario error) = ⊥
+IsPlainUntried sources schedule declared plain (trial.Expectation error) = IsUnexpected plain.script plain.lines (trial.Expectation error)
+IsPlainUntried sources schedule declared plain (trial.NoRule n) = AsksForNobody declared plain n
+IsPlainUntried sources schedule declared plain (trial.Stopped n) = StopsEarly sources schedule plain.script
 
 -- what is held of a plain script
 abbrev pub plain_script_of : Plain → PlainScript
 plain_script_of plain = record { script = plain.text.items; lines = plain.lines.items }
 
 -- the plain script that a scenario is short for, in the words that the rule texts declare
-pub record IsPlainOf (sources : List (List ℕ)) (scenario : List ℕ) (plain : PlainScript) : Type 0 where
-  pub declared : Declarations
+pub record IsPlainOf (sources : List (List ℕ)) (scenario : List ℕ) (declared : Declarations) (plain : PlainScript) : Type 0 where
   pub declares : AreDeclared sources nothing_declared declared
-  pub short : plain_in declared scenario ≡ Ok plain
+  pub short : plain_in declared [] scenario ≡ Ok plain
 
 -- a scenario says no plain script in these words
 abbrev pub SaysNoScript : (sources : List (List ℕ)) (text : List ℕ) → ScenarioError → Type 0
 SaysNoScript sources text scenario.Memory = ⊥
 SaysNoScript sources text (scenario.Line n reason) =
-    (declared : Declarations) × AreDeclared sources nothing_declared declared × IsScenarioError (plain_in declared text) (scenario.Line n reason)
+    (declared : Declarations) × AreDeclared sources nothing_declared declared × IsScenarioError (plain_in declared [] text) (scenario.Line n reason)
+
+-- its plain script isn't tried, for this reason
+abbrev pub HasNoTrial : (sources : List (List ℕ)) (schedule : Schedule) (text : List ℕ) → TrialError → Type 0
+HasNoTrial sources schedule text error =
+    (declared : Declarations) × (plain : PlainScript) × IsPlainOf sources text declared plain × IsPlainUntried sources schedule declared plain error
 
 -- Why a scenario isn't tried: the first rule text that doesn't compile, the first of its lines that says nothing, or that says no
--- expectation, or of what is left of it nothing of a stream; a run that stops early; want of memory, or a writer that fails.
+-- expectation, or one about a rule that no text has, or of what is left of it nothing of a stream; a run that stops early; want of memory,
+-- or a writer that fails.
 abbrev pub IsUntried : (sources : List (List ℕ)) (schedule : Schedule) (text : List ℕ) → TrialError → Type 0
 IsUntried sources schedule text (trial.Rules number why) = IsRefusal sources (course.Rules number why)
 IsUntried sources schedule text (trial.Scenario error) = SaysNoScript sources text error
-IsUntried sources schedule text (trial.Script error) = (plain : PlainScript) × IsPlainOf sources text plain × IsPlainUntried sources schedule plain (trial.Script error)
-IsUntried sources schedule text (trial.Expectation error) = (plain : PlainScript) × IsPlainOf sources text plain × IsPlainUntried sources schedule plain (trial.Expectation error)
-IsUntried sources schedule text (trial.Stopped n) = (plain : PlainScript) × IsPlainOf sources text plain × IsPlainUntried sources schedule plain (trial.Stopped n)
+IsUntried sources schedule text (trial.Script error) = HasNoTrial sources schedule text (trial.Script error)
+IsUntried sources schedule text (trial.Expectation error) = HasNoTrial sources schedule text (trial.Expectation error)
+IsUntried sources schedule text (trial.NoRule n) = HasNoTrial sources schedule text (trial.NoRule n)
+IsUntried sources schedule text (trial.Stopped n) = HasNoTrial sources schedule text (trial.Stopped n)
 IsUntried sources schedule text trial.Memory = ⊤
 IsUntried sources schedule text trial.Write = ⊤

@@ -28,6 +28,9 @@ pub enum TrialError {
     /// A rule text doesn't compile. Texts count from 0.
     #[error("text {text}: {error}")]
     Rules { text: usize, error: CompileError },
+    /// This line of the scenario, counted from 1, expects something of a rule that no text has.
+    #[error("no rule text that is given has this rule")]
+    NoRule { n: usize },
     /// The run stops at the record that this line of the scenario, counted from 1, says.
     #[error("the run stops here: no rule text of this number is given")]
     Stopped { n: usize },

@@ -44,6 +44,8 @@ pub enum Expectation<'a> {
 /// A request or an event that came, by its number, and the second of its record.
 #[derive(Clone, Copy, Debug, PartialEq, Eq)]
 pub struct Arrival {
+    /// The number of its record, from 0.
+    pub place: usize,
     pub second: u32,
     pub is_event: bool,
     pub number: u16,

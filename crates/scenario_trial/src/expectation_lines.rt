@@ -3,7 +3,7 @@
 //! A line whose first word is `expect` says nothing of the stream. For whoever reads the stream it is made a comment, byte for
 //! byte in its place, so that every line keeps its number.
 
-ghost use Rattle.std.specs.Prelude.{◌≡◌, ◌+◌, ◌++◌, ◌∷◌, ℕ, List, drop, length, map, option_map, Ok, Err, IfOk, IfErr, IsErr};
+ghost use Rattle.std.specs.Prelude.{◌≡◌, ◌+◌, ◌++◌, ◌∷◌, ℕ, List, drop, map, option_map, Ok, Err, IfOk, IfErr, IsErr};
 ghost use Rattle.lc_model.specs.Host.ScheduleText.{words_of};
 ghost use Rattle.text_lines.specs.Lines.{texts_of};
 ghost use Rattle.scenario_trial.specs.Expected.{expected_of};
@@ -59,8 +59,6 @@ impl From<AllocError> for ReadError {
 pub struct Placed<'a> {
     /// The line's number, from 1.
     pub n: usize,
-    /// How many bytes of the script come before the line.
-    pub at: usize,
     /// The line, without blanks around it.
     pub line: &'a [u8],
     pub expectation: Expectation<'a>,
@@ -131,12 +129,11 @@ fn line_expected<'a>(alloc: Global, line: &'a [u8]) -> Result<Option<Expectation
 fn with_expected<'a>(
     found: Vec<Placed<'a>>,
     n: usize,
-    at: usize,
     line: &'a [u8],
     expectation: Option<Expectation<'a>>,
 ) -> Result<Vec<Placed<'a>>, AllocError>
     ensures { IfOk result (λ after. map placed_of after.items ≡
-        with_expected (map placed_of found.entry.items) n at
+        with_expected (map placed_of found.entry.items) n
         (option_map expected_of expectation.entry)) }
 {
     let mut found = found;
@@ -144,7 +141,6 @@ fn with_expected<'a>(
         None => {}
         Some(expectation) => found.push(Placed {
             n,
-            at,
             line: line.trim_ascii(),
             expectation,
         })?,
@@ -157,18 +153,16 @@ fn read_line<'a>(
     alloc: Global,
     found: Vec<Placed<'a>>,
     n: usize,
-    at: usize,
     line: &'a [u8],
 ) -> Result<Vec<Placed<'a>>, ReadError>
     ensures said { IfOk result (λ after. (lines : List (List ℕ)) →
-        lines_expected (map placed_of found.entry.items) n at (line.now ∷ lines) ≡
-        lines_expected (map placed_of after.items) (n + 1) (at + length line.now + 1) lines) }
+        lines_expected (map placed_of found.entry.items) n (line.now ∷ lines) ≡
+        lines_expected (map placed_of after.items) (n + 1) lines) }
     ensures refused { IfErr result (λ error. (lines : List (List ℕ)) →
-        IsReadError (lines_expected (map placed_of found.entry.items) n at (line.now ∷ lines))
-        error) }
+        IsReadError (lines_expected (map placed_of found.entry.items) n (line.now ∷ lines)) error) }
 {
     match line_expected(alloc, line) {
-        Ok(expectation) => Ok(with_expected(found, n, at, line, expectation)?),
+        Ok(expectation) => Ok(with_expected(found, n, line, expectation)?),
         Err(LineFault::Says(fault)) => Err(ReadError::Line { n, fault }),
         Err(LineFault::Memory) => Err(ReadError::Memory),
     }
@@ -183,15 +177,13 @@ fn read_lines(alloc: Global, script: &[u8]) -> Result<Vec<Placed<'_>>, ReadError
     let mut found = Vec::new(alloc);
     let mut left = Some(script);
     let mut n = 0;
-    let mut at = 0;
     while let Some(text) = left {
         let (line, rest) = first_line(text);
         n += 1;
-        match read_line(alloc, found, n, at, line) {
+        match read_line(alloc, found, n, line) {
             Ok(after) => found = after,
             Err(error) => return Err(error),
         }
-        at += line.len() + 1;
         left = rest;
     }
     Ok(found)

@@ -35,7 +35,13 @@ pub enum Unmet<'a> {
 impl Display for Arrival {
     fn fmt<W: Write>(&self, f: &mut Formatter<W>) -> fmt::Result {
         let word = if self.is_event { "event" } else { "sequence" };
-        write!(f, "{word} {} in second {}", self.number, self.second)
+        write!(
+            f,
+            "{word} {} in second {} (record {})",
+            self.number,
+            self.second,
+            self.place.saturating_add(1)
+        )
     }
 }
 
@@ -122,7 +128,7 @@ fn result_word(last: Option<ApResult>) -> &'static str
 /// Says how a rule isn't found.
 fn say_not_found<W: Write>(found: RuleStanding, f: &mut Formatter<W>) -> fmt::Result {
     match found {
-        RuleStanding::NoRule => write!(f, "there is no such rule"),
+        RuleStanding::NoRule => write!(f, "the tables in force have no such rule"),
         RuleStanding::Stopped => write!(f, "the Limit Checker doesn't run"),
         RuleStanding::Stands { .. } => Ok(()),
     }

@@ -1,27 +1,33 @@
 //! A run of a script, and whether what it expects has come.
 
-ghost use Rattle.std.specs.Prelude.{◌≡◌, filter_map, map, Ok, IfErr, IfOk};
+ghost use Rattle.std.specs.Prelude.{◌≡◌, filter_map, find, length, map, None, Ok, IfErr, IfOk};
 ghost use Rattle.std.specs.List.{AllByRecursion};
-ghost use Rattle.flight_core.specs.Compiled.{sources_of};
-ghost use Rattle.scenario_trial.specs.Arrivals.{IsFound, IsJudged, IsNamed, IsNumbered, IsPlainTried, IsTried, StandsAt, arrival_of, placed_in, rule_in, rule_numbered};
-ghost use Rattle.scenario_trial.specs.Expected.{expected_of};
+ghost use Rattle.flight_core.specs.Compiled.{AreAllCompiled, sources_of};
+ghost use Rattle.run_stepper.specs.Trace.{IsTraced, arrived_from};
+ghost use Rattle.scenario_trial.specs.Arrivals.{AreAhead, IsFound, arrival_of, arrivals_of, has_no_rule, placed_in};
+ghost use Rattle.scenario_trial.specs.Judged.{unmet_of};
+ghost use Rattle.scenario_trial.specs.Outcomes.{IsPlainTried, IsTried};
 ghost use Rattle.scenario_trial.specs.Reading.{expectations_in, placed_of};
-ghost use Rattle.scenario_trial.specs.Untried.{IsNotFound, IsPlainUntried, IsUnexpected, IsUnsaid, IsUntried, plain_script_of, script_error_at};
+ghost use Rattle.scenario_trial.specs.Untried.{IsNotRun, IsOfNobody, IsOwn, IsPlainUntried, IsUnexpected, IsUnsaid, IsUntried, plain_script_of, script_error_at};
+ghost use Rattle.scenario_trial.specs.Warned.{warnings_of};
+ghost use Rattle.stream_script.specs.ByLines.{AreStarts};
 ghost use Rattle.stream_script.specs.Script.{script_in};
 
 use crate::error::TrialError;
 use crate::expectation::{Arrival, Coming, Expectation};
 use crate::expectation_lines::{Placed, read_expectations, silence};
+use crate::judging::Trial;
 use crate::stopping::{is_whole, stop_line};
 use crate::telling::Unmet;
 use crate::verdict::{Judged, unmet_of};
+use crate::warning::{TrialWarning, warnings_of};
 use diagnostics::Many;
 use packet_listing::{PacketLine, Sent, read_packet};
-use run_stepper::{Came, RuleStanding, RunInputs, read_texts, standing_of, trace_of};
+use run_stepper::{Came, RunInputs, Trace, Walk, compile_texts, read_texts};
 use scenarios::{DeclaredItems, Plain, declared_in, plain_script};
 use std::alloc::{AllocError, Global};
 use std::io::{self, Write};
-use stream_script::{ScriptError, read_script};
+use stream_script::{ScriptError, ScriptStream, read_script_by_lines};
 
 /// What a trial came to: how many expectations there are, and how many weren't met.
 #[derive(Clone, Copy, Debug, PartialEq, Eq)]
@@ -30,13 +36,21 @@ pub struct Tried {
     pub unmet: u64,
 }
 
+/// What a trial came to, and what is to be looked at in its script.
+#[derive(Drop)]
+pub struct TrialOutcome {
+    pub tried: Tried,
+    pub warnings: Vec<TrialWarning>,
+}
+
 /// A request or an event of the Limit Checker, by its number, in the second of its record.
 fn arrival(came: &Came<'_>) -> Option<Arrival>
     ensures { result ≡ arrival_of came.now }
 {
-    let second = came.moment.seconds;
+    let (place, second) = (came.place, came.moment.seconds);
     match read_packet(came.packet) {
         Some(Sent::Request(number)) => Some(Arrival {
+            place,
             second,
             is_event: false,
             number,
@@ -45,6 +59,7 @@ fn arrival(came: &Came<'_>) -> Option<Arrival>
             let checker: &[u8] = b"LC";
             if event.sender == checker {
                 Some(Arrival {
+                    place,
                     second,
                     is_event: true,
                     number: event.id,
@@ -84,86 +99,6 @@ fn list_all<W: Write>(came: &[Came<'_>], out: &mut W) -> io::Result<()> {
     Ok(())
 }
 
-/// A run of a scenario: the rule texts and the schedule, what the texts declare, its plain script with the lines that say that, and
-/// the script without its expectations.
-#[derive(Clone, Copy)]
-struct Trial<'a, 't> {
-    alloc: Global,
-    plan: RunInputs<'a>,
-    declared: &'a DeclaredItems<'t>,
-    plain: &'a Plain,
-    script: &'a [u8],
-}
-
-impl Trial<'_, '_> {
-    /// How the rule with this number stands behind what the script says before a place.
-    fn standing_at(&self, at: usize, rule: usize) -> Result<RuleStanding, TrialError>
-        ensures stands { IfOk result (StandsAt (sources_of self.now.plan.texts.now)
-            self.now.plan.schedule.now self.now.declared.now self.now.script.now at rule) }
-        ensures refused { IfErr result (IsNotFound (sources_of self.now.plan.texts.now)
-            self.now.script.now self.now.plain.now.lines.items) }
-    {
-        let (front, _) = self.script.split_at(at.min(self.script.len()));
-        let stream = stream_of(self.alloc, self.plain, front)?;
-        let standing = standing_of(
-            self.alloc,
-            self.plan.texts,
-            self.plan.schedule,
-            stream.as_slice(),
-            rule,
-        )?;
-        Ok(standing)
-    }
-
-    /// How the rule of this name stands there.
-    fn named_at(&self, at: usize, name: &[u8]) -> Result<RuleStanding, TrialError>
-        ensures stands { IfOk result (IsNumbered (sources_of self.now.plan.texts.now)
-            self.now.plan.schedule.now self.now.declared.now self.now.script.now at
-            (rule_numbered self.now.declared.now name.now)) }
-        ensures refused { IfErr result (IsNotFound (sources_of self.now.plan.texts.now)
-            self.now.script.now self.now.plain.now.lines.items) }
-    {
-        match self.declared.rule_number(name) {
-            Some(rule) => self.standing_at(at, usize::from(rule)),
-            None => Ok(RuleStanding::NoRule),
-        }
-    }
-
-    /// How the rule stands that an expectation names.
-    fn standing_of(&self, placed: &Placed<'_>) -> Result<RuleStanding, TrialError>
-        ensures stands { IfOk result (IsNamed (sources_of self.now.plan.texts.now)
-            self.now.plan.schedule.now self.now.declared.now self.now.script.now placed.now.at
-            (rule_in (expected_of placed.now.expectation))) }
-        ensures refused { IfErr result (IsNotFound (sources_of self.now.plan.texts.now)
-            self.now.script.now self.now.plain.now.lines.items) }
-    {
-        match placed.expectation {
-            Expectation::Comes(_) | Expectation::Absent(_) => Ok(RuleStanding::NoRule),
-            Expectation::State(name, _) => self.named_at(placed.at, name),
-            Expectation::Result(name, _) => self.named_at(placed.at, name),
-        }
-    }
-
-    /// The expectations, each with how its rule stands.
-    fn judge_each<'p>(&self, expectations: &[Placed<'p>]) -> Result<Vec<Judged<'p>>, TrialError>
-        ensures each { IfOk result (λ judged. map placed_in judged.items ≡ expectations.now) }
-        ensures found { IfOk result (λ judged. AllByRecursion (IsFound
-            (sources_of self.now.plan.texts.now) self.now.plan.schedule.now
-            self.now.declared.now self.now.script.now) judged.items) }
-        ensures refused { IfErr result (IsNotFound (sources_of self.now.plan.texts.now)
-            self.now.script.now self.now.plain.now.lines.items) }
-    {
-        let mut judged = Vec::new(self.alloc);
-        for placed in expectations {
-            judged.push(Judged {
-                placed: *placed,
-                found: self.standing_of(placed)?,
-            })?;
-        }
-        Ok(judged)
-    }
-}
-
 /// Why an expectation isn't met that isn't.
 fn why<'a>(arrivals: &'a [Arrival], judged: &Judged<'_>) -> Unmet<'a> {
     match judged.placed.expectation {
@@ -192,7 +127,7 @@ fn tell<W: Write>(
 ) -> io::Result<()> {
     for one in unmet {
         let why = why(arrivals, one);
-        write!(out, "{name}:{}: not met: ", plain.line(one.placed.n))?;
+        write!(out, "{name}:{}:1: error[unmet]: ", plain.line(one.placed.n))?;
         out.write_all(one.placed.line)?;
         writeln!(out, ": {why}")?;
     }
@@ -212,13 +147,14 @@ pub fn script_error_at(plain: &Plain, error: ScriptError) -> ScriptError
     }
 }
 
-/// The stream of a plain script without its expectations, or of what stands in front of one of them.
-fn stream_of(alloc: Global, plain: &Plain, quiet: &[u8]) -> Result<Vec<u8>, TrialError>
-    ensures said { IfOk result (λ stream. script_in quiet.now ≡ Ok stream.items) }
+/// The stream of a plain script without its expectations, with where each of its lines begins.
+fn stream_of(alloc: Global, plain: &Plain, quiet: &[u8]) -> Result<ScriptStream, TrialError>
+    ensures said { IfOk result (λ all. script_in quiet.now ≡ Ok all.stream.items) }
+    ensures starts { IfOk result (λ all. AreStarts quiet.now all.stream.items all.starts.items) }
     ensures refused { IfErr result (IsUnsaid quiet.now plain.now.lines.items) }
 {
-    match read_script(alloc, quiet) {
-        Ok(stream) => Ok(stream),
+    match read_script_by_lines(alloc, quiet) {
+        Ok(all) => Ok(all),
         Err(error) => Err(TrialError::from(script_error_at(plain, error))),
     }
 }
@@ -236,83 +172,176 @@ fn expectations_of<'p>(alloc: Global, plain: &'p Plain) -> Result<Vec<Placed<'p>
     }
 }
 
-/// What a trial of these expectations came to: writes a line for each that isn't met, and a last one with how many there are.
-fn judge<W: Write>(
-    trial: &Trial<'_, '_>,
-    name: &str,
+/// Whether an expectation is about a rule that no text has.
+fn has_no_rule(declared: &DeclaredItems<'_>, placed: &Placed<'_>) -> bool
+    ensures { result ≡ has_no_rule declared.now (placed_of placed.now) }
+{
+    match placed.expectation.rule() {
+        Some(name) => declared.rule_number(None, name).is_none(),
+        None => false,
+    }
+}
+
+/// The first of these expectations that is about a rule that no text has is refused.
+fn check_rules(
+    plain: &Plain,
+    declared: &DeclaredItems<'_>,
     expectations: &[Placed<'_>],
+) -> Result<(), TrialError>
+    ensures known { IfOk result (λ _. find (has_no_rule declared.now)
+        (map placed_of expectations.now) ≡ None) }
+    ensures refused { IfErr result (IsOfNobody declared.now (map placed_of expectations.now)
+        plain.now.lines.items) }
+{
+    for placed in expectations {
+        if has_no_rule(declared, placed) {
+            return Err(TrialError::NoRule {
+                n: plain.line(placed.n),
+            });
+        }
+    }
+    Ok(())
+}
+
+/// What becomes of a run: each expectation with how its rule stands, and what each record led to.
+fn run<'p>(
+    trial: &Trial<'_, '_>,
+    expectations: &[Placed<'p>],
+) -> Result<(Vec<Judged<'p>>, Trace), TrialError>
+    requires compiled { AreAllCompiled (sources_of trial.now.inputs.texts.now) trial.now.pairs.now }
+    requires starts { AreStarts trial.now.script.now trial.now.stream.now trial.now.starts.now }
+    requires ahead { AreAhead 0 trial.now.starts.now expectations.now }
+    ensures traced { IfOk result (λ found. IsTraced (sources_of trial.now.inputs.texts.now)
+        trial.now.inputs.schedule.now trial.now.stream.now found.1) }
+    ensures each { IfOk result (λ found. map placed_in found.0.items ≡ expectations.now) }
+    ensures found { IfOk result (λ found. AllByRecursion (IsFound
+        (sources_of trial.now.inputs.texts.now) trial.now.inputs.schedule.now
+        trial.now.declared.now trial.now.script.now) found.0.items) }
+    ensures refused { IfErr result (IsNotRun (sources_of trial.now.inputs.texts.now)) }
+{
+    let mut walk = Walk::begin(trial.alloc, trial.inputs, trial.stream)?;
+    match trial.judge_each(&mut walk, expectations) {
+        Ok(judged) => {
+            let finished = walk.finish();
+            let trace = walk.close();
+            finished?;
+            Ok((judged, trace))
+        }
+        Err(error) => {
+            let _trace = walk.close();
+            Err(error)
+        }
+    }
+}
+
+/// Writes a line for each expectation that isn't met, and a last one with how many there are.
+fn report<W: Write>(
+    alloc: Global,
+    script: (&str, &Plain),
     arrivals: &[Arrival],
+    judged: &[Judged<'_>],
     out: &mut W,
 ) -> Result<Tried, TrialError>
-    ensures judged { IfOk result (λ tried. IsJudged (sources_of trial.now.plan.texts.now)
-        trial.now.plan.schedule.now trial.now.declared.now trial.now.script.now
-        (map placed_of expectations.now) arrivals.now tried) }
-    ensures refused { IfErr result (IsNotFound (sources_of trial.now.plan.texts.now)
-        trial.now.script.now trial.now.plain.now.lines.items) }
+    ensures counted { IfOk result (λ tried. tried ≡ record {
+      expected = length judged.now;
+      unmet = length (unmet_of arrivals.now judged.now);
+    }) }
+    ensures own { IfErr result IsOwn }
 {
-    let judged = trial.judge_each(expectations)?;
-    let unmet = unmet_of(trial.alloc, arrivals, judged.as_slice())?;
-    tell(name, trial.plain, arrivals, unmet.as_slice(), out)?;
+    let (name, plain) = script;
+    let unmet = unmet_of(alloc, arrivals, judged)?;
+    tell(name, plain, arrivals, unmet.as_slice(), out)?;
     let tried = Tried {
-        expected: expectations.len() as u64,
+        expected: judged.len() as u64,
         unmet: unmet.len() as u64,
     };
-    let (all, unmet) = (Many(expectations.len(), "expectation"), tried.unmet);
+    let (all, unmet) = (Many(judged.len(), "expectation"), tried.unmet);
     writeln!(out, "{name}: {all}, {unmet} not met")?;
     Ok(tried)
 }
 
-/// What becomes of a plain script: a run over the stream that it says without its expectations, which are judged, where it has some;
-/// where it has none, the packets that came are listed. A run that stops before the stream's end is refused.
+/// What becomes of a run that went to its stream's end: its expectations are judged by what came, where it has some; where it has none,
+/// the packets that came are listed.
+fn judge<W: Write>(
+    trial: &Trial<'_, '_>,
+    script: (&str, &Plain),
+    expectations: &[Placed<'_>],
+    judged: &[Judged<'_>],
+    trace: &Trace,
+    out: &mut W,
+) -> Result<TrialOutcome, TrialError>
+    ensures counted { IfOk result (λ outcome. outcome.tried ≡ record {
+      expected = length judged.now;
+      unmet = length (unmet_of (arrivals_of trace.now) judged.now);
+    }) }
+    ensures warned { IfOk result (λ outcome. outcome.warnings.items ≡ warnings_of
+        trial.now.declared.now script.entry.1.now.lines.items (map placed_of expectations.now)
+        (arrived_from 0 trace.now.parts)) }
+    ensures own { IfErr result IsOwn }
+{
+    let came = trace.came(trial.alloc)?;
+    let arrivals = arrivals_of(trial.alloc, came.as_slice())?;
+    let warnings = warnings_of(
+        trial.alloc,
+        trial.declared,
+        script.1,
+        expectations,
+        came.as_slice(),
+        arrivals.as_slice(),
+    )?;
+    if judged.is_empty() {
+        list_all(came.as_slice(), out)?;
+        let tried = Tried {
+            expected: 0,
+            unmet: 0,
+        };
+        return Ok(TrialOutcome { tried, warnings });
+    }
+    let tried = report(trial.alloc, script, arrivals.as_slice(), judged, out)?;
+    Ok(TrialOutcome { tried, warnings })
+}
+
+/// What becomes of a plain script: a run over the stream that it says without its expectations, which are judged. A run that stops
+/// before the stream's end is refused, and so is an expectation about a rule that no text has.
 fn try_plain<W: Write>(
     alloc: Global,
     name: &str,
-    plan: RunInputs<'_>,
+    inputs: RunInputs<'_>,
     declared: &DeclaredItems<'_>,
     plain: &Plain,
     out: &mut W,
-) -> Result<Tried, TrialError>
-    ensures tried { IfOk result (λ tried. IsPlainTried (sources_of plan.entry.texts.now)
-        plan.entry.schedule.now declared.now plain.now.text.items tried) }
-    ensures refused { IfErr result (IsPlainUntried (sources_of plan.entry.texts.now)
-        plan.entry.schedule.now (plain_script_of plain.now)) }
+) -> Result<TrialOutcome, TrialError>
+    ensures tried { IfOk result (IsPlainTried (sources_of inputs.entry.texts.now)
+        inputs.entry.schedule.now declared.now (plain_script_of plain.now)) }
+    ensures refused { IfErr result (IsPlainUntried (sources_of inputs.entry.texts.now)
+        inputs.entry.schedule.now declared.now (plain_script_of plain.now)) }
 {
     let expectations = expectations_of(alloc, plain)?;
+    check_rules(plain, declared, expectations.as_slice())?;
     let quiet = silence(alloc, plain.text.as_slice())?;
-    let stream = stream_of(alloc, plain, quiet.as_slice())?;
-    let trace = trace_of(alloc, plan.texts, plan.schedule, stream.as_slice())?;
-    if !is_whole(trace.ending()) {
-        return Err(TrialError::Stopped {
-            n: stop_line(
-                alloc,
-                plain,
-                quiet.as_slice(),
-                stream.as_slice(),
-                trace.ending(),
-            )?,
-        });
-    }
-    let came = trace.came(alloc)?;
-    if expectations.is_empty() {
-        list_all(came.as_slice(), out)?;
-        return Ok(Tried {
-            expected: 0,
-            unmet: 0,
-        });
-    }
-    let arrivals = arrivals_of(alloc, came.as_slice())?;
+    let said = stream_of(alloc, plain, quiet.as_slice())?;
+    let pairs = compile_texts(alloc, inputs.texts)?;
     let trial = Trial {
         alloc,
-        plan,
+        inputs,
+        pairs: pairs.as_slice(),
         declared,
-        plain,
         script: quiet.as_slice(),
+        stream: said.stream.as_slice(),
+        starts: said.starts.as_slice(),
     };
+    let (judged, trace) = run(&trial, expectations.as_slice())?;
+    if !is_whole(trace.ending()) {
+        return Err(TrialError::Stopped {
+            n: plain.line(stop_line(&said, trace.ending())),
+        });
+    }
     judge(
         &trial,
-        name,
+        (name, plain),
         expectations.as_slice(),
-        arrivals.as_slice(),
+        judged.as_slice(),
+        &trace,
         out,
     )
 }
@@ -321,15 +350,15 @@ fn try_plain<W: Write>(
 /// a line is written for each expectation that isn't met, with what came in its place, and a last one with how many there are.
 ///
 /// Errors: `Rules` with the first text that doesn't compile, and `Scenario`, `Expectation` and `Script` with the first line that
-/// can't be read, and `Stopped` with the line whose record stopped the run, before anything is written; `Memory`; `Write`, where the
-/// writer fails.
+/// can't be read, `NoRule` with the first expectation about a rule that no text has, and `Stopped` with the line whose record stopped the
+/// run, before anything is written; `Memory`; `Write`, where the writer fails.
 pub fn try_scenario<W: Write>(
     alloc: Global,
     name: &str,
     scenario: &[u8],
     plan: RunInputs<'_>,
     out: &mut W,
-) -> Result<Tried, TrialError>
+) -> Result<TrialOutcome, TrialError>
     ensures tried { IfOk result (IsTried (sources_of plan.entry.texts.now) plan.entry.schedule.now
         scenario.now) }
     ensures refused { IfErr result (IsUntried (sources_of plan.entry.texts.now)
@@ -337,6 +366,6 @@ pub fn try_scenario<W: Write>(
 {
     let texts = read_texts(alloc, plan.texts)?;
     let declared = declared_in(alloc, texts.as_slice())?;
-    let plain = plain_script(alloc, scenario, &declared)?;
+    let plain = plain_script(alloc, scenario, &declared, &[])?;
     try_plain(alloc, name, plan, &declared, &plain, out)
 }

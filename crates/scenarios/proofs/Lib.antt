@@ -1,6 +1,10 @@
 mod Digits
 mod Short
-mod Fields
+mod Places
 mod Values
 mod Steps
 mod TextsDeclare
+mod Packets
+mod Reading
+mod Written
+mod Apart

@@ -1,10 +1,10 @@
 -- Words that are too few, or too many.
-use Rattle.std.proofs.Common.{◌≡◌, refl, ℕ, ◌<◌, ◌≤◌, List, [], ◌∷◌, length, arith, Err}
+use Rattle.std.proofs.Common.{◌≡◌, refl, ℕ, ◌<◌, ◌≤◌, List, [], ◌∷◌, length, arith, Err, Option}
 use denote.Ref.{Bor}
 use Rattle.text_lines.specs.Lines.{texts_of}
-use Rattle.scenarios.specs.declared.error.Reason.TheVariants.{NoFilter, NoRamp, NoRepeat}
-use Rattle.scenarios.specs.Named.{NamedField}
-use Rattle.scenarios.specs.Orders.{filter_line}
+use Rattle.scenarios.specs.declared.error.Reason.TheVariants.{NoFilter, NoRamp, NoRepeat, NoState}
+use Rattle.scenarios.specs.Named.{NamedField, NamedRule}
+use Rattle.scenarios.specs.Orders.{filter_line, state_line}
 use Rattle.scenarios.specs.Plain.{times_in}
 use Rattle.scenarios.specs.Ramp.{ramp_in, ramp_paced}
 
@@ -47,3 +47,14 @@ many_filter (a ∷ []) many = absurd (omega (arith, many))
 many_filter (a ∷ b ∷ []) many = absurd (omega (arith, many))
 many_filter (a ∷ b ∷ c ∷ []) many = absurd (omega (arith, many))
 many_filter (a ∷ b ∷ c ∷ d ∷ words) many = refl
+
+pub few_state : (rules : List NamedRule) (force : Option ℕ) (words : List (Bor (List ℕ))) → length words < 2 → state_line rules force (texts_of words) ≡ Err NoState
+few_state rules force [] few = refl
+few_state rules force (a ∷ []) few = refl
+few_state rules force (a ∷ b ∷ words) few = absurd (omega (arith, few))
+
+pub many_state : (rules : List NamedRule) (force : Option ℕ) (words : List (Bor (List ℕ))) → 3 ≤ length words → state_line rules force (texts_of words) ≡ Err NoState
+many_state rules force [] many = absurd (omega (arith, many))
+many_state rules force (a ∷ []) many = absurd (omega (arith, many))
+many_state rules force (a ∷ b ∷ []) many = absurd (omega (arith, many))
+many_state rules force (a ∷ b ∷ c ∷ words) many = refl

@@ -1,5 +1,5 @@
 -- Commands in words: modes, states of rules, and filters of events. This project's own.
-use Rattle.std.specs.Prelude.{ℕ, Bool, not, ◌&&◌, List, [], ◌∷◌, ◌++◌, length, codes, bytes_eq, nat_le, Option, Some, None, find, option_map, Result, Ok, Err, if◌then◌else◌}
+use Rattle.std.specs.Prelude.{ℕ, Bool, not, ◌&&◌, List, [], ◌∷◌, ◌++◌, length, codes, bytes_eq, nat_le, Option, Some, None, option_map, Result, Ok, Err, if◌then◌else◌}
 use Rattle.std.specs.Fmt.{decimal}
 use Rattle.lc_model.specs.Bytes.{u16, zero_filled}
 use Rattle.lc_model.specs.Codes.{state_code}
@@ -12,6 +12,7 @@ use Rattle.scenarios.specs.declared.error.Reason.TheVariants.{NoFilter, NoMode, 
 use Rattle.scenarios.specs.Error.{◌>>=◌}
 use Rattle.scenarios.specs.Named.{NamedRule}
 use Rattle.scenarios.specs.Number.{number_in}
+use Rattle.scenarios.specs.Rules.{rule_named}
 
 -- `command MID CODE BYTES`
 abbrev pub command_line : (mid code : ℕ) → List ℕ → List ℕ
@@ -31,7 +32,7 @@ abbrev pub mode_line : List (List ℕ) → Result (List ℕ) Reason
 mode_line (mode ∷ []) = mode_by (standing_number mode)
 mode_line words = Err NoMode
 
--- ---- `state RULE STATE`: the Limit Checker's command 3, or 4 where the rule is off from then on
+-- ---- `state RULE STATE`, where a text is in force: the Limit Checker's command 3, or 4 where the rule is off from then on
 
 -- the word of all rules, and their number
 abbrev pub is_all : List ℕ → Bool
@@ -40,13 +41,13 @@ is_all word = bytes_eq word (codes "all")
 abbrev pub all_rules : ℕ
 all_rules = 65535
 
--- the number of the first rule of a name
+-- the number of a rule that is there
 abbrev pub number_of_rule : Option NamedRule → Result ℕ Reason
 number_of_rule None = Err UnknownRule
 number_of_rule (Some rule) = Ok rule.number
 
-abbrev pub rule_number : List ℕ → List NamedRule → Result ℕ Reason
-rule_number word rules = if is_all word then Ok all_rules else number_of_rule (find (λ (rule : NamedRule). bytes_eq rule.name word) rules)
+abbrev pub rule_number : Option ℕ → List ℕ → List NamedRule → Result ℕ Reason
+rule_number force word rules = if is_all word then Ok all_rules else number_of_rule (rule_named force word rules)
 
 abbrev pub state_by : ℕ → Option ℕ → Result (List ℕ) Reason
 state_by rule None = Err NoState
@@ -61,9 +62,12 @@ state_of name state rule =
     if is_off name state then Ok (command_line lc_command_mid 4 (u16 rule ++ u16 0))
     else state_by rule (standing_number state)
 
-abbrev pub state_line : List NamedRule → List (List ℕ) → Result (List ℕ) Reason
-state_line rules (name ∷ state ∷ []) = rule_number name rules >>= state_of name state
-state_line rules words = Err NoState
+abbrev pub state_said : List NamedRule → Option ℕ → List ℕ → List ℕ → Result (List ℕ) Reason
+state_said rules force name state = rule_number force name rules >>= state_of name state
+
+abbrev pub state_line : List NamedRule → Option ℕ → List (List ℕ) → Result (List ℕ) Reason
+state_line rules force (name ∷ state ∷ []) = state_said rules force name state
+state_line rules force words = Err NoState
 
 -- ---- `filter APPLICATION EVENT MASK`: the event services' command 1
 

@@ -3,6 +3,7 @@ use Rattle.std.specs.Prelude.{ℕ, zero, suc, ◌+◌, ◌-◌, Bool, false, ◌
 use Rattle.lc_model.specs.Host.ScheduleText.{lines_of}
 use Rattle.scenarios.specs.declared.error.Reason.{Reason}
 use Rattle.scenarios.specs.declared.error.Reason.TheVariants.{NoRepeat, TooLong, Unbegun, Unended}
+use Rattle.scenarios.specs.declared.force.ForceChange.{ForceChange}
 use Rattle.scenarios.specs.declared.repetition.Repetition.{Repetition}
 use Rattle.scenarios.specs.Declarations.{Declarations}
 use Rattle.scenarios.specs.Error.{ScenarioFault, ◌>>=◌}
@@ -87,11 +88,11 @@ gone_on going (Err reason) = Err reason
 gone_on going (Ok said) = Ok (record { place = going.place + 1; repetitions = going.repetitions; said = said })
 
 -- behind the line with these words
-abbrev pub step : List NamedRule → List (List ℕ) → List (List ℕ) → Going → Result Going Reason
-step rules lines words going =
+abbrev pub step : List NamedRule → List ForceChange → List (List ℕ) → List (List ℕ) → Going → Result Going Reason
+step rules changes lines words going =
     if is_repeat words then repeat_said lines words going
     else if is_end words then end_said going.repetitions going
-    else gone_on going (line_said rules (going.place + 1) words going.said)
+    else gone_on going (line_said rules changes (going.place + 1) words going.said)
 
 -- the words of the line at a place
 abbrev pub words_at : List (List ℕ) → ℕ → List (List ℕ)
@@ -103,22 +104,22 @@ behind_step others place (Err reason) = Err (record { line = place + 1; reason =
 behind_step others place (Ok after) = others after
 
 -- at most so many lines more, those that repeat others and those that begin and end repetitions among them
-unfoldable pub said_within : ℕ → List NamedRule → List (List ℕ) → Going → Result Said ScenarioFault
-said_within zero rules lines going =
+unfoldable pub said_within : ℕ → List NamedRule → List ForceChange → List (List ℕ) → Going → Result Said ScenarioFault
+said_within zero rules changes lines going =
     if nat_lt going.place (length lines) then Err (record { line = going.place + 1; reason = TooLong }) else Ok going.said
-said_within (suc most) rules lines going =
+said_within (suc most) rules changes lines going =
     if nat_lt going.place (length lines) then
-    behind_step (said_within most rules lines) going.place (step rules lines (words_at lines going.place) going)
+    behind_step (said_within most rules changes lines) going.place (step rules changes lines (words_at lines going.place) going)
     else Ok going.said
 
 -- the most lines that are said
 abbrev pub most_steps : ℕ
 most_steps = 10000000
 
--- what the whole scenario says
-abbrev pub scenario_said : Declarations → List ℕ → Result Said ScenarioFault
-scenario_said declared scenario =
-    said_within most_steps declared.rules (lines_of scenario) (record { place = 0; repetitions = []; said = nothing_said declared })
+-- what the whole scenario says, where the text in force changes so
+abbrev pub scenario_said : Declarations → List ForceChange → List ℕ → Result Said ScenarioFault
+scenario_said declared changes scenario =
+    said_within most_steps declared.rules changes (lines_of scenario) (record { place = 0; repetitions = []; said = nothing_said declared })
 
 -- a plain script, and of each of its lines the number of the scenario's line that says it
 pub record PlainScript : Type 0 where
@@ -130,8 +131,8 @@ plain_of (Err fault) = Err fault
 plain_of (Ok said) = Ok (record { script = said.script; lines = said.lines })
 
 -- the plain script that a scenario is short for, or its fault: of the first line that is said and says nothing
-abbrev pub plain_in : Declarations → List ℕ → Result PlainScript ScenarioFault
-plain_in declared scenario = plain_of (scenario_said declared scenario)
+abbrev pub plain_in : Declarations → List ForceChange → List ℕ → Result PlainScript ScenarioFault
+plain_in declared changes scenario = plain_of (scenario_said declared changes scenario)
 
 -- the scenario's line that says a line of the plain script; both count from 1
 abbrev pub line_of : List ℕ → ℕ → ℕ

@@ -1,12 +1,13 @@
 //! What rule texts declare.
 
-ghost use Rattle.std.specs.Prelude.{◌≡◌, ◌<◌, ◌≤◌, ◌+◌, ◌^◌, bytes_eq, find, option_map, IfOk, List, ℕ};
+ghost use Rattle.std.specs.Prelude.{◌≡◌, ◌<◌, ◌≤◌, ◌+◌, ◌^◌, IfOk, List, ℕ};
 ghost use Rattle.rule_parser.specs.Syntax.{item_of, items_of};
 ghost use Rattle.rpn_compiler.specs.TextParts.{AreTextsOf};
-ghost use Rattle.scenarios.specs.Named.{NamedRule};
+ghost use Rattle.scenarios.specs.Rules.{numbers_differ, rule_numbered};
 ghost use Rattle.scenarios.specs.Declarations.{AreDeclared, next_behind, nothing_declared, with_item, with_items};
 
-use crate::named::{Packet, Rule, ScenarioField, number_of_rule, short};
+use crate::named::{Packet, Rule, ScenarioField, short};
+use crate::rules::{number_of_rule, numbers_differ};
 use rpn_compiler::RuleText;
 use rule_parser::Item;
 use std::alloc::{AllocError, Global};
@@ -62,17 +63,32 @@ impl<'a> DeclaredItems<'a> {
         self.rules.as_slice()
     }
 
-    /// The number of the first rule of this name, in its text.
-    pub fn rule_number(&self, name: &[u8]) -> Option<u16>
-        ensures { result ≡ option_map (λ (r : NamedRule). r.number)
-            (find (λ (r : NamedRule). bytes_eq r.name name.now) self.now.rules) }
+    /// The number, in its text, of the rule that a word names, where the text with this number is in force, or none. `NAME` is the
+    /// rule of the text in force, or the first of that name of any text where none is in force or that text has no such rule;
+    /// `TEXT:NAME` is that text's rule, whatever is in force.
+    pub fn rule_number(&self, force: Option<usize>, word: &[u8]) -> Option<u16>
+        ensures { result ≡ rule_numbered self.now force word.now }
     {
-        number_of_rule(self.rules(), name)
+        number_of_rule(self.rules(), force, word)
     }
 
-    /// What is declared with an item, where the next rule of its text has this number.
-    fn with_item(self, next: usize, item: &Item<'a>) -> Result<DeclaredItems<'a>, AllocError>
-        ensures { IfOk result (λ after. after ≡ with_item next (item_of item.now) self.entry) }
+    /// Whether the rules of a name have different numbers in their texts: which of them `NAME` is depends on the text in force.
+    pub fn numbers_differ(&self, name: &[u8]) -> bool
+        ensures { result ≡ numbers_differ self.now name.now }
+    {
+        numbers_differ(self.rules(), name)
+    }
+
+    /// What is declared with an item of the text with this number, where the next rule of it has that number.
+    fn with_item(
+        self,
+        alloc: Global,
+        text: usize,
+        next: usize,
+        item: &Item<'a>,
+    ) -> Result<DeclaredItems<'a>, AllocError>
+        ensures { IfOk result
+            (λ after. after ≡ with_item text next (item_of item.now) self.entry) }
     {
         let DeclaredItems {
             mut packets,
@@ -80,9 +96,9 @@ impl<'a> DeclaredItems<'a> {
             mut rules,
         } = self;
         match item {
-            Item::Packet(item) => packets.push(Packet::from_item(item))?,
+            Item::Packet(item) => packets.push(Packet::from_item(alloc, item)?)?,
             Item::Field(item) => fields.push(ScenarioField::from_item(item))?,
-            Item::Rule(item) => rules.push(Rule::new(item.name.text, short(next as u64)))?,
+            Item::Rule(item) => rules.push(Rule::new(item.name.text, text, short(next as u64)))?,
         }
         Ok(DeclaredItems {
             packets,
@@ -104,23 +120,26 @@ fn next_behind(item: &Item<'_>, next: usize) -> usize
     }
 }
 
-/// What is declared with the items of a text.
+/// What is declared with the items of the text with this number.
 fn with_items<'a>(
+    alloc: Global,
     start: DeclaredItems<'a>,
+    text: usize,
     items: &[Item<'a>],
 ) -> Result<DeclaredItems<'a>, AllocError>
-    ensures { IfOk result (λ after. after ≡ with_items 0 (items_of items.now) start.entry) }
+    ensures { IfOk result
+        (λ after. after ≡ with_items text 0 (items_of items.now) start.entry) }
 {
     let mut declared = start;
     let mut next = 0;
     for item in items {
-        declared = declared.with_item(next, item)?;
+        declared = declared.with_item(alloc, text, next, item)?;
         next = next_behind(item, next);
     }
     Ok(declared)
 }
 
-/// What rule texts declare. Out of memory is the only error.
+/// What rule texts declare, which are numbered from 0. Out of memory is the only error.
 pub fn declared_in<'a>(
     alloc: Global,
     texts: &[RuleText<'a>],
@@ -129,8 +148,8 @@ pub fn declared_in<'a>(
         IfOk result (λ declared. AreDeclared sources nothing_declared declared) }
 {
     let mut declared = DeclaredItems::new(alloc);
-    for text in texts {
-        declared = with_items(declared, text.file.items.as_slice())?;
+    for (number, text) in texts.iter().enumerate() {
+        declared = with_items(alloc, declared, number, text.file.items.as_slice())?;
     }
     Ok(declared)
 }

@@ -28,6 +28,15 @@ pub enum Reason {
     /// A value isn't one of its field's type.
     #[error("the value is outside the type of the field")]
     OutsideType,
+    /// A value has bits outside the mask of its field.
+    #[error("the value has bits outside the field's mask")]
+    OutsideMask,
+    /// Two fields of a line give one bit two values.
+    #[error("two fields of this line give one bit two values")]
+    TwoValues,
+    /// A field doesn't stand in its packet.
+    #[error("the field is outside its packet")]
+    OutsidePacket,
     /// A ramp isn't written so.
     #[error("a ramp is `ramp FIELD FROM TO by STEP each SECONDS`, with `tick` behind it where ticks are wanted")]
     NoRamp,

@@ -4,6 +4,9 @@
 
 mod declared;
 mod error;
+mod field_values;
+mod force;
+pub mod laws;
 mod line;
 mod named;
 mod number;
@@ -11,9 +14,11 @@ mod order;
 mod plain;
 mod ramp;
 mod repetition;
+mod rules;
 mod said;
 mod word;
 
 pub use declared::{DeclaredItems, declared_in};
 pub use error::{Reason, ScenarioError};
+pub use force::ForceChange;
 pub use plain::{Plain, plain_script};

@@ -4,9 +4,10 @@ ghost use Rattle.std.specs.Prelude.{◌≡◌, ◌≤◌, length, IfOk, IfErr, O
 ghost use Rattle.std.specs.List.{position_or_len};
 ghost use Rattle.text_lines.specs.Lines.{texts_of};
 ghost use Rattle.scenarios.specs.Error.{IsRefused};
-ghost use Rattle.scenarios.specs.Line.{all_assigned, assigned, assigned_by, field_assigned, is_equals, line_said, other_said, own_field, packet_said, plain_said, verb_said};
+ghost use Rattle.scenarios.specs.Line.{all_assigned, all_kept, assigned, field_given, given_by, given_in, is_equals, kept, line_said, other_said, own_field, packet_said, plain_said, verb_said};
 
 use crate::error::{LineRefusal, Reason};
+use crate::force::{ForceChange, force_at};
 use crate::named::{Rule, ScenarioField, packet_place};
 use crate::number::value_in;
 use crate::order::{filter_line, mode_line, state_line};
@@ -37,49 +38,80 @@ fn own_field(fields: &[ScenarioField<'_>], place: usize, packet: &[u8]) -> Resul
     }
 }
 
-/// A field of this name, which the packet has, has the value of this word from now on.
-fn field_assigned<'a>(
-    said: Saying<'a>,
+/// A value that a line gives to a field, by the field's place.
+#[derive(Clone, Copy)]
+pub(crate) struct Given {
+    field: usize,
+    value: i64,
+}
+
+/// The field of this name, which the packet has to have, and the value of this word.
+fn field_given(
+    fields: &[ScenarioField<'_>],
     packet: &[u8],
     name: &[u8],
     value: &[u8],
-) -> Result<Saying<'a>, LineRefusal>
-    ensures said { IfOk result
-        (λ after. field_assigned packet.now name.now value.now said.entry ≡ Ok after) }
-    ensures refused { IfErr result
-        (IsRefused (field_assigned packet.now name.now value.now said.entry)) }
+) -> Result<Given, Reason>
+    ensures { result ≡ field_given packet.now name.now value.now fields.now }
 {
-    let place = some_field(said.fields(), name)?;
-    own_field(said.fields(), place, packet)?;
+    let field = some_field(fields, name)?;
+    own_field(fields, field, packet)?;
     let value = value_in(value)?;
-    said.with_value(place, value)
+    Ok(Given { field, value })
 }
 
 /// The same, where `=` stands in front of the value.
-fn assigned_by<'a>(
-    said: Saying<'a>,
+fn given_by(
+    fields: &[ScenarioField<'_>],
     packet: &[u8],
     name: &[u8],
     rest: &[u8],
-) -> Result<Saying<'a>, LineRefusal>
-    ensures said { IfOk result
-        (λ after. assigned_by packet.now name.now rest.now said.entry ≡ Ok after) }
-    ensures refused { IfErr result
-        (IsRefused (assigned_by packet.now name.now rest.now said.entry)) }
+) -> Result<Given, Reason>
+    ensures { result ≡ given_by packet.now name.now rest.now fields.now }
 {
     match rest {
-        [] => Err(LineRefusal::Line(Reason::NoField)),
-        [_, value @ ..] => field_assigned(said, packet, name, value),
+        [] => Err(Reason::NoField),
+        [_, value @ ..] => field_given(fields, packet, name, value),
     }
 }
 
-/// `FIELD=VALUE`: a field of the packet of this name has this value from now on.
+/// `FIELD=VALUE`: what a word gives to a field of the packet of this name.
+fn given_in(fields: &[ScenarioField<'_>], packet: &[u8], word: &[u8]) -> Result<Given, Reason>
+    ensures { result ≡ given_in packet.now word.now fields.now }
+{
+    let (name, rest) = word.split_at(name_length(word));
+    given_by(fields, packet, name, rest)
+}
+
+/// A field of the packet of this name has the value that a word gives from now on.
 fn assign<'a>(said: Saying<'a>, packet: &[u8], word: &[u8]) -> Result<Saying<'a>, LineRefusal>
     ensures said { IfOk result (λ after. assigned packet.now word.now said.entry ≡ Ok after) }
     ensures refused { IfErr result (IsRefused (assigned packet.now word.now said.entry)) }
 {
-    let (name, rest) = word.split_at(name_length(word));
-    assigned_by(said, packet, name, rest)
+    let given = given_in(said.fields(), packet, word)?;
+    said.with_value(given.field, given.value)
+}
+
+/// What a word gives has to be what the field reads in the packet at this place, once all words of the line are written.
+fn keep(said: &Saying<'_>, place: usize, packet: &[u8], word: &[u8]) -> Result<(), Reason>
+    ensures { result ≡ kept place packet.now word.now said.now }
+{
+    let given = given_in(said.fields(), packet, word)?;
+    if said.reads_value(place, given.field, given.value) {
+        Ok(())
+    } else {
+        Err(Reason::TwoValues)
+    }
+}
+
+/// The same of all words.
+fn keep_all(said: &Saying<'_>, place: usize, packet: &[u8], words: &[&[u8]]) -> Result<(), Reason>
+    ensures { result ≡ all_kept place packet.now (texts_of words.now) said.now }
+{
+    for word in words {
+        keep(said, place, packet, word)?;
+    }
+    Ok(())
 }
 
 /// All these fields have their values from now on.
@@ -118,6 +150,7 @@ fn packet_said<'a>(
         (IsRefused (packet_said n place packet.now (texts_of words.now) said.entry)) }
 {
     let said = all_assigned(said, packet, words)?;
+    keep_all(&said, place, packet, words)?;
     said.with_packet(alloc, n, place)
 }
 
@@ -142,22 +175,24 @@ fn plain_said<'a>(
 fn other_said<'a>(
     alloc: Global,
     rules: &[Rule<'_>],
+    changes: &[ForceChange],
     said: Saying<'a>,
     n: usize,
     verb: &[u8],
     words: &[&[u8]],
 ) -> Result<Saying<'a>, LineRefusal>
     ensures said { IfOk result
-        (λ after. other_said rules.now n verb.now (texts_of words.now) said.entry ≡ Ok after) }
+        (λ after. other_said rules.now changes.now n verb.now (texts_of words.now) said.entry ≡ Ok after) }
     ensures refused { IfErr result
-        (IsRefused (other_said rules.now n verb.now (texts_of words.now) said.entry)) }
+        (IsRefused (other_said rules.now changes.now n verb.now (texts_of words.now) said.entry)) }
 {
     if is(verb, b"mode") {
         let line = mode_line(alloc, words)?;
         return said.with_line(n, line.as_slice());
     }
     if is(verb, b"state") {
-        let line = state_line(alloc, rules, words)?;
+        let force = force_at(changes, said.line_count() + 1);
+        let line = state_line(alloc, rules, force, words)?;
         return said.with_line(n, line.as_slice());
     }
     if is(verb, b"filter") {
@@ -174,15 +209,16 @@ fn other_said<'a>(
 fn verb_said<'a>(
     alloc: Global,
     rules: &[Rule<'_>],
+    changes: &[ForceChange],
     said: Saying<'a>,
     n: usize,
     verb: &[u8],
     words: &[&[u8]],
 ) -> Result<Saying<'a>, LineRefusal>
     ensures said { IfOk result
-        (λ after. verb_said rules.now n verb.now (texts_of words.now) said.entry ≡ Ok after) }
+        (λ after. verb_said rules.now changes.now n verb.now (texts_of words.now) said.entry ≡ Ok after) }
     ensures refused { IfErr result
-        (IsRefused (verb_said rules.now n verb.now (texts_of words.now) said.entry)) }
+        (IsRefused (verb_said rules.now changes.now n verb.now (texts_of words.now) said.entry)) }
 {
     if is_plain(verb) {
         return plain_said(alloc, said, n, verb, words);
@@ -192,7 +228,7 @@ fn verb_said<'a>(
     }
     match packet_place(said.packets(), verb) {
         Some(place) => packet_said(alloc, said, n, place, verb, words),
-        None => other_said(alloc, rules, said, n, verb, words),
+        None => other_said(alloc, rules, changes, said, n, verb, words),
     }
 }
 
@@ -200,17 +236,18 @@ fn verb_said<'a>(
 pub(crate) fn line_said<'a>(
     alloc: Global,
     rules: &[Rule<'_>],
+    changes: &[ForceChange],
     said: Saying<'a>,
     n: usize,
     words: &[&[u8]],
 ) -> Result<Saying<'a>, LineRefusal>
     ensures said { IfOk result
-        (λ after. line_said rules.now n (texts_of words.now) said.entry ≡ Ok after) }
+        (λ after. line_said rules.now changes.now n (texts_of words.now) said.entry ≡ Ok after) }
     ensures refused { IfErr result
-        (IsRefused (line_said rules.now n (texts_of words.now) said.entry)) }
+        (IsRefused (line_said rules.now changes.now n (texts_of words.now) said.entry)) }
 {
     match words {
         [] => said.with_line(n, b""),
-        [verb, rest @ ..] => verb_said(alloc, rules, said, n, verb, rest),
+        [verb, rest @ ..] => verb_said(alloc, rules, changes, said, n, verb, rest),
     }
 }

@@ -1,20 +1,24 @@
 //! Packets, fields and rules by their names.
 
-ghost use Rattle.std.specs.Prelude.{◌≡◌, ◌<◌, bytes_eq, flat_map, length, IfOk, IfSome, Some, find, option_map};
+ghost use Rattle.std.specs.Prelude.{◌≡◌, ◌<◌, ◌==◌, ◌&&◌, bytes_eq, length, IfOk, IfSome, IsTrue};
 ghost use Rattle.rule_parser.specs.Syntax.{field_of, number_of, packet_of};
 ghost use Rattle.scenarios.specs.Declarations as declared;
 ghost use Rattle.scenarios.specs.Declarations.{field_declared, packet_declared, short};
-ghost use Rattle.scenarios.specs.Named.{NamedField, NamedPacket, NamedRule, counted_on, field_words, packet_line, valued};
+ghost use Rattle.scenarios.specs.Fields.{is_inside, with_bits};
+ghost use Rattle.scenarios.specs.Named.{counted_on, packet_line, with_payload};
 ghost use Rattle.scenarios.specs.Said.{field_place, packet_place};
 
+use crate::field_values::write_bits;
 use crate::word::is;
 use lc_model::FieldType;
 use lc_model::packet::COUNT_END;
 use rule_parser::{FieldItem, Number, PacketItem};
 use std::alloc::{AllocError, Global};
-use std::fmt::{self, Display, Formatter, Write};
 use std::marker::Model;
-use table_listing::InHex;
+use stream_script::telemetry_line;
+
+/// The bytes of telemetry's headers.
+pub(crate) const TELEMETRY_HEADERS: usize = 12;
 
 /// In 16 bits, which hold each of these numbers of a rule text.
 pub(crate) fn short(number: u64) -> u16
@@ -34,13 +38,25 @@ fn short_of(number: Number) -> u16
     short(number.value.unsigned_abs())
 }
 
-/// A packet that is declared, with the sequence count of the next one of it.
+/// A mask of a rule text in 32 bits, which hold each of a text that compiles.
+fn mask_of(number: Number) -> u32
+    ensures { result ≡ declared.mask_of (number_of number) }
+{
+    let mask = number.value.unsigned_abs();
+    if mask <= 0xFFFF_FFFF {
+        mask as u32
+    } else {
+        0xFFFF_FFFF
+    }
+}
+
+/// A packet that is declared, with the sequence count of the next one of it, and the bytes behind its headers as they are by now.
 #[derive(Drop)]
 pub(crate) struct Packet<'a> {
     name: &'a [u8],
     mid: u16,
-    size: u16,
     count: u16,
+    payload: Vec<u8>,
 }
 
 impl<'a> Model for Packet<'a> {
@@ -48,38 +64,50 @@ impl<'a> Model for Packet<'a> {
 
     ghost Value = { NamedPacket };
 
-    ghost view = { λ p. record { name = p.name.now; mid = p.mid; size = p.size; count = p.count } };
+    ghost view = { λ p. record {
+      name = p.name.now;
+      mid = p.mid;
+      count = p.count;
+      payload = p.payload.items;
+    } };
 }
 
 impl<'a> Packet<'a> {
-    /// A packet of a rule text, before the first one of it.
-    pub(crate) fn from_item(item: &PacketItem<'a>) -> Packet<'a>
-        ensures { result ≡ packet_declared (packet_of item.now) }
+    /// A packet of a rule text, before the first one of it. Out of memory is the only error.
+    pub(crate) fn from_item(alloc: Global, item: &PacketItem<'a>) -> Result<Packet<'a>, AllocError>
+        ensures { IfOk result (λ packet. packet ≡ packet_declared (packet_of item.now)) }
     {
-        Packet {
+        let size = usize::from(short_of(item.length)).saturating_sub(TELEMETRY_HEADERS);
+        Ok(Packet {
             name: item.name.text,
             mid: short_of(item.mid),
-            size: short_of(item.length),
             count: 0,
-        }
+            payload: vec![in alloc; 0; size]?,
+        })
     }
 
-    /// The same packet.
-    pub(crate) fn same(&self) -> Packet<'a>
-        ensures { result ≡ self.now }
+    /// The same packet. Out of memory is the only error.
+    pub(crate) fn same(&self, alloc: Global) -> Result<Packet<'a>, AllocError>
+        ensures { IfOk result (λ packet. packet ≡ self.now) }
     {
-        Packet {
+        Ok(Packet {
             name: self.name,
             mid: self.mid,
-            size: self.size,
             count: self.count,
-        }
+            payload: Vec::from_slice(alloc, self.payload.as_slice())?,
+        })
     }
 
     fn is_named(&self, name: &[u8]) -> bool
         ensures { result ≡ bytes_eq self.now.name name.now }
     {
         is(self.name, name)
+    }
+
+    pub(crate) fn payload(&self) -> &[u8]
+        ensures { result.now ≡ self.now.payload }
+    {
+        self.payload.as_slice()
     }
 
     /// One more of it was said.
@@ -89,20 +117,20 @@ impl<'a> Packet<'a> {
         self.count = ((u32::from(self.count) + 1) % u32::from(COUNT_END)) as u16;
     }
 
-    /// The line of the next packet, with all values that fields have by now.
-    pub(crate) fn line(
-        &self,
-        alloc: Global,
-        fields: &[ScenarioField<'_>],
-    ) -> Result<Vec<u8>, AllocError>
-        ensures { IfOk result (λ line. line.items ≡ packet_line self.now fields.now) }
+    /// Writes bits under the mask of a field that stands in it.
+    pub(crate) fn write(&mut self, field: &ScenarioField<'_>, bits: u32)
+        requires { IsTrue (is_inside field.now (length self.old.payload)) }
+        ensures { self.new ≡
+            with_payload (with_bits field.now bits self.old.payload) self.old }
     {
-        let mid = self.mid.to_be_bytes();
-        let (mid, count, size) = (InHex(&mid), self.count, self.size);
-        let name = self.name;
-        let fields = FieldsWords { name, fields };
-        let line = format!(in alloc; "fields {mid} {count} {size}{fields}")?;
-        Ok(line.into_bytes())
+        write_bits(field, bits, &mut self.payload);
+    }
+
+    /// The line of the next packet, with all values that its fields have by now. Out of memory is the only error.
+    pub(crate) fn line(&self, alloc: Global) -> Result<Vec<u8>, AllocError>
+        ensures { IfOk result (λ line. line.items ≡ packet_line self.now) }
+    {
+        telemetry_line(alloc, self.mid, self.count, self.payload.as_slice())
     }
 }
 
@@ -114,14 +142,14 @@ pub(crate) fn packet_place(packets: &[Packet<'_>], name: &[u8]) -> Option<usize>
     packets.iter().position(|packet| packet.is_named(name))
 }
 
-/// A field that is declared, with the value that it was given last.
+/// A field that is declared: its type, its offset in its packet, and the bits that are its own.
 #[derive(Drop)]
 pub(crate) struct ScenarioField<'a> {
     name: &'a [u8],
     packet: &'a [u8],
     kind: FieldType,
     offset: u16,
-    value: Option<i64>,
+    mask: u32,
 }
 
 impl<'a> Model for ScenarioField<'a> {
@@ -134,21 +162,25 @@ impl<'a> Model for ScenarioField<'a> {
       packet = f.packet.now;
       kind = f.kind;
       offset = f.offset;
-      value = f.value;
+      mask = f.mask;
     } };
 }
 
 impl<'a> ScenarioField<'a> {
-    /// A field of a rule text, before it has a value.
+    /// A field of a rule text.
     pub(crate) fn from_item(item: &FieldItem<'a>) -> ScenarioField<'a>
         ensures { result ≡ field_declared (field_of item.now) }
     {
+        let mask = match item.mask {
+            Some(mask) => mask_of(mask),
+            None => item.kind.full_mask(),
+        };
         ScenarioField {
             name: item.name.text,
             packet: item.packet.text,
             kind: item.kind,
             offset: short_of(item.offset),
-            value: None,
+            mask,
         }
     }
 
@@ -161,7 +193,7 @@ impl<'a> ScenarioField<'a> {
             packet: self.packet,
             kind: self.kind,
             offset: self.offset,
-            value: self.value,
+            mask: self.mask,
         }
     }
 
@@ -190,23 +222,16 @@ impl<'a> ScenarioField<'a> {
         self.kind
     }
 
-    fn offset(&self) -> u16
+    pub(crate) fn offset(&self) -> u16
         ensures { result ≡ self.now.offset }
     {
         self.offset
     }
 
-    fn value(&self) -> Option<i64>
-        ensures { result ≡ self.now.value }
+    pub(crate) fn mask(&self) -> u32
+        ensures { result ≡ self.now.mask }
     {
-        self.value
-    }
-
-    /// It has this value from now on.
-    pub(crate) fn set(&mut self, value: i64)
-        ensures { self.new ≡ valued value self.old }
-    {
-        self.value = Some(value);
+        self.mask
     }
 }
 
@@ -218,54 +243,11 @@ pub(crate) fn field_place(fields: &[ScenarioField<'_>], name: &[u8]) -> Option<u
     fields.iter().position(|field| field.is_named(name))
 }
 
-/// What the line of a packet of this name says of a field.
-#[derive(Clone, Copy)]
-struct FieldWords<'s, 'a> {
-    name: &'s [u8],
-    field: &'s ScenarioField<'a>,
-}
-
-impl Display for FieldWords<'_, '_> {
-    ghost output = { λ w. Some (field_words w.name.now w.field.now) };
-
-    fn fmt<W: Write>(&self, f: &mut Formatter<W>) -> fmt::Result {
-        if !self.field.is_of(self.name) {
-            return Ok(());
-        }
-        let (kind, offset) = (self.field.kind().word(), self.field.offset());
-        match self.field.value() {
-            Some(value) => write!(f, " {kind} {offset} {value}"),
-            None => Ok(()),
-        }
-    }
-}
-
-/// What the line of a packet of this name says of fields.
-#[derive(Clone, Copy)]
-struct FieldsWords<'s, 'a> {
-    name: &'s [u8],
-    fields: &'s [ScenarioField<'a>],
-}
-
-impl Display for FieldsWords<'_, '_> {
-    ghost output = { λ w. Some (flat_map (field_words w.name.now) w.fields.now) };
-
-    fn fmt<W: Write>(&self, f: &mut Formatter<W>) -> fmt::Result {
-        for field in self.fields {
-            let words = FieldWords {
-                name: self.name,
-                field,
-            };
-            write!(f, "{words}")?;
-        }
-        Ok(())
-    }
-}
-
-/// A rule that is declared, with its number in its text.
+/// A rule that is declared, with its text's number and its own number in it.
 #[derive(Drop)]
 pub(crate) struct Rule<'a> {
     pub(crate) name: &'a [u8],
+    pub(crate) text: usize,
     pub(crate) number: u16,
 }
 
@@ -274,32 +256,32 @@ impl<'a> Model for Rule<'a> {
 
     ghost Value = { NamedRule };
 
-    ghost view = { λ r. record { name = r.name.now; number = r.number } };
+    ghost view = { λ r. record { name = r.name.now; text = r.text; number = r.number } };
 }
 
 impl<'a> Rule<'a> {
-    pub(crate) fn new(name: &'a [u8], number: u16) -> Rule<'a>
-        ensures { result ≡ record { name = name.now; number = number } }
+    pub(crate) fn new(name: &'a [u8], text: usize, number: u16) -> Rule<'a>
+        ensures { result ≡ record { name = name.now; text = text; number = number } }
     {
-        Rule { name, number }
+        Rule { name, text, number }
     }
 
-    fn is_named(&self, name: &[u8]) -> bool
+    pub(crate) fn is_named(&self, name: &[u8]) -> bool
         ensures { result ≡ bytes_eq self.now.name name.now }
     {
         is(self.name, name)
     }
-}
 
-/// The number of the first rule of a name.
-pub(crate) fn number_of_rule(rules: &[Rule<'_>], name: &[u8]) -> Option<u16>
-    ensures { result ≡ option_map (λ (r : NamedRule). r.number)
-        (find (λ (r : NamedRule). bytes_eq r.name name.now) rules.now) }
-{
-    for rule in rules {
-        if rule.is_named(name) {
-            return Some(rule.number);
-        }
+    /// Whether it is the rule of this name in the text with this number.
+    pub(crate) fn is_of_text(&self, text: usize, name: &[u8]) -> bool
+        ensures { result ≡ (self.now.text == text && bytes_eq self.now.name name.now) }
+    {
+        self.text == text && self.is_named(name)
     }
-    None
+
+    pub(crate) fn number(&self) -> u16
+        ensures { result ≡ self.now.number }
+    {
+        self.number
+    }
 }

@@ -3,11 +3,12 @@
 ghost use Rattle.std.specs.Prelude.{◌≡◌, IfOk, IfErr, Ok, Some};
 ghost use Rattle.text_lines.specs.Lines.{texts_of};
 ghost use Rattle.scenarios.specs.Error.{IsRefused};
-ghost use Rattle.scenarios.specs.Orders.{command_line, filter_line, filter_of, is_all, is_off, mode_line, rule_number, some_name, standing_number, state_line, state_of};
+ghost use Rattle.scenarios.specs.Orders.{command_line, filter_line, filter_of, is_all, is_off, mode_line, rule_number, some_name, standing_number, state_line, state_of, state_said};
 
 use crate::error::{LineRefusal, Reason};
-use crate::named::{Rule, number_of_rule};
+use crate::named::Rule;
 use crate::number::number_in;
+use crate::rules::number_of_rule;
 use crate::word::is;
 use lc_model::{ApMode, mids};
 use std::alloc::{AllocError, Global};
@@ -67,14 +68,14 @@ fn is_off(name: &[u8], state: &[u8]) -> bool
     is(state, b"off") && !is_all(name)
 }
 
-/// The number of the first rule of a name, or of all.
-fn rule_number(rules: &[Rule<'_>], word: &[u8]) -> Result<u16, Reason>
-    ensures { result ≡ rule_number word.now rules.now }
+/// The number of the rule that a word names where this text is in force, or of all.
+fn rule_number(rules: &[Rule<'_>], force: Option<usize>, word: &[u8]) -> Result<u16, Reason>
+    ensures { result ≡ rule_number force word.now rules.now }
 {
     if is_all(word) {
         return Ok(ALL);
     }
-    match number_of_rule(rules, word) {
+    match number_of_rule(rules, force, word) {
         Some(number) => Ok(number),
         None => Err(Reason::UnknownRule),
     }
@@ -98,21 +99,37 @@ fn state_of(alloc: Global, name: &[u8], state: &[u8], rule: u16) -> Result<Vec<u
     }
 }
 
-/// `state RULE STATE`: the Limit Checker's command 3, or 4 where the rule is off from then on.
+/// The command that puts the rule that a word names into a state, where this text is in force.
+fn state_said(
+    alloc: Global,
+    rules: &[Rule<'_>],
+    force: Option<usize>,
+    name: &[u8],
+    state: &[u8],
+) -> Result<Vec<u8>, LineRefusal>
+    ensures said { IfOk result
+        (λ line. state_said rules.now force name.now state.now ≡ Ok line.items) }
+    ensures refused { IfErr result (IsRefused (state_said rules.now force name.now state.now)) }
+{
+    let rule = rule_number(rules, force, name)?;
+    state_of(alloc, name, state, rule)
+}
+
+/// `state RULE STATE`, where this text is in force: the Limit Checker's command 3, or 4 where the rule is off from then on.
 pub(crate) fn state_line(
     alloc: Global,
     rules: &[Rule<'_>],
+    force: Option<usize>,
     words: &[&[u8]],
 ) -> Result<Vec<u8>, LineRefusal>
     ensures said { IfOk result
-        (λ line. state_line rules.now (texts_of words.now) ≡ Ok line.items) }
-    ensures refused { IfErr result (IsRefused (state_line rules.now (texts_of words.now))) }
+        (λ line. state_line rules.now force (texts_of words.now) ≡ Ok line.items) }
+    ensures refused { IfErr result (IsRefused (state_line rules.now force (texts_of words.now))) }
 {
     let [name, state] = words else {
         return Err(LineRefusal::Line(Reason::NoState));
     };
-    let rule = rule_number(rules, name)?;
-    state_of(alloc, name, state, rule)
+    state_said(alloc, rules, force, name, state)
 }
 
 /// An application's name in its field of 20 bytes, with zeros behind it.

@@ -10,6 +10,7 @@ ghost use Rattle.scenarios.specs.declared.error.ScenarioError.TheVariants.{Memor
 
 use crate::declared::DeclaredItems;
 use crate::error::{LineRefusal, Reason, ScenarioError};
+use crate::force::ForceChange;
 use crate::line::line_said;
 use crate::named::Rule;
 use crate::repetition::{Repetition, behind_end, is_end, is_repeat, times_in};
@@ -172,22 +173,23 @@ fn end_said(going: Going<'_>) -> Result<Going<'_>, LineRefusal>
 fn gone_on<'a>(
     alloc: Global,
     rules: &[Rule<'_>],
+    changes: &[ForceChange],
     words: &[&[u8]],
     going: Going<'a>,
 ) -> Result<Going<'a>, LineRefusal>
     requires { going.place < 2 ^ 63 }
     ensures said { IfOk result (λ after. gone_on going.entry
-        (line_said rules.now (going.entry.place + 1) (texts_of words.now) going.entry.said) ≡
+        (line_said rules.now changes.now (going.entry.place + 1) (texts_of words.now) going.entry.said) ≡
         Ok after) }
     ensures refused { IfErr result (IsRefused (gone_on going.entry
-        (line_said rules.now (going.entry.place + 1) (texts_of words.now) going.entry.said))) }
+        (line_said rules.now changes.now (going.entry.place + 1) (texts_of words.now) going.entry.said))) }
 {
     let Going {
         place,
         repetitions,
         said,
     } = going;
-    let said = line_said(alloc, rules, said, place + 1, words)?;
+    let said = line_said(alloc, rules, changes, said, place + 1, words)?;
     Ok(Going {
         place: place + 1,
         repetitions,
@@ -199,15 +201,16 @@ fn gone_on<'a>(
 fn step<'a>(
     alloc: Global,
     rules: &[Rule<'_>],
+    changes: &[ForceChange],
     lines: &[&[u8]],
     words: &[&[u8]],
     going: Going<'a>,
 ) -> Result<Going<'a>, LineRefusal>
     requires { going.place < 2 ^ 63 }
     ensures said { IfOk result
-        (λ after. step rules.now (texts_of lines.now) (texts_of words.now) going.entry ≡ Ok after) }
+        (λ after. step rules.now changes.now (texts_of lines.now) (texts_of words.now) going.entry ≡ Ok after) }
     ensures refused { IfErr result
-        (IsRefused (step rules.now (texts_of lines.now) (texts_of words.now) going.entry)) }
+        (IsRefused (step rules.now changes.now (texts_of lines.now) (texts_of words.now) going.entry)) }
 {
     if is_repeat(words) {
         return repeat_said(alloc, lines, words, going);
@@ -215,37 +218,39 @@ fn step<'a>(
     if is_end(words) {
         return end_said(going);
     }
-    gone_on(alloc, rules, words, going)
+    gone_on(alloc, rules, changes, words, going)
 }
 
 /// Behind the line that is said next.
 fn step_on<'a>(
     alloc: Global,
     rules: &[Rule<'_>],
+    changes: &[ForceChange],
     lines: &[&[u8]],
     going: Going<'a>,
 ) -> Result<Going<'a>, LineRefusal>
     requires { going.place < length lines.now }
-    ensures said { IfOk result (λ after. step rules.now (texts_of lines.now)
+    ensures said { IfOk result (λ after. step rules.now changes.now (texts_of lines.now)
         (words_at (texts_of lines.now) going.entry.place) going.entry ≡ Ok after) }
-    ensures refused { IfErr result (IsRefused (step rules.now (texts_of lines.now)
+    ensures refused { IfErr result (IsRefused (step rules.now changes.now (texts_of lines.now)
         (words_at (texts_of lines.now) going.entry.place) going.entry)) }
 {
     let words = words_in(alloc, lines[going.place])?;
-    step(alloc, rules, lines, words.as_slice(), going)
+    step(alloc, rules, changes, lines, words.as_slice(), going)
 }
 
 /// What lines say.
 fn said_within<'a>(
     alloc: Global,
     rules: &[Rule<'_>],
+    changes: &[ForceChange],
     lines: &[&[u8]],
     start: Going<'a>,
 ) -> Result<Saying<'a>, ScenarioError>
     ensures said { IfOk result
-        (λ said. said_within most_steps rules.now (texts_of lines.now) start.entry ≡ Ok said) }
+        (λ said. said_within most_steps rules.now changes.now (texts_of lines.now) start.entry ≡ Ok said) }
     ensures refused { IfErr result
-        (IsScenarioError (said_within most_steps rules.now (texts_of lines.now) start.entry)) }
+        (IsScenarioError (said_within most_steps rules.now changes.now (texts_of lines.now) start.entry)) }
 {
     let mut going = start;
     for _ in 0..MOST_STEPS {
@@ -253,7 +258,7 @@ fn said_within<'a>(
         if place >= lines.len() {
             return Ok(going.said);
         }
-        match step_on(alloc, rules, lines, going) {
+        match step_on(alloc, rules, changes, lines, going) {
             Ok(after) => going = after,
             Err(LineRefusal::Line(reason)) => {
                 return Err(ScenarioError::Line {
@@ -273,14 +278,15 @@ fn said_within<'a>(
     })
 }
 
-/// What a scenario says in the words of these declarations.
+/// What a scenario says in the words of these declarations, where the text in force changes so.
 fn scenario_said<'a>(
     alloc: Global,
     scenario: &[u8],
     declared: &DeclaredItems<'a>,
+    changes: &[ForceChange],
 ) -> Result<Saying<'a>, ScenarioError>
-    ensures said { IfOk result (λ said. scenario_said declared.now scenario.now ≡ Ok said) }
-    ensures refused { IfErr result (IsScenarioError (scenario_said declared.now scenario.now)) }
+    ensures said { IfOk result (λ said. scenario_said declared.now changes.now scenario.now ≡ Ok said) }
+    ensures refused { IfErr result (IsScenarioError (scenario_said declared.now changes.now scenario.now)) }
 {
     let lines = lines_of(alloc, scenario)?;
     let going = Going {
@@ -288,10 +294,11 @@ fn scenario_said<'a>(
         repetitions: VecDeque::new(alloc),
         said: Saying::new(alloc, declared)?,
     };
-    said_within(alloc, declared.rules(), lines.as_slice(), going)
+    said_within(alloc, declared.rules(), changes, lines.as_slice(), going)
 }
 
-/// The plain script of a scenario in the words of these declarations. A line that begins as a line of a plain script does stays
+/// The plain script of a scenario in the words of these declarations. `changes` says which text is in force at which lines of the
+/// plain script, in the order of lines: a rule that a line names is that text's. Without changes no text is in force. A line that begins as a line of a plain script does stays
 /// one, without what stands behind a word that begins with `#`; so does one that says nothing else.
 ///
 /// Errors, of which the first line's is answered: `Line` with the line's number from 1 and what is wrong with it; `Memory` only
@@ -300,16 +307,17 @@ pub fn plain_script(
     alloc: Global,
     scenario: &[u8],
     declared: &DeclaredItems<'_>,
+    changes: &[ForceChange],
 ) -> Result<Plain, ScenarioError>
-    ensures said { IfOk result (λ plain. plain_in declared.now scenario.now ≡
+    ensures said { IfOk result (λ plain. plain_in declared.now changes.now scenario.now ≡
         Ok (record { script = plain.text.items; lines = plain.lines.items })) }
-    ensures refused { IfErr result (IsScenarioError (plain_in declared.now scenario.now)) }
-    ensures accepts { (plain : PlainScript) → plain_in declared.now scenario.now ≡ Ok plain →
+    ensures refused { IfErr result (IsScenarioError (plain_in declared.now changes.now scenario.now)) }
+    ensures accepts { (plain : PlainScript) → plain_in declared.now changes.now scenario.now ≡ Ok plain →
         IfErr result (λ error. error ≡ Memory) }
-    ensures refuses { (fault : ScenarioFault) → plain_in declared.now scenario.now ≡ Err fault →
+    ensures refuses { (fault : ScenarioFault) → plain_in declared.now changes.now scenario.now ≡ Err fault →
         IsErr result }
 {
-    match scenario_said(alloc, scenario, declared) {
+    match scenario_said(alloc, scenario, declared, changes) {
         Ok(said) => {
             let (text, lines) = said.into_parts();
             Ok(Plain { text, lines })

@@ -3,19 +3,20 @@
 ghost use Rattle.std.specs.Prelude.{◌≡◌, ◌<◌, ◌^◌, length, slice_get, unsigned_abs, Some, IfOk, IfErr, Ok, Err};
 ghost use Rattle.scenarios.specs.Named.{NamedPacket};
 ghost use Rattle.scenarios.specs.Error.{IsRefused};
-ghost use Rattle.scenarios.specs.Said.{counted, fields_with, lined, nothing_said, with_packet, with_value};
+ghost use Rattle.scenarios.specs.Said.{bits_written, counted, lined, nothing_said, packet_place, packet_reads, packets_with, reads_value, some_field_at, some_packet_at, with_packet, with_value};
 
 use crate::declared::DeclaredItems;
 use crate::error::{LineRefusal, Reason};
-use crate::named::{Packet, ScenarioField};
+use crate::field_values::{is_inside, reads, value_bits};
+use crate::named::{Packet, ScenarioField, packet_place};
 use std::alloc::{AllocError, Global};
 use std::marker::Model;
 
 /// The most lines of a plain script.
 const MOST_LINES: usize = 1_000_000;
 
-/// What was said of packets and fields by now, the plain script, and of each of its lines the number of the scenario's line that says
-/// it. Contracts see all (`Said`).
+/// The packets, each with what was said of it by now, the fields, the plain script, and of each of its lines the number of the
+/// scenario's line that says it. Contracts see all (`Said`).
 #[derive(Drop)]
 pub(crate) struct Saying<'a> {
     packets: Vec<Packet<'a>>,
@@ -43,7 +44,7 @@ fn packets_of<'a>(alloc: Global, packets: &[Packet<'a>]) -> Result<Vec<Packet<'a
 {
     let mut own = Vec::new(alloc);
     for packet in packets {
-        own.push(packet.same())?;
+        own.push(packet.same(alloc)?)?;
     }
     Ok(own)
 }
@@ -62,26 +63,79 @@ fn fields_of<'a>(
     Ok(own)
 }
 
-/// Fields with this value at this place, which has to be of the type there.
-fn fields_with(
-    mut fields: Vec<ScenarioField<'_>>,
+/// The field at a place, which has to be there.
+fn some_field_at<'s, 'a>(
+    fields: &'s [ScenarioField<'a>],
     place: usize,
-    value: i64,
-) -> Result<Vec<ScenarioField<'_>>, Reason>
-    ensures set { IfOk result
-        (λ after. fields_with place value fields.entry.items ≡ Ok after.items) }
+) -> Result<&'s ScenarioField<'a>, Reason>
+    ensures found { IfOk result
+        (λ field. some_field_at (slice_get fields.now place) ≡ Ok field.now) }
     ensures refused { IfErr result
-        (λ reason. fields_with place value fields.entry.items ≡ Err reason) }
+        (λ reason. some_field_at (slice_get fields.now place) ≡ Err reason) }
+{
+    match fields.get(place) {
+        Some(field) => Ok(field),
+        None => Err(Reason::UnknownField),
+    }
+}
+
+/// The packets, where the one at this place has these bits of a field, which has to stand in it.
+fn with_bits_at<'a>(
+    mut packets: Vec<Packet<'a>>,
+    place: usize,
+    field: &ScenarioField<'_>,
+    bits: u32,
+) -> Result<Vec<Packet<'a>>, Reason>
+    ensures set { IfOk result (λ after. bits_written place field.now bits packets.entry.items
+        (slice_get packets.entry.items place) ≡ Ok after.items) }
+    ensures refused { IfErr result (λ reason. bits_written place field.now bits
+        packets.entry.items (slice_get packets.entry.items place) ≡ Err reason) }
+{
+    if place >= packets.len() {
+        return Err(Reason::OutsidePacket);
+    }
+    if !is_inside(field, packets[place].payload().len()) {
+        return Err(Reason::OutsidePacket);
+    }
+    packets[place].write(field, bits);
+    Ok(packets)
+}
+
+/// Where the packet of a field stands, which has to be declared.
+fn some_packet_at(packets: &[Packet<'_>], field: &ScenarioField<'_>) -> Result<usize, Reason>
+    ensures { result ≡ some_packet_at (packet_place field.now.packet packets.now) }
+{
+    match packet_place(packets, field.packet()) {
+        Some(place) => Ok(place),
+        None => Err(Reason::OutsidePacket),
+    }
+}
+
+/// The packets with this value of a field.
+fn packets_with<'a>(
+    packets: Vec<Packet<'a>>,
+    field: &ScenarioField<'_>,
+    value: i64,
+) -> Result<Vec<Packet<'a>>, Reason>
+    ensures set { IfOk result
+        (λ after. packets_with field.now value packets.entry.items ≡ Ok after.items) }
+    ensures refused { IfErr result
+        (λ reason. packets_with field.now value packets.entry.items ≡ Err reason) }
     ensures fits { IfOk result (λ _. unsigned_abs value < 2 ^ 32) }
 {
-    if place >= fields.len() {
-        return Err(Reason::UnknownField);
+    let bits = value_bits(field, value)?;
+    let place = some_packet_at(packets.as_slice(), field)?;
+    with_bits_at(packets, place, field, bits)
+}
+
+/// Whether a field reads this value in the packet at a place.
+fn packet_reads(field: &ScenarioField<'_>, value: i64, packets: &[Packet<'_>], place: usize) -> bool
+    ensures { result ≡ packet_reads field.now value (slice_get packets.now place) }
+{
+    match packets.get(place) {
+        Some(packet) => reads(field, value, packet.payload()),
+        None => false,
     }
-    if !fields[place].kind().has(value) {
-        return Err(Reason::OutsideType);
-    }
-    fields[place].set(value);
-    Ok(fields)
 }
 
 impl<'a> Saying<'a> {
@@ -109,6 +163,14 @@ impl<'a> Saying<'a> {
         ensures { result.now ≡ self.now.fields }
     {
         self.fields.as_slice()
+    }
+
+    /// The number of lines of the plain script.
+    pub(crate) fn line_count(&self) -> usize
+        ensures count { result ≡ length self.now.lines }
+        ensures below { result < 2 ^ 63 }
+    {
+        self.lines.len()
     }
 
     /// The plain script, and the lines that say its lines.
@@ -156,13 +218,24 @@ impl<'a> Saying<'a> {
             script,
             lines,
         } = self;
-        let fields = fields_with(fields, place, value)?;
+        let field = some_field_at(fields.as_slice(), place)?;
+        let packets = packets_with(packets, field, value)?;
         Ok(Saying {
             packets,
             fields,
             script,
             lines,
         })
+    }
+
+    /// Whether the field at a place reads this value in the packet at a place, by now.
+    pub(crate) fn reads_value(&self, packet: usize, field: usize, value: i64) -> bool
+        ensures { result ≡ reads_value packet field value self.now }
+    {
+        match self.fields.get(field) {
+            Some(field) => packet_reads(field, value, self.packets.as_slice(), packet),
+            None => false,
+        }
     }
 
     /// The same, with the next packet of this place counted.
@@ -199,7 +272,7 @@ impl<'a> Saying<'a> {
         if place >= self.packets.len() {
             return Ok(self);
         }
-        let line = self.packets[place].line(alloc, self.fields.as_slice())?;
+        let line = self.packets[place].line(alloc)?;
         self.count_packet(place).with_line(n, line.as_slice())
     }
 }

@@ -5,10 +5,17 @@ use crate::statement::{Wanted, WordShape};
 use crate::word::{Word, are_digits};
 use diagnostics::{front_character, quote};
 use std::alloc::{AllocError, Global};
+use std::str;
 use stream_script::decimal_number;
 
 /// The digits of a message id.
 const ID_DIGITS: usize = 4;
+
+/// The most hexadecimal digits of a number of a scenario.
+const NUMBER_DIGITS: usize = 8;
+
+/// The most that a value of a scenario is without its sign.
+const MOST_VALUE: u64 = 4_294_967_295;
 
 /// How bytes are written.
 const BYTES_ADVICE: &str = "bytes have two digits each, of 0 to 9 and A to F";
@@ -16,6 +23,34 @@ const BYTES_ADVICE: &str = "bytes have two digits each, of 0 to 9 and A to F";
 /// Whether a word is a number between these.
 fn is_number(word: &[u8], least: u64, most: u64) -> bool {
     decimal_number(word).is_some_and(|number| (least..=most).contains(&number))
+}
+
+/// The number that a word of a scenario writes: decimal digits, or up to eight hexadecimal ones behind `0x`.
+fn any_number(word: &[u8]) -> Option<u64> {
+    match word {
+        [b'0', b'x', digits @ ..] => {
+            if digits.is_empty() || digits.len() > NUMBER_DIGITS {
+                return None;
+            }
+            u64::from_str_radix(str::from_utf8(digits).ok()?, 16).ok()
+        }
+        _ => decimal_number(word),
+    }
+}
+
+/// The value that a word of a scenario writes, which may have `-` in front.
+pub fn value_in(word: &[u8]) -> Option<i64> {
+    let (is_negative, digits) = match word {
+        [b'-', digits @ ..] => (true, digits),
+        _ => (false, word),
+    };
+    let number = any_number(digits).filter(|number| *number <= MOST_VALUE)?;
+    let value = i64::try_from(number).ok()?;
+    Some(if is_negative {
+        value.saturating_neg()
+    } else {
+        value
+    })
 }
 
 /// How many hexadecimal digits stand in front.
@@ -43,6 +78,10 @@ pub fn is_right(wanted: Wanted, word: Word<'_>) -> bool {
     }
     match wanted.shape {
         WordShape::Number(least, most) => is_number(text, least, most),
+        WordShape::AnyNumber(least, most) => {
+            any_number(text).is_some_and(|number| (least..=most).contains(&number))
+        }
+        WordShape::Value => value_in(text).is_some(),
         WordShape::MessageId => is_message_id(text),
         WordShape::Bytes => are_bytes(text),
         WordShape::Name(most) => text.len() <= most,
@@ -157,7 +196,10 @@ pub fn word_said(alloc: Global, wanted: Wanted, word: Word<'_>) -> Result<LineMe
         return expect_word(alloc, word, wanted.what, wanted.advice);
     }
     match wanted.shape {
-        WordShape::Number(least, _) => number_said(alloc, wanted, word, least),
+        WordShape::Number(least, _) | WordShape::AnyNumber(least, _) => {
+            number_said(alloc, wanted, word, least)
+        }
+        WordShape::Value => expect_word(alloc, word, wanted.what, wanted.advice),
         WordShape::MessageId => id_said(alloc, wanted, word),
         WordShape::Bytes => bytes_said(alloc, wanted, word),
         WordShape::Name(most) => name_said(alloc, word, most),

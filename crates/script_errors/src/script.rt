@@ -4,19 +4,23 @@ ghost use Rattle.std.specs.Prelude.{◌≡◌, ◌≤◌, IfOk};
 ghost use Rattle.script_errors.specs.Line.{line_count};
 ghost use Rattle.script_errors.specs.Telling.{IsOn, reason_code};
 
-use crate::argument::{is_right, word_said};
 use crate::body::body_said;
 use crate::fields::fields_said;
 use crate::line::{line_count, line_numbered};
-use crate::said::{LineMessage, expected_word, message_on, too_many};
+use crate::said::{LineMessage, expected_word, message_on};
 use crate::statement::{Statement, VERBS, statement_of};
-use crate::word::nth_word;
+use crate::wanted::{missing_said, wanted_said, wrong_said};
+use crate::word::{Word, before_comment, nth_word};
 use diagnostics::Message;
 use std::alloc::{AllocError, Global};
 use stream_script::Reason;
 
 /// What is said where no statement begins so.
 const VERBS_ADVICE: &str = "write `at`, `after`, `fields`, `tick`, `sample`, `start` or another";
+
+/// The same where packets are declared.
+const PACKETS_ADVICE: &str =
+    "write a packet's name, `after`, `tick`, `start`, `state`, `expect` or another";
 
 /// The number of the refusal of a line.
 fn code_of(reason: Reason) -> u8
@@ -34,45 +38,19 @@ fn code_of(reason: Reason) -> u8
     }
 }
 
-/// What is said of a line with too few or too many words.
-fn count_said(
+/// What is said of the words of a packet whose fields follow.
+fn packet_said(
     alloc: Global,
     line: &[u8],
     statement: Statement,
 ) -> Result<Option<LineMessage>, AllocError> {
-    let mut number = 1usize;
-    for wanted in statement.wanted {
-        let found = nth_word(line, number);
-        if found.is_end() {
-            return Ok(Some(word_said(alloc, *wanted, found)?));
-        }
-        number = number.saturating_add(1);
+    if let Some(said) = missing_said(alloc, line, 1, statement.wanted)? {
+        return Ok(Some(said));
     }
-    let behind = nth_word(line, number);
-    if statement.has_fields || behind.is_end() {
-        return Ok(None);
+    if let Some(said) = wrong_said(alloc, line, 1, statement.wanted)? {
+        return Ok(Some(said));
     }
-    Ok(Some(too_many(alloc, behind)?))
-}
-
-/// What is said of the first word that isn't what it has to be.
-fn words_said(
-    alloc: Global,
-    line: &[u8],
-    statement: Statement,
-) -> Result<Option<LineMessage>, AllocError> {
-    let mut number = 1usize;
-    for wanted in statement.wanted {
-        let found = nth_word(line, number);
-        if !is_right(*wanted, found) {
-            return Ok(Some(word_said(alloc, *wanted, found)?));
-        }
-        number = number.saturating_add(1);
-    }
-    if statement.has_fields {
-        return fields_said(alloc, line);
-    }
-    Ok(None)
+    fields_said(alloc, line)
 }
 
 /// What is said of a line that is refused, of a statement.
@@ -81,39 +59,68 @@ fn statement_said(
     line: &[u8],
     statement: Statement,
 ) -> Result<LineMessage, AllocError> {
-    if let Some(said) = count_said(alloc, line, statement)? {
-        return Ok(said);
-    }
-    match words_said(alloc, line, statement)? {
+    let said = if statement.has_fields {
+        packet_said(alloc, line, statement)?
+    } else {
+        wanted_said(alloc, line, 1, statement.wanted)?
+    };
+    match said {
         Some(said) => Ok(said),
         None => body_said(alloc, line),
     }
 }
 
-/// What is said of a line that is refused.
-fn line_said(alloc: Global, line: &[u8]) -> Result<LineMessage, AllocError> {
+/// With these names of packets the words with which a line may begin.
+fn packets_and_verbs<'a>(alloc: Global, packets: &[&'a [u8]]) -> Result<Vec<&'a [u8]>, AllocError> {
+    let mut known = Vec::from_slice(alloc, packets)?;
+    for verb in VERBS {
+        known.push(*verb)?;
+    }
+    Ok(known)
+}
+
+/// What is said of a line that begins no statement, where these packets are declared.
+fn verb_said(alloc: Global, verb: Word<'_>, packets: &[&[u8]]) -> Result<LineMessage, AllocError> {
+    let known = packets_and_verbs(alloc, packets)?;
+    let (wanted, advice) = if packets.is_empty() {
+        ("a statement", VERBS_ADVICE)
+    } else {
+        ("a packet's name or a statement", PACKETS_ADVICE)
+    };
+    expected_word(alloc, verb, known.as_slice(), wanted, advice)
+}
+
+/// What is said of a line that is refused, where these packets are declared.
+fn line_said(alloc: Global, line: &[u8], packets: &[&[u8]]) -> Result<LineMessage, AllocError> {
+    let line = before_comment(line);
     let verb = nth_word(line, 0);
     match statement_of(verb.text) {
         Some(statement) => statement_said(alloc, line, statement),
-        None => expected_word(alloc, verb, VERBS, "a statement", VERBS_ADVICE),
+        None => verb_said(alloc, verb, packets),
     }
 }
 
 /// What is said of the line with this number.
-fn message(alloc: Global, text: &[u8], code: u8, number: usize) -> Result<Message, AllocError>
+fn message(
+    alloc: Global,
+    text: &[u8],
+    code: u8,
+    number: usize,
+    packets: &[&[u8]],
+) -> Result<Message, AllocError>
     requires some { 1 ≤ number }
     requires there { number ≤ line_count text.now }
     ensures { IfOk result (IsOn text.now code number) }
 {
     let line = line_numbered(text, number);
-    let said = line_said(alloc, line.bytes)?;
+    let said = line_said(alloc, line.bytes, packets)?;
     message_on(alloc, line, code, said)
 }
 
 /// What is said of the line with this number, from 1, for which the reader gives this reason: which word is wrong or what is missing,
 /// and what would be right, by a number for each reason: 161 no statement is written so, 162 a number, 163 bytes, 164 a kind of record,
 /// 165 a type of a field, 166 a field outside its packet, 167 bytes that such a record can't have, 168 a name that is too long. Of a
-/// number that no line has the nearest line is told.
+/// number that no line has the nearest line is told. `packets` are the names of the packets that are declared, if there are some.
 ///
 /// Errors: there is no memory for what is said.
 pub fn script_message(
@@ -121,10 +128,11 @@ pub fn script_message(
     text: &[u8],
     number: usize,
     reason: Reason,
+    packets: &[&[u8]],
 ) -> Result<Message, AllocError>
     ensures { 1 ≤ number → number ≤ line_count text.now →
         IfOk result (IsOn text.now (reason_code reason) number) }
 {
     let nearest = number.min(line_count(text)).max(1);
-    message(alloc, text, code_of(reason), nearest)
+    message(alloc, text, code_of(reason), nearest, packets)
 }

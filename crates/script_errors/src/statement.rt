@@ -8,6 +8,10 @@ use lc_model::TYPE_WORDS;
 pub enum WordShape {
     /// A number in decimal digits, of at least and at most so much.
     Number(u64, u64),
+    /// The same, or in hexadecimal digits behind `0x`.
+    AnyNumber(u64, u64),
+    /// A number that may have `-` in front, of at most 32 bits without it.
+    Value,
     /// Four hexadecimal digits.
     MessageId,
     /// `-`, or two hexadecimal digits for each byte.
@@ -254,7 +258,7 @@ const STATEMENTS: &[Statement] = &[
     },
 ];
 
-/// The first words of all statements.
+/// The first words of all lines, those of scenarios and expectations among them.
 pub const VERBS: &[&[u8]] = &[
     b"at",
     b"after",
@@ -277,6 +281,13 @@ pub const VERBS: &[&[u8]] = &[
     b"file",
     b"packet",
     b"record",
+    b"mode",
+    b"state",
+    b"filter",
+    b"ramp",
+    b"repeat",
+    b"}",
+    b"expect",
 ];
 
 /// The statement that begins with this word.

@@ -73,6 +73,22 @@ pub fn word_behind(line: &[u8], from: usize) -> Word<'_> {
     }
 }
 
+/// What stands before a comment, which begins with a word that has `#` in front.
+pub fn before_comment(line: &[u8]) -> &[u8] {
+    let mut from = 0;
+    for _ in 0..line.len() {
+        let word = word_behind(line, from);
+        if word.is_end() {
+            return line;
+        }
+        if word.text.starts_with(b"#") {
+            return line.split_at(word.at.min(line.len())).0;
+        }
+        from = word.end();
+    }
+    line
+}
+
 /// The word with this number, from 0.
 pub fn nth_word(line: &[u8], number: usize) -> Word<'_> {
     let mut from = 0;

@@ -36,10 +36,10 @@ use Rattle.stream_script.proofs.Stands.{Stands, stands, record_again, has_moment
 -- ---- words have bytes, and none that parts words or lines
 
 -- bytes above this one
-abbrev over : ℕ → List ℕ → Bool
+abbrev pub over : ℕ → List ℕ → Bool
 over least bytes = list_all (nat_lt least) bytes
 
-abbrev IsOver : ℕ → List ℕ → Type 0
+abbrev pub IsOver : ℕ → List ℕ → Type 0
 IsOver least bytes = over least bytes ≡ true
 
 no_blank : (b : ℕ) → nat_lt 32 b ≡ true → is_blank b ≡ false
@@ -66,20 +66,20 @@ over_less (x ∷ xs) is =
 both_over : (least : ℕ) (xs ys : List ℕ) → IsOver least xs → IsOver least ys → IsOver least (xs ++ ys)
 both_over least xs ys first second = list_all-append (nat_lt least) xs ys ∙ and_true (over least xs) (over least ys) first second
 
-record IsWord (word : List ℕ) : Type 0 where
-  plain : IsOver 32 word
-  some : 0 < length word
+pub record IsWord (word : List ℕ) : Type 0 where
+  pub plain : IsOver 32 word
+  pub some : 0 < length word
 
 -- ---- the words of a line
 
 full_more : (word : List ℕ) (words : List (List ℕ)) → 0 < length word → full (word ∷ words) ≡ word ∷ full words
 full_more word words some = rw (test_unequal (length word) 0 (λ same. omega (arith, some, same))) refl
 
-next_word : (word rest : List ℕ) → IsWord word → words_of (word ++ (32 ∷ rest)) ≡ word ∷ words_of rest
+pub next_word : (word rest : List ℕ) → IsWord word → words_of (word ++ (32 ∷ rest)) ≡ word ∷ words_of rest
 next_word word rest is =
     ap full (parted_at is_blank word 32 rest (no_blanks word is.plain) refl) ∙ full_more word (parted is_blank rest) is.some
 
-last_word : (word : List ℕ) → IsWord word → words_of word ≡ word ∷ []
+pub last_word : (word : List ℕ) → IsWord word → words_of word ≡ word ∷ []
 last_word word is = ap full (parted_none is_blank word (no_blanks word is.plain)) ∙ full_more word [] is.some
 
 -- the words with a space between them, from the left and from the right
@@ -147,10 +147,10 @@ digits_are_over (d ∷ ds) are =
 below : (n : ℕ) → n < 2 ^ 32 → n < 2 ^ 64
 below n few = omega (arith, few)
 
-decimal_is_word : (n : ℕ) → n < 2 ^ 32 → IsWord (decimal n)
+pub decimal_is_word : (n : ℕ) → n < 2 ^ 32 → IsWord (decimal n)
 decimal_is_word n few = record { plain = digits_are_over (decimal n) (digits_decimal own n (below n few)); some = decimal_nonempty n (below n few) }
 
-number_again : (most n : ℕ) → n ≤ most → n < 2 ^ 32 → number_in most (decimal n) ≡ Ok n
+pub number_again : (most n : ℕ) → n ≤ most → n < 2 ^ 32 → number_in most (decimal n) ≡ Ok n
 number_again most n inside few =
     let short : length (decimal n) ≤ 10 = length-decimal-le 10 n (lit< tt) (omega (arith, few)) (below n few) in
     let some : nat_lt 0 (length (decimal n)) ≡ true = test_less 0 (length (decimal n)) (decimal_nonempty n (below n few)) in
@@ -181,7 +181,7 @@ digits_are_word : (b : ℕ) (bytes : List ℕ) → IsBytes (b ∷ bytes) → IsW
 unfolding encode_with
 digits_are_word b bytes are = record { plain = digits_of_bytes (b ∷ bytes) are; some = omega arith }
 
-bytes_are_word : (bytes : List ℕ) → IsBytes bytes → IsWord (bytes_word bytes)
+pub bytes_are_word : (bytes : List ℕ) → IsBytes bytes → IsWord (bytes_word bytes)
 bytes_are_word [] are = record { plain = refl; some = lit< tt }
 bytes_are_word (b ∷ bytes) are = subst IsWord (sym (some_bytes b bytes)) (digits_are_word b bytes are)
 
@@ -201,7 +201,7 @@ digits_again b bytes are =
     by_digits (encode_lower (b ∷ bytes)) (b ∷ bytes) (no_dash (slice_index lower_digits (b / 16)) (slice_index lower_digits (b % 16)) (encode_lower bytes))
     (decode_of-encode_lower (b ∷ bytes) are)
 
-bytes_again : (bytes : List ℕ) → IsBytes bytes → bytes_in (bytes_word bytes) ≡ Ok bytes
+pub bytes_again : (bytes : List ℕ) → IsBytes bytes → bytes_in (bytes_word bytes) ≡ Ok bytes
 bytes_again [] are = refl
 bytes_again (b ∷ bytes) are = ap bytes_in (some_bytes b bytes) ∙ digits_again b bytes are
 

@@ -7,3 +7,5 @@ pub mod Again
 pub mod Lines
 pub mod WholeStreams
 pub mod InFront
+mod Fronts
+mod Telemetry

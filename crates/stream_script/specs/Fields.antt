@@ -1,5 +1,5 @@
 -- Telemetry whose fields are set by type and offset. This project's own; types and offsets are those of rule texts.
-use Rattle.std.specs.Prelude.{ℕ, ◌+◌, ◌-◌, ◌^◌, ◌&&◌, List, [], ◌∷◌, ◌++◌, length, take, drop, replicate, codes, bytes_eq, nat_le, Option, Some, None, Result, Ok, Err, ℤ, if◌then◌else◌}
+use Rattle.std.specs.Prelude.{ℕ, ◌+◌, ◌-◌, ◌&&◌, List, [], ◌∷◌, ◌++◌, length, take, drop, replicate, codes, bytes_eq, nat_le, Option, Some, None, Result, Ok, Err, ℤ, if◌then◌else◌}
 use Rattle.lc_model.specs.declared.field.FieldType.{FieldType}
 use Rattle.lc_model.specs.Field.{field_bytes, is_in_type, width}
 use Rattle.lc_model.specs.Tables.Image.{bits_32}

@@ -4,6 +4,8 @@ pub mod Number
 pub mod Error
 pub mod Fields
 pub mod Script
+pub mod ByLines
 pub mod Front
 pub mod Whole
+pub mod Telemetry
 pub mod Listing

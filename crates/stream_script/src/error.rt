@@ -2,8 +2,9 @@
 
 ghost use Rattle.std.specs.Prelude.{◌≡◌};
 ghost use Rattle.stream_script.specs.declared.error.StatementFault.TheVariants.{Line, Memory};
+ghost use Rattle.stream_script.specs.declared.error.ScriptError.TheVariants as error;
 
-use std::alloc::AllocError;
+use std::alloc::{AllocError, AllocFailed};
 use thiserror::Error;
 
 /// Why a line of a script says nothing.
@@ -44,6 +45,14 @@ pub enum ScriptError {
     /// No memory for the stream.
     #[error("out of memory")]
     Memory,
+}
+
+impl<T: Drop> From<AllocFailed<T>> for ScriptError {
+    ghost from_gives = { λ _ e. e ≡ error.Memory };
+
+    fn from(_error: AllocFailed<T>) -> ScriptError {
+        ScriptError::Memory
+    }
 }
 
 /// Why a line adds nothing to a stream.

@@ -88,7 +88,7 @@ fn place_in(kind: FieldType, size: usize, word: &[u8]) -> Result<usize, Reason>
 }
 
 /// A number in 32 bits, in two's complement.
-fn bits_of(kind: FieldType, value: i64) -> u32
+pub fn bits_of(kind: FieldType, value: i64) -> u32
     requires { IsTrue (fits_32_bits kind value) }
     ensures { result ≡ bits_32 value }
 {
@@ -99,35 +99,40 @@ fn bits_of(kind: FieldType, value: i64) -> u32
     }
 }
 
-/// A payload with bytes written over those at a place.
-fn written_at(mut payload: Vec<u8>, place: usize, bytes: &[u8]) -> Vec<u8>
-    requires { place + length bytes.now ≤ length payload.items }
-    ensures written { result.items ≡ written_at place bytes.now payload.items }
-    ensures same_size { length result.items ≡ length payload.items }
+/// Writes bytes over those at a place of a payload.
+fn write_at(payload: &mut Vec<u8>, place: usize, bytes: &[u8])
+    requires { place + length bytes.now ≤ length payload.old.items }
+    ensures written { payload.new.items ≡ written_at place bytes.now payload.old.items }
+    ensures same_size { length payload.new.items ≡ length payload.old.items }
 {
     payload[place..place + bytes.len()].copy_from_slice(bytes);
-    payload
 }
 
-/// A payload with the last of these bits in the field of this type at a place.
-fn with_bits(payload: Vec<u8>, kind: FieldType, place: usize, bits: u32) -> Vec<u8>
-    requires { place + width kind ≤ length payload.items }
-    ensures written { result.items ≡ written_at place (field_bytes kind bits) payload.items }
-    ensures same_size { length result.items ≡ length payload.items }
+/// Writes the last of these bits into the field of this type at a place of a payload.
+pub fn write_field(payload: &mut Vec<u8>, kind: FieldType, place: usize, bits: u32)
+    requires { place + width kind ≤ length payload.old.items }
+    ensures written { payload.new.items ≡
+        written_at place (field_bytes kind bits) payload.old.items }
+    ensures same_size { length payload.new.items ≡ length payload.old.items }
 {
     let low_byte = (bits % 0x100) as u8;
     let low_half = (bits % 0x1_0000) as u16;
     match (kind.width(), kind.is_little()) {
-        (1, _) => written_at(payload, place, &[low_byte]),
-        (2, false) => written_at(payload, place, &low_half.to_be_bytes()),
-        (2, true) => written_at(payload, place, &low_half.to_le_bytes()),
-        (_, false) => written_at(payload, place, &bits.to_be_bytes()),
-        (_, true) => written_at(payload, place, &bits.to_le_bytes()),
+        (1, _) => write_at(payload, place, &[low_byte]),
+        (2, false) => write_at(payload, place, &low_half.to_be_bytes()),
+        (2, true) => write_at(payload, place, &low_half.to_le_bytes()),
+        (_, false) => write_at(payload, place, &bits.to_be_bytes()),
+        (_, true) => write_at(payload, place, &bits.to_le_bytes()),
     }
 }
 
 /// TYPE OFFSET VALUE: a payload with this field set.
-fn field_set(payload: Vec<u8>, kind: &[u8], offset: &[u8], value: &[u8]) -> Result<Vec<u8>, Reason>
+fn field_set(
+    mut payload: Vec<u8>,
+    kind: &[u8],
+    offset: &[u8],
+    value: &[u8],
+) -> Result<Vec<u8>, Reason>
     requires { length payload.items ≤ longest_packet - telemetry_header_size }
     ensures set { IfOk result
         (λ after. field_set payload.items kind.now offset.now value.now ≡ Ok after.items) }
@@ -138,7 +143,8 @@ fn field_set(payload: Vec<u8>, kind: &[u8], offset: &[u8], value: &[u8]) -> Resu
     let kind = some_type(kind)?;
     let place = place_in(kind, payload.len(), offset)?;
     let value = value_in(kind, value)?;
-    Ok(with_bits(payload, kind, place, bits_of(kind, value)))
+    write_field(&mut payload, kind, place, bits_of(kind, value));
+    Ok(payload)
 }
 
 /// A payload with the fields of these words set, one after the other.

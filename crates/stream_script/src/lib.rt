@@ -18,9 +18,10 @@ mod word;
 mod writing;
 
 pub use error::{Reason, ScriptError};
+pub use fields::{bits_of, write_field};
 pub use front::{Front, front_of};
 pub use kind::RecordKind;
-pub use line_reader::read_script;
+pub use line_reader::{ScriptStream, read_script, read_script_by_lines};
 pub use listing::write_listing_from;
 pub use number::decimal_number;
-pub use writing::write_script;
+pub use writing::{telemetry_line, write_script};

@@ -2,6 +2,7 @@
 
 ghost use Rattle.std.specs.Prelude.{◌≡◌, ◌+◌, ◌∷◌, ℕ, List, Ok, Err, IfOk, IfErr, IsErr};
 ghost use Rattle.lc_model.specs.Host.ScheduleText.{lines_of, words_of};
+ghost use Rattle.stream_script.specs.ByLines.{AreStarts, starts_in};
 ghost use Rattle.stream_script.specs.Error.{IsRefused, IsScriptError, ScriptFault};
 ghost use Rattle.stream_script.specs.Script.{line_said, lines_said, nothing_said, script_in};
 ghost use Rattle.stream_script.specs.declared.error.ScriptError.TheVariants.{Memory};
@@ -28,6 +29,7 @@ fn line_said(alloc: Global, script: Script, line: &[u8]) -> Result<Script, State
 fn read_line(alloc: Global, script: Script, line: &[u8], n: usize) -> Result<Script, ScriptError>
     ensures said { IfOk result (λ after. (lines : List (List ℕ)) →
         lines_said script n (line.now ∷ lines) ≡ lines_said after (n + 1) lines) }
+    ensures after { IfOk result (λ after. line_said script (words_of line.now) ≡ Ok after) }
     ensures refused { IfErr result (λ error. (lines : List (List ℕ)) →
         IsScriptError (lines_said script n (line.now ∷ lines)) error) }
 {
@@ -38,32 +40,61 @@ fn read_line(alloc: Global, script: Script, line: &[u8], n: usize) -> Result<Scr
     }
 }
 
-/// What all lines say.
-fn read_lines(alloc: Global, script: &[u8]) -> Result<Script, ScriptError>
-    ensures said { IfOk result (λ said. lines_said nothing_said 1 (lines_of script.now) ≡ Ok said) }
+/// What all lines say, and how many bytes of the stream are said before each.
+fn read_lines(alloc: Global, script: &[u8]) -> Result<(Script, Vec<usize>), ScriptError>
+    ensures said { IfOk result
+        (λ all. lines_said nothing_said 1 (lines_of script.now) ≡ Ok all.0) }
+    ensures starts { IfOk result (λ all. all.1.items ≡ starts_in script.now) }
     ensures refused { IfErr result
         (IsScriptError (lines_said nothing_said 1 (lines_of script.now))) }
 {
     let mut said = Script::new(alloc);
+    let mut starts = Vec::new(alloc);
     let mut left = Some(script);
-    let mut n = 0;
     while let Some(text) = left {
         let (line, rest) = first_line(text);
-        n += 1;
-        match read_line(alloc, said, line, n) {
+        starts.push(said.size())?;
+        match read_line(alloc, said, line, starts.len()) {
             Ok(after) => said = after,
             Err(error) => return Err(error),
         }
         left = rest;
     }
-    Ok(said)
+    Ok((said, starts))
 }
 
-/// The stream that a script says. Lines end at a line feed or at the end of the text, and words are parted by spaces, tabs and
-/// carriage returns; a line without words, or whose first word begins with `#`, says nothing.
+/// The stream that a script says, and for each line how many bytes of the stream the lines before it say: the line at place `k`,
+/// from 0, says the bytes from `starts[k]` up to `starts[k + 1]`, and the last line those from its start on.
+#[derive(Drop)]
+pub struct ScriptStream {
+    pub stream: Vec<u8>,
+    pub starts: Vec<usize>,
+}
+
+/// The stream that a script says, with the place of each line in it. Lines end at a line feed or at the end of the text, and words
+/// are parted by spaces, tabs and carriage returns; a line without words, or whose first word begins with `#`, says nothing.
 ///
 /// Errors, of which the least line's is answered: `Line` with the line's number from 1 and what is wrong with it; `Memory` only
-/// where the stream or a line finds no room.
+/// where the stream, its places or a line find no room.
+pub fn read_script_by_lines(alloc: Global, script: &[u8]) -> Result<ScriptStream, ScriptError>
+    ensures said { IfOk result (λ all. script_in script.now ≡ Ok all.stream.items) }
+    ensures starts { IfOk result (λ all. all.starts.items ≡ starts_in script.now) }
+    ensures fronts { IfOk result (λ all. AreStarts script.now all.stream.items all.starts.items) }
+    ensures refused { IfErr result (IsScriptError (script_in script.now)) }
+    ensures accepts { (stream : List ℕ) → script_in script.now ≡ Ok stream →
+        IfErr result (λ error. error ≡ Memory) }
+    ensures refuses { (fault : ScriptFault) → script_in script.now ≡ Err fault → IsErr result }
+{
+    match read_lines(alloc, script) {
+        Ok((said, starts)) => Ok(ScriptStream {
+            stream: said.into_bytes(),
+            starts,
+        }),
+        Err(error) => Err(error),
+    }
+}
+
+/// The stream that a script says, without the places of its lines (`read_script_by_lines`), with the same errors.
 pub fn read_script(alloc: Global, script: &[u8]) -> Result<Vec<u8>, ScriptError>
     ensures said { IfOk result (λ stream. script_in script.now ≡ Ok stream.items) }
     ensures refused { IfErr result (IsScriptError (script_in script.now)) }
@@ -71,8 +102,8 @@ pub fn read_script(alloc: Global, script: &[u8]) -> Result<Vec<u8>, ScriptError>
         IfErr result (λ error. error ≡ Memory) }
     ensures refuses { (fault : ScriptFault) → script_in script.now ≡ Err fault → IsErr result }
 {
-    match read_lines(alloc, script) {
-        Ok(said) => Ok(said.into_bytes()),
+    match read_script_by_lines(alloc, script) {
+        Ok(all) => Ok(all.stream),
         Err(error) => Err(error),
     }
 }

@@ -69,6 +69,13 @@ impl Script {
         }
     }
 
+    /// The number of bytes of the stream.
+    pub(crate) fn size(&self) -> usize
+        ensures { result ≡ length self.now.bytes }
+    {
+        self.bytes.len()
+    }
+
     /// The bytes of the stream.
     pub(crate) fn into_bytes(self) -> Vec<u8>
         ensures { result.items ≡ self.bytes }

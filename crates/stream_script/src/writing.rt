@@ -4,6 +4,7 @@ ghost use Rattle.std.specs.Prelude.{◌≡◌, ◌++◌, ◌≤◌, codes, decim
 ghost use Rattle.lc_model.specs.Host.Stream.{header_size, moment_of};
 ghost use Rattle.stream_script.specs.Front.{body_in_front, bytes_left, record_size};
 ghost use Rattle.stream_script.specs.Number.{bytes_word};
+ghost use Rattle.stream_script.specs.Telemetry.{telemetry_line};
 ghost use Rattle.stream_script.specs.Whole.{record_line, script_of, script_of_rest};
 
 use crate::front::{Front, front_of};
@@ -84,6 +85,23 @@ fn with_next<'a>(
             Ok((text, Some(rest)))
         }
     }
+}
+
+/// The line that says telemetry with this message id, sequence count and payload, at the moment. Out of memory is the only error.
+pub fn telemetry_line(
+    alloc: Global,
+    mid: u16,
+    count: u16,
+    payload: &[u8],
+) -> Result<Vec<u8>, AllocError>
+    ensures { IfOk result (λ line. line.items ≡ telemetry_line mid count payload.now) }
+{
+    let mut text = Vec::new(alloc);
+    text.extend_from_slice(b"telemetry ")?;
+    let mut text = with_bytes(alloc, text, &mid.to_be_bytes())?;
+    text.extend_from_slice(b" ")?;
+    let text = with_number(text, u64::from(count))?;
+    with_bytes(alloc, text, payload)
 }
 
 /// The script of a stream: a line for each record, with its moment, its kind and the bytes of its body, and a comment where

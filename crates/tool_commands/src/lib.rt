@@ -6,7 +6,7 @@ ghost use Rattle.std.specs.Prelude.{◌≡◌};
 ghost use Rattle.tool_commands.specs.Words.{fault_of_words};
 ghost use Rattle.tool_faults.specs.Status.{status_by};
 
-use check_command::{CheckOptions, check};
+use check_command::{CheckOptions, check, told};
 use flight_tools_args::{CommandPlan, WordsError, read_words};
 use std::fs::Files;
 use std::io::{self, BufWriter, Eprint, Input, Print, Read, Write};
@@ -23,7 +23,10 @@ pub fn main_on<R: Files + Input + Print + Eprint + AllocGlobal>(
     let Ok(mut out) = BufWriter::new(rt.alloc(), io::writer(rt)) else {
         return tell(rt, &Err(Fault::Memory));
     };
-    let answer = obey(rt, words, rt.reader(), &mut out, is_watched);
+    let answer = match obey(rt, words, rt.reader(), &mut out, is_watched) {
+        Ok(()) => Ok(()),
+        Err(fault) => Err(told(rt, fault)),
+    };
     let (_output, _unwritten) = out.into_parts();
     tell(rt, &answer)
 }
@@ -95,12 +98,17 @@ pub fn obey<'a, R: Files + Eprint + AllocGlobal, I: Read + Drop, W: Write>(
             stream,
             old,
             new,
-        } => run_commands::compare(rt, schedule, stream, old, new, out),
+            further,
+        } => {
+            let further = further.as_slice();
+            run_commands::compare(rt, schedule, stream, old, new, further, out)
+        }
         CommandPlan::Try {
             script,
             schedule,
             rules,
-        } => run_commands::try_out(rt, script, schedule, rules.as_slice(), out),
+            strict,
+        } => run_commands::try_out(rt, script, schedule, rules.as_slice(), strict, out),
         CommandPlan::Live { schedule, rules } => run_commands::run(
             rt,
             schedule,

@@ -27,6 +27,8 @@ pub enum Fault<'a> {
     Early,
     /// A stream that ends early, by its file's name, and where.
     Stream(&'a str, RunError),
+    /// A stream that brings a rule text which isn't given, by its file's name, and the numbers of the record and the text.
+    TextMissing(&'a str, u64, usize),
     /// Packets that end early, by their file's name: behind how many, and how many bytes are no whole packet.
     Packets(&'a str, u64, usize),
     /// A schedule or a script that is refused, and what is said of it.
@@ -118,6 +120,7 @@ impl Fault<'_> {
             Fault::Words(_) | Fault::NoText | Fault::Value(..) => 2,
             Fault::File(..) => 3,
             Fault::Early | Fault::Packets(..) => 4,
+            Fault::TextMissing(..) => 4,
             Fault::Run(error) | Fault::Stream(_, error) => status_of_run(*error),
             Fault::Memory => 5,
         }
@@ -137,6 +140,10 @@ impl Display for Fault<'_> {
             Fault::Judgement(name, error) => writeln!(f, "{name}: {error}"),
             Fault::Run(error) => writeln!(f, "{error}"),
             Fault::Stream(name, error) => writeln!(f, "{name}: {error}"),
+            Fault::TextMissing(name, n, text) => writeln!(
+                f,
+                "{name}: record {n} names rule text {text}, which is not given: add it with --with"
+            ),
             Fault::Packets(name, number, left) => writeln!(
                 f,
                 "{name}: cut behind packet {number}: {left} bytes are no whole packet"

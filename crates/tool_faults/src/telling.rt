@@ -7,7 +7,10 @@ use crate::fault::Fault;
 use crate::output::listing_result;
 use analysis_listing::ListingError;
 use diagnostics::{Mark, Message, message_line, page_of, warnings_page_of};
-use script_errors::{Refusal, script_message};
+use scenarios::Reason;
+use script_errors::{
+    DeclaredNames, Refusal, expectation_message, scenario_message, script_message,
+};
 use std::alloc::{AllocError, Global};
 use std::fmt::Display;
 use std::io::Write;
@@ -37,7 +40,7 @@ fn told_fault(alloc: Global, name: &str, text: &[u8], message: Message) -> Fault
 }
 
 /// The place of a line with this number, from its first word to its last; of a number that no line has, the text's end.
-fn line_mark(alloc: Global, text: &[u8], number: usize) -> Mark {
+pub fn line_mark(alloc: Global, text: &[u8], number: usize) -> Mark {
     let mut at = 0usize;
     for (place, line) in text.split(|byte| *byte == b'\n').enumerate() {
         if place.saturating_add(1) == number {
@@ -77,17 +80,65 @@ pub fn line_fault<E: Display>(
     }
 }
 
-/// The fault of a script in a file of this name, at a line of the text that says it.
-pub fn script_fault(alloc: Global, name: &str, text: &[u8], error: ScriptError) -> Fault<'static>
+/// The fault of a text in a file of this name of which this is said, if there was memory for it.
+fn message_fault(
+    alloc: Global,
+    name: &str,
+    text: &[u8],
+    message: Result<Message, AllocError>,
+) -> Fault<'static>
+    ensures { IsToldFault result }
+{
+    match message {
+        Ok(message) => told_fault(alloc, name, text, message),
+        Err(_) => Fault::Memory,
+    }
+}
+
+/// The fault of a script in a file of this name, at a line of the text that says it, where rule texts declare these names.
+pub fn script_fault(
+    alloc: Global,
+    name: &str,
+    text: &[u8],
+    error: ScriptError,
+    names: &DeclaredNames<'_>,
+) -> Fault<'static>
     ensures { IsOfScript error result }
 {
     match error {
         ScriptError::Memory => Fault::Memory,
-        ScriptError::Line { n, reason } => match script_message(alloc, text, n, reason) {
-            Ok(message) => told_fault(alloc, name, text, message),
-            Err(_) => Fault::Memory,
-        },
+        ScriptError::Line { n, reason } => {
+            let packets = names.packets.as_slice();
+            let message = script_message(alloc, text, n, reason, packets);
+            message_fault(alloc, name, text, message)
+        }
     }
+}
+
+/// The fault of a line, by its number, of a scenario in a file of this name, where rule texts declare these names.
+pub fn scenario_fault(
+    alloc: Global,
+    name: &str,
+    text: &[u8],
+    number: usize,
+    reason: Reason,
+    names: &DeclaredNames<'_>,
+) -> Fault<'static>
+    ensures { IsToldFault result }
+{
+    message_fault(
+        alloc,
+        name,
+        text,
+        scenario_message(alloc, text, number, reason, names),
+    )
+}
+
+/// The fault of a line, by its number, of a scenario in a file of this name, which says no expectation.
+pub fn expectation_fault(alloc: Global, name: &str, text: &[u8], number: usize) -> Fault<'static>
+    ensures { IsToldFault result }
+{
+    message_fault(alloc, name, text, expectation_message(alloc, text, number))
 }
 
 /// The fault of a schedule in a file of this name that is refused so.

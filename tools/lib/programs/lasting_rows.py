@@ -2,7 +2,7 @@
 write that fails is said; and memory is bounded, however long a file is."""
 
 from compile_rows import ADT, WDT
-from records import LOW, LOW_VOLTS, NO_ENTRIES, OF_TWO_FAILING_SAMPLES, STARTED, TWO_FAILING_SAMPLES, beginning, filled, record
+from records import beginning, filled, LOW, LOW_VOLTS, NO_ENTRIES, OF_TWO_FAILING_SAMPLES, record, said_of_unended, STARTED, TWO_FAILING_SAMPLES
 from row import GONE, Begins, Holds, Link, Row, Twin
 from tool_rows import BUS_SCRIPT, BUS_STREAM, NO_TOCK
 
@@ -100,7 +100,7 @@ OLD_RESULTS = [
         REPORT,
         {**OLD, "rules": b"packet BUS"},
         status=1,
-        error=b"rules: expected `=` at 10\n",
+        error=said_of_unended(b"rules"),
     ),
     Row(
         "a page that doesn't fit leaves the old one",
@@ -246,7 +246,7 @@ LIVE = [
         {**FILES, "rules": b"packet"},
         status=1,
         reads=TWO_FAILING_SAMPLES,
-        error=b"rules: expected a name at 6\n",
+        error=b"rules:1:7: error[11]: expected a name, found the end of the file\n  1 | packet\n    |       ^ the file ends here\n    |       - write a name here\n\n1 error\n",
     ),
     Row(
         "a run as it comes, to a full device",

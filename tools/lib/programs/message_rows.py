@@ -34,11 +34,38 @@ def no_script(title):
     return Row(title.replace("_", " "), ["flight_tools", "scenario", "script.txt", "stream"], {"script.txt": text}, status=1, error=said)
 
 
+def no_scenario(title):
+    """In the words of a rule text."""
+    before = {"script.txt": read(f"{title}.scenario"), "rules.txt": WORDS}
+    words = ["flight_tools", "scenario", "--rules", "rules.txt", "script.txt", "stream"]
+    return Row(title.replace("_", " "), words, before, status=1, error=read(f"{title}.said"))
+
+
+def no_trial(title):
+    before = {"script.txt": read(f"{title}.trial"), "rules.txt": WORDS, "schedule.txt": b"slots 1\n0 sample 0 175 age\n"}
+    words = ["flight_tools", "try", "script.txt", "schedule.txt", "rules.txt"]
+    return Row(title.replace("_", " "), words, before, status=1, error=read(f"{title}.said"))
+
+
 def objects(title, kind, *words):
     """The messages of a text as JSON, an object a line."""
     before = {f"{kind}.txt": read(f"{title}.{kind}"), "good": LOW_VOLTS}
     return Row(f"{title}, in JSON".replace("_", " "), ["flight_tools", "check", "--json", *words], before, status=1, output=read(f"{title}.json"))
 
+
+# The words that scenarios and trials use.
+WORDS = b"""packet BUS = mid 0x0883 length 16;
+packet PWR = mid 0x0884 length 16;
+field VOLTS = BUS u16be at 12 stale 3;
+field DEGREES = BUS i16be at 14 stale 3;
+field AMPS = PWR u16be at 12 stale 3;
+packet SW = mid 0x0885 length 16;
+field LOW_BITS = SW u8 at 12 mask 0x0F;
+field HIGH_BITS = SW u8 at 12 mask 0xF0;
+field WORD = SW u16be at 12;
+rule LOW active fails 2 sequence 7 event error 1001 "low volts" when VOLTS < 2400;
+rule HOT active fails 2 sequence 8 event critical 1002 "hot" when DEGREES > 60 and AMPS > 9;
+"""
 
 # Lines that say packets, and hardly those that are meant.
 UNFIT = b"""at 100 0
@@ -65,6 +92,8 @@ ROWS = [
     *(refused(title) for title in titles(".rules")),
     *(no_schedule(title) for title in titles(".schedule")),
     *(no_script(title) for title in titles(".script")),
+    *(no_scenario(title) for title in titles(".scenario")),
+    *(no_trial(title) for title in titles(".trial")),
     *(objects(title, "rules", "rules.txt") for title in titles(".json") if title in titles(".rules")),
     *(objects(title, "schedule", "--schedule", "schedule.txt", "good") for title in titles(".json") if title in titles(".schedule")),
     Row(

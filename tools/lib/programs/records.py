@@ -81,3 +81,9 @@ HOUSEKEEPING = (bytes([0x08, 0xA7, 0xC0, 0, 0, 185, 0, 0, 0, 100, 0, 0]) + bytes
 
 # What the run over three ticks writes, where every second one samples and the others ask for housekeeping.
 OF_THREE_TICKS = STARTED + event(4, b"HOST", 8, 2, b"app command 1 done") + HOUSEKEEPING + requested(5)
+
+
+def said_of_unended(name):
+    """What is said of the rule text `packet BUS` in a file of this name."""
+    place = name + b":1:11: error[11]: expected `=`, found the end of the file\n"
+    return place + b"  1 | packet BUS\n    |           ^ the file ends here\n    |           - write `=` here\n\n1 error\n"

@@ -4,7 +4,7 @@ import hashlib
 import os
 import re
 
-from records import LOW_VOLTS
+from records import LOW_VOLTS, said_of_unended
 from row import FOLDER, Begins, Holds, Row
 
 CRATES = os.path.join(os.path.dirname(os.path.abspath(__file__)), "..", "..", "..", "crates")
@@ -124,7 +124,7 @@ REPORTS = [
         REPORT,
         {**FILES, "rules": b"packet BUS"},
         status=1,
-        error=b"rules: expected `=` at 10\n",
+        error=said_of_unended(b"rules"),
     ),
     Row(
         "a page of a stream that is cut",

@@ -1,5 +1,6 @@
 """`flight_tools compare` and `try`: what comes of one of two rule texts alone, and what a script expects of a run."""
 
+from records import half, record, said_of_unended
 from row import Row
 from tool_rows import BUS_SCRIPT, BUS_STREAM
 
@@ -18,6 +19,39 @@ SCHEDULE = b"slots 2\n0 sample 0 175 age\n1 housekeeping\n"
 COMPARE = ["flight_tools", "compare", "schedule", "stream", "old", "new"]
 COMPARED = {"schedule": SCHEDULE, "stream": BUS_STREAM, "old": RULES, "new": LATER}
 
+
+
+def records_in(stream):
+    """The records of a stream, one after the other."""
+    found = []
+    while stream:
+        size = 11 + int.from_bytes(stream[7:11], "big")
+        found.append(stream[:size])
+        stream = stream[size:]
+    return found
+
+
+def put_in(stream, number, *records):
+    """A stream with records after the one of this number, at its moment."""
+    all_records = records_in(stream)
+    moment = all_records[number - 1][1:7]
+    return b"".join(all_records[:number] + [it[:1] + moment + it[7:] for it in records] + all_records[number:])
+
+
+def table_command(code, name):
+    """A command to the table services: 1 loads a file, 2 validates a table, 3 activates one."""
+    return record(1, bytes([0x18, 0x04, 0xC0, 0, 0, 41, code, 0]) + name.ljust(40, b"\0"))
+
+
+LATE_HALVES = [half(b"/cf/late_wdt.tbl", 1, 1), half(b"/cf/late_adt.tbl", 2, 1)]
+LOADED = [table_command(1, b"/cf/late_wdt.tbl"), table_command(1, b"/cf/late_adt.tbl")]
+JUDGED = [table_command(2, b"LC.LC_WDT"), table_command(2, b"LC.LC_ADT")]
+IN_FORCE = [table_command(3, b"LC.LC_WDT"), table_command(3, b"LC.LC_ADT")]
+# The text that comes up: another limit of HOT, and the rules in the other order.
+LATE = FIELDS + HOT.replace(b"fails 2", b"fails 1").replace(b"> 60", b"> 40") + LOW.replace(b"2400", b"2500")
+# A further text comes up after record 6, is judged at the next housekeeping, and in force at the one after that.
+UPLINK = put_in(put_in(BUS_STREAM, 8, *IN_FORCE), 6, *LATE_HALVES, *LOADED, *JUDGED)
+
 DIFFERENCES = b"""\
 105.00000 record 14: only old: sequence 7 (LOW)
 105.00000 record 14: only old: LC 1001 error of LOW: low volts, FailCount = 2, RTS = 7
@@ -27,6 +61,20 @@ DIFFERENCES = b"""\
 109.00000 record 22: only old: LC 1002 critical of HOT: hot, FailCount = 2, RTS = 8
 old alone: 4; new alone: 2; both: 5
 """
+
+# What differs before record 17.
+FIRST_DIFFERENCES = b"""\
+105.00000 record 14: only old: sequence 7 (LOW)
+105.00000 record 14: only old: LC 1001 error of LOW: low volts, FailCount = 2, RTS = 7
+old alone: 2; new alone: 0; both: 5
+"""
+
+
+def ended(lines, why):
+    """What is listed of runs that end early, for this reason."""
+    differences, _, summary = lines.rstrip(b"\n").rpartition(b"\n")
+    return differences + b"\nboth runs end here: " + why + b"\n" + summary + b"\n"
+
 
 COMPARISONS = [
     Row("a text and a later one", COMPARE, COMPARED, status=1, output=DIFFERENCES),
@@ -51,13 +99,80 @@ old alone: 2; new alone: 0; both: 7
 105.00000 record 14: only old: LC 1001 error of LOW: low volts, FailCount = 2, RTS = 7
 old alone: 2; new alone: 0; both: 5
 """),
-    Row("a comparison over a stream that is cut", COMPARE, {**COMPARED, "stream": BUS_STREAM[:-1]}, status=4, output=DIFFERENCES),
+    Row(
+        "a comparison over a stream that is cut",
+        COMPARE,
+        {**COMPARED, "stream": BUS_STREAM[:-1]},
+        status=4,
+        output=ended(DIFFERENCES, b"the stream ends inside record 24"),
+        error=b"stream: the stream ends inside record 24\n",
+    ),
+    Row(
+        "a comparison over a stream in which a record is none",
+        COMPARE,
+        {**COMPARED, "stream": put_in(BUS_STREAM, 16, b"\x09" + bytes(10))},
+        status=4,
+        output=ended(FIRST_DIFFERENCES, b"record 17 is none"),
+        error=b"stream: record 17 is none\n",
+    ),
+    Row(
+        "a comparison over a stream that brings a further text",
+        COMPARE,
+        {**COMPARED, "stream": put_in(BUS_STREAM, 16, LATE_HALVES[0])},
+        status=4,
+        output=ended(FIRST_DIFFERENCES, b"record 17 names rule text 1, which is not given"),
+        error=b"stream: record 17 names rule text 1, which is not given: add it with --with\n",
+    ),
+    Row(
+        "a half of a text that is no half",
+        COMPARE,
+        {**COMPARED, "stream": put_in(BUS_STREAM, 16, half(b"/cf/late_wdt.tbl", 3, 1))},
+        status=4,
+        output=ended(FIRST_DIFFERENCES, b"record 17 is none"),
+        error=b"stream: record 17 is none\n",
+    ),
+    Row(
+        "a further text that is given, and stored: rules are called by number from there on",
+        [*COMPARE, "--with", "late"],
+        {**COMPARED, "stream": put_in(BUS_STREAM, 16, LATE_HALVES[0]), "late": LATE},
+        status=1,
+        output=b"""\
+105.00000 record 14: only old: sequence 7 (LOW)
+105.00000 record 14: only old: LC 1001 error of LOW: low volts, FailCount = 2, RTS = 7
+107.00000 record 19: only new: sequence 8
+107.00000 record 19: only new: LC 1002 critical: hot: AP = 0, FailCount = 1, RTS = 8
+109.00000 record 23: only old: sequence 8
+109.00000 record 23: only old: LC 1002 critical: hot: AP = 1, FailCount = 2, RTS = 8
+old alone: 4; new alone: 2; both: 6
+""",
+    ),
+    Row(
+        "a further text that comes into force before the two differ",
+        [*COMPARE, "--with", "late"],
+        {**COMPARED, "stream": UPLINK, "late": LATE},
+        output=b"old alone: 0; new alone: 0; both: 18\n",
+    ),
+    Row(
+        "a further text that is not given, before the two differ",
+        COMPARE,
+        {**COMPARED, "stream": UPLINK},
+        status=4,
+        output=b"both runs end here: record 7 names rule text 1, which is not given\nold alone: 0; new alone: 0; both: 5\n",
+        error=b"stream: record 7 names rule text 1, which is not given: add it with --with\n",
+    ),
+    Row(
+        "a further text that doesn't compile",
+        [*COMPARE, "--with", "late", "later"],
+        {**COMPARED, "stream": UPLINK, "late": LATE, "later": b"packet BUS"},
+        status=1,
+        error=said_of_unended(b"later"),
+    ),
     Row(
         "a later text that doesn't compile",
         COMPARE,
         {**COMPARED, "new": b"packet BUS"},
         status=1,
-        error=b"new: expected `=` at 10\n",
+        error=said_of_unended(b"new"),
     ),
     Row(
         "a comparison to a full device",
@@ -81,14 +196,13 @@ expect state LOW passive
 expect result HOT fail
 """
 UNMET = [
-    (b"expect sequence 7 by 104", b"there came sequence 7 in second 105"),
-    (b"expect sequence 9 at 105", b"there came sequence 7 in second 105, event 1001 in second 105"),
-    (b"expect sequence at 50", b"there came sequence 7 in second 105, sequence 8 in second 109"),
+    (b"expect sequence 7 by 104", b"there came sequence 7 in second 105 (record 14)"),
+    (b"expect sequence 9 at 105", b"there came sequence 7 in second 105 (record 14), event 1001 in second 105 (record 14)"),
+    (b"expect sequence at 50", b"there came sequence 7 in second 105 (record 14), sequence 8 in second 109 (record 22)"),
     (b"expect event 5 at 50", b"nothing came"),
-    (b"expect no sequence until 110", b"there came sequence 7 in second 105, sequence 8 in second 109"),
+    (b"expect no sequence until 110", b"there came sequence 7 in second 105 (record 14), sequence 8 in second 109 (record 22)"),
     (b"expect state LOW active", b"it is passive"),
     (b"expect result LOW fail", b"its last result is pass"),
-    (b"expect state NONE active", b"there is no such rule"),
 ]
 
 
@@ -103,9 +217,14 @@ def told(lines, n, code, why, label=b""):
     return b"script:%d:1: error[%d]: %s\n  %d | %s\n    | %s\n\n1 error\n" % (n, code, why, n, line, mark)
 
 
-def refused(line, why):
-    lines = b"tick\n" + line + b"\n"
-    return Row("no expectation: " + line.decode(), TRY, trial(lines), status=1, error=told(lines, 2, 170, why))
+def unknown(name, lines, n):
+    return Row(name, TRY, trial(lines), status=1, error=told(lines, n, 172, b"no rule text that is given has this rule"))
+
+
+def warned(lines, n, name, why):
+    """What is said of a line of a script that is to be looked at."""
+    line = lines.split(b"\n")[n - 1]
+    return b"script:%d:1: warning[%s]: %s\n%3d | %s\n    | %s \n\n" % (n, name, why, n, line, b"^" * len(line))
 
 
 def stopped(name, script, line):
@@ -113,11 +232,23 @@ def stopped(name, script, line):
     return Row(name, TRY, trial(script), status=1, error=told(script, line, 171, why))
 
 
-NO_SPAN = b"seconds are told by `from`, `at`, `by` or `until` with a second, or by `from` and one of the last two"
-NO_SECOND = b"these seconds end before they begin: nothing can come in them"
 STOPS = b"start LC\nexpect no sequence\n\nat 100 0\nwdt 1 /cf/w.tbl\ntick\n"
 STOPS_LATE = b"repeat 3 {\ntick\n}\nadt 4 /cf/a.tbl\ntick\n"
 TOCK = b"expect sequence 7\ntock\n"
+IDLE = b"tick\nexpect no sequence\nexpect no event\n"
+NOTHING_RAN = warned(IDLE, 2, b"nothing-ran", b"nothing came of the Limit Checker, of which this expects something")
+# The rules are asked for behind the sixth packet, of which the second text is in force, or the first.
+SIXTH = BUS_SCRIPT.index(b"after 1\nfields 0883 6 ")
+ASKED = BUS_SCRIPT[:SIXTH].count(b"\n") + 1
+BY_FIRST = BUS_SCRIPT[:SIXTH] + b"""\
+expect state LOW passive
+expect state HOT active
+expect state 0:LOW active
+expect state 1:LOW passive
+""" + BUS_SCRIPT[SIXTH:]
+BY_SECOND = BY_FIRST.replace(b"wdt 0", b"wdt 1").replace(b"adt 0", b"adt 1")
+DIFFER = b"the rule texts give this rule different numbers: the text in force decides"
+MANY = b"".join(warned(BY_FIRST, ASKED + n, b"rule-number", DIFFER) for n in range(2))
 
 
 TRIALS = [
@@ -128,17 +259,56 @@ TRIALS = [
         trial(BUS_SCRIPT + b"".join(line + b"\n" for line, _ in UNMET)),
         status=1,
         output=b"".join(
-            b"script:%d: not met: %s: %s\n" % (LINES + n, line, why) for n, (line, why) in enumerate(UNMET, 1)
+            b"script:%d:1: error[unmet]: %s: %s\n" % (LINES + n, line, why) for n, (line, why) in enumerate(UNMET, 1)
         )
-        + b"script: 8 expectations, 8 not met\n",
+        + b"script: 7 expectations, 7 not met\n",
     ),
     Row(
         "a state before the Limit Checker runs",
         TRY,
         trial(b"expect state LOW active\n" + BUS_SCRIPT),
         status=1,
-        output=b"script:1: not met: expect state LOW active: the Limit Checker doesn't run\nscript: 1 expectation, 1 not met\n",
+        output=b"script:1:1: error[unmet]: expect state LOW active: the Limit Checker doesn't run\nscript: 1 expectation, 1 not met\n",
     ),
+    unknown("an expectation about a rule that no text has", b"start LC\nexpect state LOW active\nexpect result NONE pass\nexpect state NO off\n", 3),
+    unknown("an expectation about a rule of a text that isn't given", b"start LC\nexpect state 7:LOW active\n", 2),
+    Row(
+        "rules by the text in force",
+        [*TRY, "other"],
+        {**trial(BY_SECOND), "other": FIELDS + HOT + LOW},
+        output=b"script: 4 expectations, 0 not met\n",
+        error=MANY,
+    ),
+    Row(
+        "rules by the text in force, strictly",
+        ["flight_tools", "try", "--strict", *TRY[2:], "other"],
+        {**trial(BY_SECOND), "other": FIELDS + HOT + LOW},
+        status=1,
+        output=b"script: 4 expectations, 0 not met\n",
+        error=MANY,
+    ),
+    Row(
+        "rules by the first text in force",
+        [*TRY, "other"],
+        {**trial(BY_FIRST), "other": FIELDS + HOT + LOW},
+        status=1,
+        output=b"""\
+script:%d:1: error[unmet]: expect state 0:LOW active: it is passive
+script:%d:1: error[unmet]: expect state 1:LOW passive: it is active
+script: 4 expectations, 2 not met
+""" % (ASKED + 2, ASKED + 3),
+        error=MANY,
+    ),
+    Row("a run in which no Limit Checker ran", TRY, trial(IDLE), output=b"script: 2 expectations, 0 not met\n", error=NOTHING_RAN),
+    Row(
+        "a run in which no Limit Checker ran, strictly",
+        ["flight_tools", "try", "--strict", *TRY[2:]],
+        trial(IDLE),
+        status=1,
+        output=b"script: 2 expectations, 0 not met\n",
+        error=NOTHING_RAN,
+    ),
+    Row("a script that tries nothing", TRY, trial(b"tick\n"), error=warned(b"tick\n", 1, b"nothing-tried", b"nothing is expected, and nothing came")),
     Row("a script that expects nothing", TRY, trial(b"start LC\n"), output=b"""\
 1 0.00000 LC 1 information: started without tables
 2 0.00000 HOST 8 information: app command 1 done
@@ -151,25 +321,11 @@ TRIALS = [
         TRY,
         trial(TOCK),
         status=1,
-        error=told(TOCK, 2, 161, b"expected a statement, found `tock`", b"did you mean `tick`?"),
+        error=told(TOCK, 2, 161, b"expected a packet's name or a statement, found `tock`", b"did you mean `tick`?"),
     ),
-    Row("a text that isn't tried", TRY, {**trial(b"tick\n"), "rules": b"packet BUS"}, status=1, error=b"rules: expected `=` at 10\n"),
+    Row("a text that isn't tried", TRY, {**trial(b"tick\n"), "rules": b"packet BUS"}, status=1, error=said_of_unended(b"rules")),
     stopped("a run that stops at a rule text that isn't given", STOPS, 5),
     stopped("a run that stops behind repeated lines", STOPS_LATE, 4),
-    refused(b"expect", b"`expect` goes on with `sequence`, `event`, `state` or `result`, or with `no` and one of the first two"),
-    refused(b"expect no state LOW active", b"`expect` goes on with `sequence`, `event`, `state` or `result`, or with `no` and one of the first two"),
-    refused(b"expect sequence 65536", b"a number is from 0 to 65535"),
-    refused(b"expect event 7 by x", b"a second is from 0 to 4294967295, and behind `until` from 1 on"),
-    refused(b"expect no event 7 until 0", b"a second is from 0 to 4294967295, and behind `until` from 1 on"),
-    refused(b"expect event 7 about 9", NO_SPAN),
-    refused(b"expect event 7 by", NO_SPAN),
-    refused(b"expect sequence 7 at 200 by 200", NO_SPAN),
-    refused(b"expect sequence 7 from 3 from 5", NO_SPAN),
-    refused(b"expect sequence 7 from 3 by 5 until 6", NO_SPAN),
-    refused(b"expect no sequence from 8 by 3", NO_SECOND),
-    refused(b"expect no sequence until 8 from 8", NO_SECOND),
-    refused(b"expect state LOW", b"`state` goes on with a rule's name and `active`, `passive`, `disabled` or `off`"),
-    refused(b"expect result LOW active", b"`result` goes on with a rule's name and `none`, `pass`, `fail`, `stale` or `error`"),
 ]
 
 ROWS = [*COMPARISONS, *TRIALS]

@@ -5,6 +5,6 @@ use Rattle.scenarios.specs.Declarations.{nothing_declared}
 use Rattle.scenarios.proofs.TextsDeclare.{all_declared}
 use Rattle.scenarios.proofs.declared.declared_in.Given as goal
 
-abbrev pub invariant-loop-text : goal.invariant-loop-text
-invariant-loop-text l =
-    all_declared (map items_in (drop l.text-index l.texts)) l.declared ≡ all_declared (map items_in l.texts) nothing_declared
+abbrev pub invariant-loop-number : goal.invariant-loop-number
+invariant-loop-number l =
+    all_declared l.number (map items_in (drop l.number l.texts)) l.declared ≡ all_declared 0 (map items_in l.texts) nothing_declared

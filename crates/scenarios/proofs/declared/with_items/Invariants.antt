@@ -6,6 +6,6 @@ use Rattle.scenarios.proofs.declared.with_items.Given as goal
 
 abbrev pub invariant-loop-item : goal.invariant-loop-item
 invariant-loop-item l = record {
-  says : with_items l.next (items_of (drop l.item-index l.items)) l.declared ≡ with_items 0 (items_of l.items) l.fn.start;
+  says : with_items l.text l.next (items_of (drop l.item-index l.items)) l.declared ≡ with_items l.text 0 (items_of l.items) l.fn.start;
   counted : l.next ≤ l.item-index;
 }

@@ -5,4 +5,4 @@ use Rattle.scenarios.proofs.Steps.{Stepping}
 use Rattle.scenarios.proofs.plain.said_within.Given as goal
 
 abbrev pub invariant-loop : goal.invariant-loop
-invariant-loop l = Stepping l.rules (texts_of l.lines) (said_within most_steps l.rules (texts_of l.lines) l.fn.start) l.counter most_steps l.going
+invariant-loop l = Stepping l.rules l.changes (texts_of l.lines) (said_within most_steps l.rules l.changes (texts_of l.lines) l.fn.start) l.counter most_steps l.going

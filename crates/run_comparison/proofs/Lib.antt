@@ -1,0 +1,5 @@
+pub mod Coming
+pub mod OneHost
+pub mod BothHosts
+pub mod Packets
+pub mod Counting

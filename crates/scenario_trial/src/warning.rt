@@ -1,0 +1,108 @@
+//! What is to be looked at in a script that was tried.
+
+ghost use Rattle.std.specs.Prelude.{◌≡◌, filter_map, map, IfOk};
+ghost use Rattle.scenario_trial.specs.Arrivals.{arrival_of};
+ghost use Rattle.scenario_trial.specs.Reading.{placed_of};
+ghost use Rattle.scenario_trial.specs.Warned.{has_many_numbers, idle_warning, numbers_warning, numbers_warnings, warnings_of};
+
+use crate::expectation::Arrival;
+use crate::expectation_lines::Placed;
+use run_stepper::Came;
+use scenarios::{DeclaredItems, Plain};
+use std::alloc::{AllocError, Global};
+
+/// What is to be looked at in a script that was tried. Lines are the scenario's, counted from 1.
+#[derive(Clone, Copy, Debug, PartialEq, Eq)]
+pub enum TrialWarning {
+    /// This line names a rule to which the texts give different numbers: the text in force decides.
+    ManyNumbers { n: usize },
+    /// This line is the first to expect something, and nothing came of the Limit Checker.
+    NothingRan { n: usize },
+    /// Nothing is expected, and nothing came.
+    NothingTried,
+}
+
+/// Whether an expectation names a rule to which the texts give different numbers.
+fn has_many_numbers(declared: &DeclaredItems<'_>, placed: &Placed<'_>) -> bool
+    ensures { result ≡ has_many_numbers declared.now (placed_of placed.now) }
+{
+    match placed.expectation.rule() {
+        Some(name) => declared.numbers_differ(name),
+        None => false,
+    }
+}
+
+/// The warning of an expectation's rule, where there is one.
+fn numbers_warning(
+    declared: &DeclaredItems<'_>,
+    plain: &Plain,
+    placed: &Placed<'_>,
+) -> Option<TrialWarning>
+    ensures { result ≡ numbers_warning declared.now plain.now.lines.items (placed_of placed.now) }
+{
+    if has_many_numbers(declared, placed) {
+        return Some(TrialWarning::ManyNumbers {
+            n: plain.line(placed.n),
+        });
+    }
+    None
+}
+
+/// The warnings of the rules of expectations, in their order. Out of memory is the only error.
+fn numbers_warnings(
+    alloc: Global,
+    declared: &DeclaredItems<'_>,
+    plain: &Plain,
+    expectations: &[Placed<'_>],
+) -> Result<Vec<TrialWarning>, AllocError>
+    ensures { IfOk result (λ found. found.items ≡ numbers_warnings declared.now
+        plain.now.lines.items (map placed_of expectations.now)) }
+{
+    let mut found = Vec::new(alloc);
+    for placed in expectations {
+        if let Some(warning) = numbers_warning(declared, plain, placed) {
+            found.push(warning)?;
+        }
+    }
+    Ok(found)
+}
+
+/// The warning of a run in which nothing was tried, where that is so.
+fn idle_warning(
+    plain: &Plain,
+    expectations: &[Placed<'_>],
+    came: &[Came<'_>],
+    arrivals: &[Arrival],
+) -> Option<TrialWarning>
+    requires arrived { arrivals.now ≡ filter_map arrival_of came.now }
+    ensures { result ≡ idle_warning plain.now.lines.items (map placed_of expectations.now) came.now }
+{
+    match expectations {
+        [] if came.is_empty() => Some(TrialWarning::NothingTried),
+        [placed, ..] if arrivals.is_empty() => Some(TrialWarning::NothingRan {
+            n: plain.line(placed.n),
+        }),
+        _ => None,
+    }
+}
+
+/// What is to be looked at in a script: each rule of its expectations to which the texts give different numbers, and whether nothing was
+/// tried. Out of memory is the only error.
+pub fn warnings_of(
+    alloc: Global,
+    declared: &DeclaredItems<'_>,
+    plain: &Plain,
+    expectations: &[Placed<'_>],
+    came: &[Came<'_>],
+    arrivals: &[Arrival],
+) -> Result<Vec<TrialWarning>, AllocError>
+    requires arrived { arrivals.now ≡ filter_map arrival_of came.now }
+    ensures { IfOk result (λ found. found.items ≡ warnings_of declared.now plain.now.lines.items
+        (map placed_of expectations.now) came.now) }
+{
+    let mut found = numbers_warnings(alloc, declared, plain, expectations)?;
+    if let Some(warning) = idle_warning(plain, expectations, came, arrivals) {
+        found.push(warning)?;
+    }
+    Ok(found)
+}

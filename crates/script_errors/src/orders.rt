@@ -1,0 +1,158 @@
+//! The statements of scenarios that stand for commands or for other lines, and the words that each has.
+
+use crate::statement::{Wanted, WordShape};
+
+/// The word that stands for all rules.
+pub const ALL: &[u8] = b"all";
+
+/// The modes that the Limit Checker can be set to.
+const MODES: &[&[u8]] = &[b"active", b"passive", b"disabled"];
+
+/// The states that a rule can be set to.
+const STATES: &[&[u8]] = &[b"active", b"passive", b"disabled", b"off"];
+
+/// The last results that a rule can have.
+const RESULTS: &[&[u8]] = &[b"none", b"pass", b"fail", b"stale", b"error"];
+
+const MODE: Wanted = Wanted {
+    what: "a mode",
+    advice: "write `active`, `passive` or `disabled`",
+    shape: WordShape::OneOf(MODES),
+};
+
+const RULE: Wanted = Wanted {
+    what: "a rule's name",
+    advice: "write the name of a rule",
+    shape: WordShape::Name(usize::MAX),
+};
+
+const RULE_OR_ALL: Wanted = Wanted {
+    what: "a rule's name",
+    advice: "write the name of a rule, or `all`",
+    shape: WordShape::Name(usize::MAX),
+};
+
+const STATE: Wanted = Wanted {
+    what: "a state",
+    advice: "write `active`, `passive`, `disabled` or `off`",
+    shape: WordShape::OneOf(STATES),
+};
+
+const RESULT: Wanted = Wanted {
+    what: "a result",
+    advice: "write `none`, `pass`, `fail`, `stale` or `error`",
+    shape: WordShape::OneOf(RESULTS),
+};
+
+const SENDER: Wanted = Wanted {
+    what: "the name of an application",
+    advice: "write `LC`, `SCH`, `COUNTER` or `HOST`",
+    shape: WordShape::Name(20),
+};
+
+const EVENT: Wanted = Wanted {
+    what: "the number of an event",
+    advice: "write 0 to 65,535",
+    shape: WordShape::AnyNumber(0, 65_535),
+};
+
+const MASK: Wanted = Wanted {
+    what: "the mask of a filter",
+    advice: "write 0 to 65,535, or the same in hexadecimal digits behind `0x`",
+    shape: WordShape::AnyNumber(0, 65_535),
+};
+
+const FIELD: Wanted = Wanted {
+    what: "a field's name",
+    advice: "write the name of a field",
+    shape: WordShape::Name(usize::MAX),
+};
+
+const FROM: Wanted = Wanted {
+    what: "the first value",
+    advice: "write a number",
+    shape: WordShape::Value,
+};
+
+const TO: Wanted = Wanted {
+    what: "the last value",
+    advice: "write a number",
+    shape: WordShape::Value,
+};
+
+const BY: Wanted = Wanted {
+    what: "`by`",
+    advice: "a ramp is `ramp FIELD FROM TO by STEP each SECONDS`",
+    shape: WordShape::OneOf(&[b"by"]),
+};
+
+const STEP: Wanted = Wanted {
+    what: "the step",
+    advice: "write 1 to 4,294,967,295: the values go towards the last by themselves",
+    shape: WordShape::AnyNumber(1, 4_294_967_295),
+};
+
+const EACH: Wanted = Wanted {
+    what: "`each`",
+    advice: "a ramp is `ramp FIELD FROM TO by STEP each SECONDS`",
+    shape: WordShape::OneOf(&[b"each"]),
+};
+
+const PACE: Wanted = Wanted {
+    what: "the seconds between two values",
+    advice: "write 0 to 4,294,967,295",
+    shape: WordShape::AnyNumber(0, 4_294_967_295),
+};
+
+const TICK: Wanted = Wanted {
+    what: "`tick`, or the end of the line",
+    advice: "write `tick` where a tick follows each value",
+    shape: WordShape::OneOf(&[b"tick"]),
+};
+
+const TIMES: Wanted = Wanted {
+    what: "how often",
+    advice: "write 0 to 1,000,000",
+    shape: WordShape::AnyNumber(0, 1_000_000),
+};
+
+const OPEN: Wanted = Wanted {
+    what: "`{`",
+    advice: "the lines that are repeated stand between `{` and `}`",
+    shape: WordShape::OneOf(&[b"{"]),
+};
+
+const MODE_WORDS: &[Wanted] = &[MODE];
+
+const STATE_WORDS: &[Wanted] = &[RULE_OR_ALL, STATE];
+
+const FILTER_WORDS: &[Wanted] = &[SENDER, EVENT, MASK];
+
+const REPEAT_WORDS: &[Wanted] = &[TIMES, OPEN];
+
+/// What follows `expect state`.
+pub const EXPECTED_STATE: &[Wanted] = &[RULE, STATE];
+
+/// What follows `expect result`.
+pub const EXPECTED_RESULT: &[Wanted] = &[RULE, RESULT];
+
+/// The words of a ramp.
+const RAMP: &[Wanted] = &[FIELD, FROM, TO, BY, STEP, EACH, PACE];
+
+const RAMP_WITH_TICKS: &[Wanted] = &[FIELD, FROM, TO, BY, STEP, EACH, PACE, TICK];
+
+/// What follows the first word of such a line, which has so many words behind it.
+pub fn order_words(verb: &[u8], count: usize) -> Option<&'static [Wanted]> {
+    match verb {
+        b"mode" => Some(MODE_WORDS),
+        b"state" => Some(STATE_WORDS),
+        b"filter" => Some(FILTER_WORDS),
+        b"repeat" => Some(REPEAT_WORDS),
+        b"ramp" => Some(if count > RAMP.len() {
+            RAMP_WITH_TICKS
+        } else {
+            RAMP
+        }),
+        _ => None,
+    }
+}

@@ -1,0 +1,150 @@
+//! What is said of a scenario's line that is refused.
+
+ghost use Rattle.std.specs.Prelude.{◌≡◌, ◌≤◌, IfOk};
+ghost use Rattle.script_errors.specs.Line.{line_count};
+ghost use Rattle.script_errors.specs.Telling.{IsOn};
+
+use crate::assignment::{other_said, shared_said, unassigned_said, unknown_said, value_said};
+use crate::line::{line_count, line_numbered};
+use crate::names::DeclaredNames;
+use crate::orders::{ALL, order_words};
+use crate::said::{LineMessage, advise, message_on, said_of};
+use crate::wanted::wanted_said;
+use crate::word::{Word, before_comment, nth_word};
+use diagnostics::{Message, nearest, quote};
+use scenarios::Reason;
+use std::alloc::{AllocError, Global};
+
+/// The number of a line of a scenario that says no line of a plain script.
+pub const NO_WORDS: u8 = 169;
+
+/// What is said of a rule's name that no rule text has.
+pub fn rule_said(
+    alloc: Global,
+    word: Word<'_>,
+    rules: &[&[u8]],
+) -> Result<LineMessage, AllocError> {
+    let shown = word.quote(alloc)?;
+    let head = format!(in alloc; "no rule text has a rule {shown}")?;
+    match nearest(alloc, word.text, rules)? {
+        Some(meant) => {
+            let meant = quote(alloc, meant)?;
+            let label = format!(in alloc; "did you mean {meant}?")?;
+            Ok(said_of(word, head, label))
+        }
+        None => advise(alloc, word, head, "write the name of a rule"),
+    }
+}
+
+/// How many words the line has behind its first.
+fn count_behind(line: &[u8]) -> usize {
+    let mut count = 0usize;
+    for number in 1..line.len() {
+        if nth_word(line, number).is_end() {
+            break;
+        }
+        count = number;
+    }
+    count
+}
+
+/// What is said of a line whose words are right one by one.
+fn whole_said(alloc: Global, line: &[u8], reason: Reason) -> Result<LineMessage, AllocError> {
+    let verb = nth_word(line, 0);
+    let (head, advice) = match reason {
+        Reason::Unended => ("`repeat` has no `}`", "a line `}` ends what is repeated"),
+        Reason::Unbegun => ("`}` ends no `repeat`", "leave it out"),
+        Reason::TooLong => (
+            "the script has over 1,000,000 lines",
+            "up to here it has so many",
+        ),
+        Reason::NoState => {
+            let head = String::from_str(alloc, "all rules can't be off for good")?;
+            return advise(
+                alloc,
+                nth_word(line, 2),
+                head,
+                "name a rule, or write `disabled`",
+            );
+        }
+        reason => {
+            let head = format!(in alloc; "{reason}")?;
+            return advise(alloc, verb, head, "this line");
+        }
+    };
+    advise(alloc, verb, String::from_str(alloc, head)?, advice)
+}
+
+/// What is said of a line that stands for a command or for other lines.
+fn order_said(alloc: Global, line: &[u8], reason: Reason) -> Result<LineMessage, AllocError> {
+    let verb = nth_word(line, 0);
+    let said = match order_words(verb.text, count_behind(line)) {
+        Some(wanted) => wanted_said(alloc, line, 1, wanted)?,
+        None => None,
+    };
+    match said {
+        Some(said) => Ok(said),
+        None => whole_said(alloc, line, reason),
+    }
+}
+
+/// What is said of a line in these names that is refused for this reason.
+fn line_said(
+    alloc: Global,
+    line: &[u8],
+    reason: Reason,
+    names: &DeclaredNames<'_>,
+) -> Result<LineMessage, AllocError> {
+    let said = match reason {
+        Reason::NoField => unassigned_said(alloc, line, names)?,
+        Reason::OtherField => other_said(alloc, line, names)?,
+        Reason::UnknownField => unknown_said(alloc, line, names)?,
+        Reason::BadNumber | Reason::OutsideType | Reason::OutsideMask => {
+            value_said(alloc, line, names)?
+        }
+        Reason::TwoValues => shared_said(alloc, line, names)?,
+        Reason::UnknownRule => {
+            let rules = names.rules_and(alloc, ALL)?;
+            Some(rule_said(alloc, nth_word(line, 1), rules.as_slice())?)
+        }
+        _ => None,
+    };
+    match said {
+        Some(said) => Ok(said),
+        None => order_said(alloc, line, reason),
+    }
+}
+
+/// What is said of the line with this number.
+fn message(
+    alloc: Global,
+    text: &[u8],
+    number: usize,
+    reason: Reason,
+    names: &DeclaredNames<'_>,
+) -> Result<Message, AllocError>
+    requires some { 1 ≤ number }
+    requires there { number ≤ line_count text.now }
+    ensures { IfOk result (IsOn text.now 169 number) }
+{
+    let line = line_numbered(text, number);
+    let said = line_said(alloc, before_comment(line.bytes), reason, names)?;
+    message_on(alloc, line, NO_WORDS, said)
+}
+
+/// What is said of the line with this number, from 1, of a scenario, which is refused for this reason: which word is wrong or what is
+/// missing, and what would be right, in these names. Of a number that no line has the nearest line is told. Its number is 169.
+///
+/// Errors: there is no memory for what is said.
+pub fn scenario_message(
+    alloc: Global,
+    text: &[u8],
+    number: usize,
+    reason: Reason,
+    names: &DeclaredNames<'_>,
+) -> Result<Message, AllocError>
+    ensures { 1 ≤ number → number ≤ line_count text.now → IfOk result (IsOn text.now 169 number) }
+{
+    let nearest = number.min(line_count(text)).max(1);
+    message(alloc, text, nearest, reason, names)
+}
