@@ -76,6 +76,26 @@ def ended(lines, why):
     return differences + b"\nboth runs end here: " + why + b"\n" + summary + b"\n"
 
 
+# What stops both runs: the stream, what is listed before, why, and what standard error says beside that.
+STOPPED_COMPARISONS = [
+    ("a comparison over a stream that is cut", BUS_STREAM[:-1], DIFFERENCES, b"the stream ends inside record 24", b""),
+    ("a comparison over a stream in which a record is none", put_in(BUS_STREAM, 16, b"\x09" + bytes(10)), FIRST_DIFFERENCES, b"record 17 is none", b""),
+    (
+        "a comparison over a stream that brings a further text",
+        put_in(BUS_STREAM, 16, LATE_HALVES[0]),
+        FIRST_DIFFERENCES,
+        b"record 17 names rule text 1, which is not given",
+        b": add it with --with",
+    ),
+    ("a half of a text that is no half", put_in(BUS_STREAM, 16, half(b"/cf/late_wdt.tbl", 3, 1)), FIRST_DIFFERENCES, b"record 17 is none", b""),
+]
+
+
+def stopped_comparison(title, stream, lines, why, advice):
+    error = b"stream: " + why + advice + b"\n"
+    return Row(title, COMPARE, {**COMPARED, "stream": stream}, status=4, output=ended(lines, why), error=error)
+
+
 COMPARISONS = [
     Row("a text and a later one", COMPARE, COMPARED, status=1, output=DIFFERENCES),
     Row("a text and itself in another order", COMPARE, {**COMPARED, "new": FIELDS + HOT + LOW}, output=b"""\
@@ -99,38 +119,7 @@ old alone: 2; new alone: 0; both: 7
 105.00000 record 14: only old: LC 1001 error of LOW: low volts, FailCount = 2, RTS = 7
 old alone: 2; new alone: 0; both: 5
 """),
-    Row(
-        "a comparison over a stream that is cut",
-        COMPARE,
-        {**COMPARED, "stream": BUS_STREAM[:-1]},
-        status=4,
-        output=ended(DIFFERENCES, b"the stream ends inside record 24"),
-        error=b"stream: the stream ends inside record 24\n",
-    ),
-    Row(
-        "a comparison over a stream in which a record is none",
-        COMPARE,
-        {**COMPARED, "stream": put_in(BUS_STREAM, 16, b"\x09" + bytes(10))},
-        status=4,
-        output=ended(FIRST_DIFFERENCES, b"record 17 is none"),
-        error=b"stream: record 17 is none\n",
-    ),
-    Row(
-        "a comparison over a stream that brings a further text",
-        COMPARE,
-        {**COMPARED, "stream": put_in(BUS_STREAM, 16, LATE_HALVES[0])},
-        status=4,
-        output=ended(FIRST_DIFFERENCES, b"record 17 names rule text 1, which is not given"),
-        error=b"stream: record 17 names rule text 1, which is not given: add it with --with\n",
-    ),
-    Row(
-        "a half of a text that is no half",
-        COMPARE,
-        {**COMPARED, "stream": put_in(BUS_STREAM, 16, half(b"/cf/late_wdt.tbl", 3, 1))},
-        status=4,
-        output=ended(FIRST_DIFFERENCES, b"record 17 is none"),
-        error=b"stream: record 17 is none\n",
-    ),
+    *(stopped_comparison(*it) for it in STOPPED_COMPARISONS),
     Row(
         "a further text that is given, and stored: rules are called by number from there on",
         [*COMPARE, "--with", "late"],
