@@ -7,18 +7,18 @@
  * your own into it. They also call memcpy, memmove and memset.
  *
  * Who owns what. All memory that a call is given stays the caller's. A call reads and writes it while it runs and keeps no
- * pointer to it afterwards; what it took by memory.c it has given back when it answers. There is one exception: a host that was
+ * pointer to it afterwards; it gives back what it took by memory.c before it returns. There is one exception: a host that was
  * made holds memory of its own, all of which needlemauve_host_new takes and needlemauve_host_close gives back; feeding takes
  * none. There is no other state between calls: calls may run in several threads at the same time, each with arguments of its own
  * (where memory.c's functions may), and one host in one thread at a time. None may be made from a signal handler.
  *
- * What a call wants. Bytes may lie anywhere; lengths and the structures below lie as their types are aligned. What a call
+ * What a call needs. Bytes may lie anywhere; lengths and the structures below lie as their types are aligned. What a call
  * writes to (`told`, `wdt`, `adt`, `output`) overlaps nothing else that the call is given. Bytes of length 0 may be NULL.
  *
- * What a call refuses of its caller. The functions of this header test what they can see: NULL for something that has a
- * length, or is written to, is answered by NEEDLEMAUVE_NULL, and a length above PTRDIFF_MAX by NEEDLEMAUVE_TOO_LONG. Then
- * nothing is written but `told`, and not that where `told` is NULL. That as many bytes are there as the length says, and
- * NEEDLEMAUVE_WDT and NEEDLEMAUVE_ADT bytes at `wdt` and `adt`, is the caller's word alone.
+ * What a call tests. The functions of this header test what they can see: for NULL in the place of something that has a length,
+ * or is written to, they return NEEDLEMAUVE_NULL, and for a length above PTRDIFF_MAX NEEDLEMAUVE_TOO_LONG. Then only `told` is
+ * written, unless it is NULL. No call can test that as many bytes are there as the length says, nor that NEEDLEMAUVE_WDT and
+ * NEEDLEMAUVE_ADT bytes are at `wdt` and `adt`: the caller has to see to it.
  *
  * What a call promises is its contract, proved, in crates/needlemauve/src and crates/needlemauve_board/src; docs/LIBRARY.md
  * says it in plain words. */
@@ -32,7 +32,7 @@
 extern "C" {
 #endif
 
-/* The bytes of the file of a table of watchpoints, and of one of actionpoints. */
+/* The lengths in bytes of the file of a table of watchpoints, and of one of actionpoints. */
 #define NEEDLEMAUVE_WDT 4380u
 #define NEEDLEMAUVE_ADT 19516u
 
@@ -40,7 +40,8 @@ extern "C" {
 #define NEEDLEMAUVE_WATCHPOINTS 1u
 #define NEEDLEMAUVE_ACTIONPOINTS 2u
 
-/* Answers of every call. 0: done. Below 250: the refusals of docs/RULES.md and docs/FORMATS.md, by their numbers. */
+/* The codes that calls return. 0: done. Below 247: the refusals of docs/RULES.md and docs/FORMATS.md, by their
+ * numbers. */
 #define NEEDLEMAUVE_DONE 0u
 #define NEEDLEMAUVE_HAS_HOST 247u  /* the handle holds a host already */
 #define NEEDLEMAUVE_NO_HOST 248u   /* the handle holds no host */
@@ -102,49 +103,49 @@ struct needlemauve_host {
 };
 #define NEEDLEMAUVE_NOTHING_YET {NULL}
 
-/* Why a host isn't made, as of a run. */
+/* What came of making a host: the refusal, as for a run, or code 0. */
 struct needlemauve_made {
   struct needlemauve_refusal refusal;
   struct needlemauve_sentence sentence;
 };
 
-/* What came of a call that feeds a host: how many of the bytes were taken, and how many bytes of the output were written. */
+/* What came of a call that feeds a host: its code, how many of the bytes were taken, and how many bytes of the output were written. */
 struct needlemauve_handled {
   uint32_t code;
   uint64_t taken;
   uint64_t written;
 };
 
-/* Judges a table file as the host does on board, and answers told->code. */
+/* Judges a table file as the host does on board, and returns told->code. */
 uint32_t needlemauve_validate(uint32_t kind, const uint8_t *file, size_t length, struct needlemauve_verdict *told);
 
-/* Compiles a rule text into the files of its two tables, and answers told->refusal.code. Where that isn't 0, both files are as
- * they were. */
+/* Compiles a rule text into the files of its two tables, and returns told->refusal.code. If that isn't 0, both files are as they
+ * were. */
 uint32_t needlemauve_compile(const uint8_t *text, size_t length, uint8_t wdt[NEEDLEMAUVE_WDT], uint8_t adt[NEEDLEMAUVE_ADT],
                              struct needlemauve_compiled *told);
 
-/* Runs rule texts over a stream of records, with four Limit Checkers, two schedulers and two counters in stock, and answers
- * told->ending.code. The texts lie one behind the other: the first has lengths[0] bytes, and all together `size`. The first
- * told->written bytes of the output are the packets that were sent, and those behind them are as they were. 0: the stream's
- * end; 1 to 42: a text doesn't compile; 131 to 133: the schedule is none; 141: no record; 142: the stream ends inside one;
+/* Runs rule texts over a stream of records, with four Limit Checkers, two schedulers and two counters in stock, and returns
+ * told->ending.code. The texts lie one after the other: the first has lengths[0] bytes, and all together `size`. The first
+ * told->written bytes of the output are the packets that were sent, and the bytes after them are as they were. 0: the stream's
+ * end; 1 to 42: a text doesn't compile; 131 to 133: the schedule is invalid; 141: no record; 142: the stream ends inside one;
  * 144: the output has no room for more. */
 uint32_t needlemauve_run(const uint8_t *texts, size_t size, const size_t *lengths, size_t count, const uint8_t *schedule,
                          size_t schedule_length, const uint8_t *stream, size_t stream_length, uint8_t *output, size_t room,
                          struct needlemauve_outcome *told);
 
-/* Makes a host of rule texts (as of a run), with the same stock, to which nothing has come, and answers told->refusal.code: 0, or
- * why it isn't made. `room` is how many bytes one record may lead to: an event has 168, a sequence request 12, so that 65,536 hold
- * a sample of 176 rules that each request a sequence and tell two events. A record that leads to more closes the host (144). All
+/* Makes a host of rule texts (given as to needlemauve_run), with the same stock, and returns told->refusal.code: 0, or why it
+ * isn't made. `room` is how many bytes one record may lead to: an event has 168, a sequence request 12, so that 65,536 hold
+ * a sample of 176 rules that each request a sequence and send two events. A record that leads to more closes the host (144). All
  * memory is taken here. */
 uint32_t needlemauve_host_new(const uint8_t *texts, size_t size, const size_t *lengths, size_t count, const uint8_t *schedule,
                               size_t schedule_length, size_t room, struct needlemauve_host *host,
                               struct needlemauve_made *told);
 
-/* Takes bytes of the stream, as they come, and handles one record, in the time of that record; answers told->code. The first
- * told->taken bytes were taken, to be held behind those that are (73,739 at most are held); what the record leads to are the first
+/* Takes bytes of the stream, as they come, and handles one record, in the time of that record; returns told->code. The first
+ * told->taken bytes were taken, to be held after those that are held (73,739 at most); what the record leads to are the first
  * told->written bytes of the output, which has `size` bytes, no fewer than the host's room. 0: a record was handled, and another
  * may be held: call again, with the bytes that weren't taken, or with none. NEEDLEMAUVE_MORE: no whole record is held. 141: what
- * comes next is no record, and nothing behind it is handled. 144: the record leads to more than the room takes; the host handles
+ * comes next is no record, and nothing after it is handled. 144: the record leads to more than the room takes; the host handles
  * no record any more. */
 uint32_t needlemauve_host_feed(struct needlemauve_host *host, const uint8_t *bytes, size_t length, uint8_t *output, size_t size,
                                struct needlemauve_handled *told);

@@ -1,4 +1,4 @@
-/* What each call wants: the stack that it touches, on a stack that was filled before, and the memory that it has at once and asks
+/* What each call needs: the stack that it touches, on a stack that was filled before, and the memory that it has at once and asks
  * for in all. Prints a line a call. Wants pthreads, and stands in the place of memory.c. */
 #define _GNU_SOURCE
 #include "memory.h"
@@ -107,7 +107,7 @@ static void *close_it(void *result)
   return result;
 }
 
-/* Calls on a stack of its own, and answers how much of it was touched. */
+/* Calls on a stack of its own, and returns how much of it was touched. */
 static size_t stack_of(void *(*call)(void *), uint32_t *answer)
 {
   static uint8_t *stack;

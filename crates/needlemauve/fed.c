@@ -45,7 +45,7 @@ static struct file schedule, stream, texts;
 static size_t lengths[TEXTS], count;
 static uint8_t output[MOST];
 
-/* Puts a file behind what was read. */
+/* Appends a file to what was read. */
 static int is_read(const char *name, struct file *to)
 {
   FILE *file = fopen(name, "rb");

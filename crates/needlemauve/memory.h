@@ -1,7 +1,7 @@
-/* The three functions by which libneedlemauve.a takes memory. memory.c has them by the C library; a program may put its own in
- * their place.
+/* The three functions by which libneedlemauve.a takes memory. memory.c implements them by the C library; a program may put its own
+ * in their place.
  *
- * A block begins at a multiple of its alignment, which is a power of two up to 16; a block of no bytes is a block, too. Where
+ * A block begins at a multiple of its alignment, which is a power of two up to 16; a block of no bytes is a block, too. If
  * there is no memory, `there` is false and `at` is any pointer but NULL. */
 #ifndef NEEDLEMAUVE_MEMORY_H
 #define NEEDLEMAUVE_MEMORY_H
@@ -14,16 +14,16 @@ struct needlemauve_block {
   void *at;
 };
 
-/* A block of so many bytes. */
+/* Returns a new block of `size` bytes. */
 struct needlemauve_block rattle_alloc(size_t size, size_t alignment);
 
-/* The block with another size: its first `kept` bytes stay. It may move; where there is no memory it stays as it was. */
+/* Gives a block another size: its first `kept` bytes stay. It may move; if there is no memory it stays as it was. */
 struct needlemauve_block rattle_realloc(void *at, size_t kept, size_t size, size_t alignment);
 
-/* A block is given back. */
+/* Gives a block back. */
 void rattle_dealloc(void *at);
 
-/* The block at a pointer; none where that is NULL. */
+/* The block at a pointer; `there` is false if that is NULL. */
 static inline struct needlemauve_block needlemauve_block_at(void *at)
 {
   static long double nothing;

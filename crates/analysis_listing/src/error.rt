@@ -1,4 +1,4 @@
-//! Why a rule text, or a pair of tables, has no listing, or not a whole one.
+//! The errors of listing the analysis of a rule text or of a pair of tables.
 
 use std::alloc::{AllocError, AllocFailed};
 use std::io;
@@ -6,10 +6,10 @@ use table_file::FileError;
 use table_validator::TableFault;
 use thiserror::Error;
 
-/// Why nothing, or not all, was written.
+/// Why nothing or only a part was written.
 #[derive(Clone, Copy, Debug, Error)]
 pub enum ListingError {
-    /// No memory.
+    /// There is no memory for the analysis.
     #[error("out of memory")]
     Memory,
     /// A table file's headers have a fault.
@@ -18,7 +18,7 @@ pub enum ListingError {
     /// A table has a fault.
     #[error("{0}")]
     Table(TableFault),
-    /// The tables are of two rule texts.
+    /// The tables are of different rule texts.
     #[error("the tables are of two rule texts")]
     Apart,
     /// The writer refused bytes.

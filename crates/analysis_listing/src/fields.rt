@@ -16,13 +16,13 @@ struct NamedField<'a> {
     field: Field,
 }
 
-/// All that it names.
+/// The names of all fields of a rule text.
 #[derive(Drop)]
 pub struct FieldNames<'a> {
     fields: Vec<NamedField<'a>>,
 }
 
-/// The message id of the packet of this name; 0 where there is none.
+/// The message id of the packet of this name; 0 if there is none.
 fn mid_of(items: &[Item<'_>], name: &[u8]) -> u16 {
     for item in items {
         if let Item::Packet(packet) = item {
@@ -34,7 +34,7 @@ fn mid_of(items: &[Item<'_>], name: &[u8]) -> u16 {
     0
 }
 
-/// The field's bits that count: all, where the text says none.
+/// The bits of the field that are read: all of its type, if the text has no mask.
 fn mask_of(item: &FieldItem<'_>) -> u32
     ensures { item.now.mask ≡ None → result ≡ full_mask item.now.kind }
 {
@@ -44,7 +44,7 @@ fn mask_of(item: &FieldItem<'_>) -> u32
     }
 }
 
-/// What a text names by this item.
+/// The field that this item declares, with its name.
 fn named_field<'a>(items: &[Item<'a>], item: &FieldItem<'a>) -> NamedField<'a> {
     NamedField {
         name: item.name.text,
@@ -58,7 +58,7 @@ fn named_field<'a>(items: &[Item<'a>], item: &FieldItem<'a>) -> NamedField<'a> {
 }
 
 impl<'a> FieldNames<'a> {
-    /// The fields of a text.
+    /// The field names of a text. The only error is a lack of memory.
     pub fn of(alloc: Global, text: &RuleText<'a>) -> Result<FieldNames<'a>, AllocError> {
         let items = text.file.items.as_slice();
         let mut fields = Vec::new(alloc);
@@ -70,7 +70,7 @@ impl<'a> FieldNames<'a> {
         Ok(FieldNames { fields })
     }
 
-    /// The first name of the field that a term reads.
+    /// The first name of the field that a term reads; `?` if the text has none.
     pub fn name(&self, term: &Term) -> &'a [u8] {
         let field = field_of(term);
         for named in &self.fields {

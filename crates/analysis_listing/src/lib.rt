@@ -1,5 +1,4 @@
-//! What is to be said of a rule text before any packet comes, in lines that a flight team reads, in the words of the rule
-//! language.
+//! The analysis of a rule text before any packet comes, as lines for a flight team in the words of the rule language.
 #![tactic(auto)]
 
 mod error;

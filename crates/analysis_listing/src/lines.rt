@@ -5,7 +5,7 @@ use lc_model::Term;
 use rule_analysis::{Field, field_of, value_with};
 use std::fmt::{self, Display, Formatter, Write};
 
-/// A name of a rule text.
+/// A name of a rule text; it displays as its characters.
 #[derive(Clone, Copy)]
 pub struct Shown<'a>(pub &'a [u8]);
 
@@ -19,7 +19,7 @@ impl Display for Shown<'_> {
     }
 }
 
-/// What is judged.
+/// The rule or actionpoint that is judged.
 #[derive(Clone, Copy)]
 pub enum Title<'a> {
     /// The rule of this name.
@@ -40,12 +40,12 @@ impl Display for Title<'_> {
     }
 }
 
-/// What a field is called.
+/// The name of a field in a line.
 #[derive(Clone, Copy)]
 pub enum FieldName<'a> {
-    /// As the text names it.
+    /// Its name in the rule text.
     Text(&'a [u8]),
-    /// As the watchpoint of this number, from 0, in which a table has it first.
+    /// The number of the first watchpoint that reads it, counted from 0; it displays as `w0`.
     Watchpoint(usize),
 }
 
@@ -61,12 +61,12 @@ impl Display for FieldName<'_> {
     }
 }
 
-/// Where fields have their names from.
+/// The source of the fields' names.
 #[derive(Clone, Copy)]
 pub enum NameSource<'a> {
-    /// From a rule text.
+    /// A rule text.
     Text(&'a FieldNames<'a>),
-    /// From the watchpoints of a table.
+    /// The watchpoints of a table, in order.
     Table(&'a [Term]),
 }
 
@@ -83,7 +83,7 @@ impl<'a> NameSource<'a> {
     }
 }
 
-/// The number of the first of some watchpoints that reads the field that a term reads; their count where none does.
+/// The number of the first watchpoint that reads the same field as a term; the number of watchpoints if none does.
 fn first_reader(watchpoints: &[Term], term: &Term) -> usize {
     let field = field_of(term);
     for (number, watchpoint) in watchpoints.iter().enumerate() {
@@ -94,10 +94,12 @@ fn first_reader(watchpoints: &[Term], term: &Term) -> usize {
     watchpoints.len()
 }
 
-/// A comparison, as `VOLTS < 2400`.
+/// A comparison; it displays as `VOLTS < 2400`.
 #[derive(Clone, Copy)]
 pub struct ShownTerm<'a> {
+    /// The name of its field.
     pub name: FieldName<'a>,
+    /// The comparison.
     pub term: Term,
 }
 
@@ -118,11 +120,14 @@ fn is_read_before(terms: &[Term], at: usize, field: &Field) -> bool {
     false
 }
 
-/// What the fields of some terms are in packets, as `VOLTS = 2399, DEGREES = 61`; those alone that have a packet.
+/// The values of some terms' fields in packets; they display as `VOLTS = 2399, DEGREES = 61`. A field without a packet is left out.
 #[derive(Clone, Copy)]
 pub struct Values<'a> {
+    /// The source of the fields' names.
     pub names: NameSource<'a>,
+    /// The terms whose fields are shown, each field once.
     pub terms: &'a [Term],
+    /// The packets, latest first.
     pub packets: &'a [Vec<u8>],
 }
 

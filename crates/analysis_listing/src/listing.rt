@@ -1,4 +1,4 @@
-//! What is written of a rule text.
+//! The lines about the rules of a text.
 
 ghost use Rattle.std.specs.Prelude.{◌≡◌, ◌&&◌, not};
 ghost use Rattle.analysis_listing.specs.Said.{is_never};
@@ -16,13 +16,13 @@ use std::io::Write;
 /// Which lines are written.
 #[derive(Clone, Copy, Debug, PartialEq, Eq)]
 pub enum LineChoice {
-    /// A line for each rule, and each warning.
+    /// A line for each rule, and all warnings.
     All,
-    /// Warnings alone.
+    /// Only warnings.
     Warnings,
 }
 
-/// The terms of a rule's comparisons.
+/// The terms of a rule's comparisons, in order. The only error is a lack of memory.
 pub fn terms_in(
     alloc: Global,
     comparisons: &[ComparisonJudgement],
@@ -34,7 +34,7 @@ pub fn terms_in(
     Ok(terms)
 }
 
-/// Why something is not known.
+/// The words for the reason why something isn't known.
 pub fn why(reason: UnknownReason) -> &'static str {
     match reason {
         UnknownReason::Overlap => "its fields share bits",
@@ -42,7 +42,7 @@ pub fn why(reason: UnknownReason) -> &'static str {
     }
 }
 
-/// A rule or an actionpoint that is to be written of.
+/// The rule or actionpoint that a line is about.
 #[derive(Clone, Copy)]
 struct Subject<'a> {
     name: Title<'a>,
@@ -51,7 +51,7 @@ struct Subject<'a> {
 }
 
 impl<'a> Subject<'a> {
-    /// What its fields are in packets.
+    /// The values of its fields in packets.
     fn values(&self, packets: &'a [Vec<u8>]) -> Values<'a> {
         Values {
             names: self.names,
@@ -98,7 +98,7 @@ fn write_rule<W: Write>(
     Ok(())
 }
 
-/// Writes of a comparison that says the same of all numbers.
+/// Writes a warning for a comparison that is true or false for all values.
 fn write_comparison<W: Write>(
     subject: Subject<'_>,
     judged: &ComparisonJudgement,
@@ -118,7 +118,7 @@ fn write_comparison<W: Write>(
     Ok(())
 }
 
-/// Writes what is found of a rule or an actionpoint.
+/// Writes the lines about a rule or an actionpoint.
 pub(crate) fn write_subject<W: Write>(
     alloc: Global,
     names: NameSource<'_>,
@@ -140,14 +140,14 @@ pub(crate) fn write_subject<W: Write>(
     Ok(())
 }
 
-/// Whether a rule both can fail and can pass, or may.
+/// Whether a rule may both fail and pass, as far as is known.
 pub fn goes_both_ways(judged: &RuleJudgement) -> bool
     ensures { result ≡ (not (is_never judged.now.fails) && not (is_never judged.now.passes)) }
 {
     !matches!(&judged.fails, Finding::Never) && !matches!(&judged.passes, Finding::Never)
 }
 
-/// Writes for which values of its fields a rule fails and passes, if it does both.
+/// Writes the values of its fields with which a rule fails and passes, if both are known.
 fn write_outcome<W: Write>(
     alloc: Global,
     names: &FieldNames<'_>,
@@ -167,9 +167,8 @@ fn write_outcome<W: Write>(
     write_rule(subject, judged, LineChoice::All, out)
 }
 
-/// Writes of each rule of a text that can fail and can pass for which values of its fields it does, a line a rule.
-///
-/// Errors: `Memory`; `Write`, where the writer refuses bytes.
+/// Writes a line for each rule of a text that is known to fail and to pass, with values of its fields for both. Errors: `Memory`, or
+/// `Write` if the writer refuses bytes.
 pub fn list_outcomes<W: Write>(
     alloc: Global,
     text: &RuleText<'_>,

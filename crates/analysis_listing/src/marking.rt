@@ -1,4 +1,4 @@
-//! What is written of the actionpoints of a table.
+//! The lines about the actionpoints of a table.
 
 ghost use Rattle.std.specs.Prelude.{◌≡◌, ◌≤◌, IfOk, length};
 ghost use Rattle.lc_model.specs.declared.kind.Kind.TheVariants.{Adt, Wdt};
@@ -16,12 +16,12 @@ use std::io::Write;
 use table_file::{open, preamble};
 use table_validator::{ValidImage, validate};
 
-/// Whether the images are of one rule text.
+/// Whether the images are of the same rule text.
 fn are_of_one_text(watchpoints: &ValidImage<'_>, actionpoints: &ValidImage<'_>) -> bool {
     preamble::hash(watchpoints.image()) == preamble::hash(actionpoints.image())
 }
 
-/// Writes what is found of each actionpoint over these watchpoints.
+/// Writes the lines about each actionpoint over these watchpoints.
 fn write_actionpoints<W: Write>(
     alloc: Global,
     terms: &[Term],
@@ -43,11 +43,10 @@ fn write_actionpoints<W: Write>(
     Ok(())
 }
 
-/// Writes what is to be said of the actionpoints in a pair of table files before any packet comes: of each whether it can fail
-/// and pass, with values of its fields, and of comparisons that say the same of all numbers. A field is called by the first
-/// watchpoint that reads it, as `w0`.
+/// Writes the analysis of the actionpoints in a pair of table files: whether each can fail and pass, with values of its fields, and
+/// which comparisons are true or false for all values. A field is named by the first watchpoint that reads it, as `w0`.
 ///
-/// Errors: the first file's fault, or the second one's; `Apart`, where they are of two rule texts; `Memory`; `Write`, where the
+/// Errors: `File` or `Table` for the first fault of a file; `Apart` if they are of different rule texts; `Memory`; `Write` if the
 /// writer refuses bytes.
 pub fn list_actionpoints<W: Write>(
     alloc: Global,

@@ -1,27 +1,31 @@
-//! What is said of a rule.
+//! The finding that a line about a rule states.
 
 ghost use Rattle.std.specs.Prelude.{◌≡◌};
 ghost use Rattle.analysis_listing.specs.Said.{kind_of, line_of};
 
 use rule_analysis::{Finding, RuleJudgement, UnknownReason};
 
-/// What is said of a rule by whether it can fail, and whether it can pass; with packets that show it.
+/// Whether a rule can fail and can pass, with packets that show it, listed latest first.
 #[derive(Clone, Copy, Debug)]
 pub enum RuleFindings<'a> {
+    /// It fails with the packets `fails` and passes with the packets `passes`.
     FailsAndPasses {
         fails: &'a [Vec<u8>],
         passes: &'a [Vec<u8>],
     },
-    /// It never fails, and passes with these packets, where some are known.
+    /// It never fails. It passes with these packets, if some are known.
     NeverFails(Option<&'a [Vec<u8>]>),
+    /// It never passes, and fails with these packets.
     AlwaysFails(&'a [Vec<u8>]),
-    /// It never passes, and it isn't known whether it fails.
+    /// It never passes, and it isn't known whether it can fail.
     NeverPasses,
+    /// It isn't known whether it can fail, for this reason.
     FailsUnknown(UnknownReason),
+    /// It can fail, but it isn't known whether it can pass, for this reason.
     PassesUnknown(UnknownReason),
 }
 
-/// What is said of a rule that is judged.
+/// The finding of a judged rule.
 pub fn said_of<'a>(judged: &'a RuleJudgement) -> RuleFindings<'a>
     ensures { kind_of result ≡ line_of judged.now.fails judged.now.passes }
 {

@@ -1,4 +1,4 @@
-//! What a schedule samples.
+//! Which rules a schedule samples.
 
 ghost use Rattle.std.specs.Prelude.{◌≡◌, ◌++◌, IfOk, OnOk, filter, flat_map, not};
 ghost use Rattle.lc_model.specs.Tables.Image.{numbers_below};
@@ -11,7 +11,7 @@ use rule_analysis::never_sampled;
 use schedules::{Entry, Schedule};
 use std::alloc::{AllocError, Global};
 
-/// The sample requests of a slot join those before.
+/// Appends the sample requests of a slot.
 fn push_requests(entries: &[Entry], requests: &mut Vec<SampleRequest>) -> Result<(), AllocError>
     ensures { OnOk result (requests.new.items ≡
         requests.old.items ++ flat_map request_in (entries_of entries.now)) }
@@ -35,7 +35,8 @@ fn requests_of(alloc: Global, schedule: &Schedule) -> Result<Vec<SampleRequest>,
     Ok(requests)
 }
 
-/// Of so many rules those that the schedule samples at no tick, by their numbers from 0.
+/// The rules that the schedule samples at no tick, by number from 0; `rules` is the number of rules. The only error is a lack of
+/// memory.
 pub fn unsampled_rules(
     alloc: Global,
     rules: usize,

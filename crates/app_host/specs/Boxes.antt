@@ -5,8 +5,8 @@ use Rattle.app_host.specs.Object.{Object}
 use Rattle.app_host.specs.Objects.{HasRetired}
 
 module _ {B : Type 0} (meaning : B → Object) (seats : List (Option B)) (before : Services) where
-  -- the box of this seat was retired there, from these services to some: it holds no seat from then on. Nothing but the box's own
-  -- `retire` makes a box of its application of which this is so.
+  -- the box of this seat was retired there, over these services, and holds no seat from then on. Only the box's own `retire`
+  -- makes a box of its application for which this holds.
   pub record BoxHasGone (seat : ℕ) : Type 0 where
     pub after : Services
     pub gone : B

@@ -11,7 +11,8 @@ use Rattle.app_host.specs.Load.{packets_in}
 use Rattle.app_host.specs.Delivered.{HasHad}
 use Rattle.app_host.specs.Writing.{written_off}
 
--- one delivery, and the write behind it: the least seat with a packet comes next; no pipe is full; these bytes are to be written
+-- one delivery, and the write after it: the least seat with a packet comes next; no pipe is full; these bytes are to be
+-- written
 pub record IsDelivery (old new : Hosted) (bytes : List ℕ) : Type 0 where
   pub seat : ℕ
   pub packet : List ℕ
@@ -24,7 +25,7 @@ pub record IsDelivery (old new : Hosted) (bytes : List ℕ) : Type 0 where
   pub seats : new.seats ≡ answered.seats
   pub stock : new.stock ≡ old.stock
 
--- one behind the other, with what each is to write
+-- one after the other, with what each is to write
 unfoldable pub AreDeliveries : List (List ℕ) → Hosted → Hosted → Type 0
 AreDeliveries [] first now = now ≡ first
 AreDeliveries (bytes ∷ more) first now = (mid : Hosted) × IsDelivery first mid bytes × AreDeliveries more mid now
@@ -45,7 +46,7 @@ pub record IsOffered (packet : List ℕ) (old first : Hosted) : Type 0 where
 abbrev pub host_at : Moment → Hosted → Hosted
 host_at moment h = record h { services = at_moment moment h.services }
 
--- the packet is published, and so many deliveries are made, as many as calls are counted; this is what the applications sent
+-- the packet is published, and as many deliveries are made as calls are counted; this is what the applications sent
 pub record HasHeard (packet : List ℕ) (moment : Moment) (old new : Hosted) (theirs : List ℕ) : Type 0 where
   pub first : Hosted
   pub offered : IsOffered packet (host_at moment old) first

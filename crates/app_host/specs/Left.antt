@@ -46,7 +46,7 @@ GoesFrom seat before after None (Some gone) = ⊥
 GoesFrom seat before after (Some there) None = ⊥
 GoesFrom seat before after (Some there) (Some gone) = HasRetired seat before after there gone
 
--- a seat is given back, and what was asked for then is let go
+-- a seat is given back, and what was asked for then is discarded
 pub record GivesBack (seat : ℕ) (there gone : Option Object) (before after : Services) : Type 0 where
   pub behind : Services
   pub goes : GoesFrom seat before behind there gone

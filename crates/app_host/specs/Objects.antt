@@ -7,7 +7,7 @@ use Rattle.app_host.specs.Shared.{on_board, held_by, shared}
 use Rattle.app_host.specs.Calls.{IsObject, IsAtHome, Leaves, LeavesEmpty}
 use Rattle.app_host.specs.Hosted.{Object}
 
--- both are there, and stand so to each other; or neither is
+-- both are there and are related in this way; or neither is there
 abbrev pub IfBoth : {A : Type 0} → Option A → Option A → (A → A → Type 0) → Type 0
 IfBoth None None P = ⊤
 IfBoth (Some a) (Some b) P = P a b

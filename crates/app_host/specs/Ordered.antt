@@ -165,7 +165,7 @@ pub record IsPrepared (party : Party) (wanted : Result (Written (List ℕ)) Refu
   pub known : AreKnown old → AreKnown new
   pub exact : AreKnownIn party old → LeadsTo wanted new next
 
--- one of the two, by the answer
+-- one of the two, by the result
 abbrev pub Prepares : {B : Type 0} → (B → Object) →
     Party → Result (Written (List ℕ)) Refusal → Hosted → Hosted → Result (Successor B) HostError → Type 0
 Prepares meaning party wanted old new (Ok next) = IsPrepared party wanted old new (next_of meaning next)
@@ -184,7 +184,7 @@ abbrev pub IsAgain : Next → Option Object → Type 0
 IsAgain (Same o seat) gone = gone ≡ Some o
 IsAgain other _ = ⊤
 
--- who leaves has left, and his box is gone; the next one makes of it what is wanted
+-- who leaves has left, and its box is gone; the next one makes of it what is wanted
 pub record HasMadeWay (Gone : ℕ → Type 0) (wanted : Result Succession Refusal) (old new : Hosted) (next : Next) : Type 0 where
   pub succession : Succession
   pub is : wanted ≡ Ok succession
@@ -199,7 +199,7 @@ pub record HasMadeWay (Gone : ℕ → Type 0) (wanted : Result Succession Refusa
   pub stock : new.stock ≡ old.stock
   pub seats : new.seats ≡ seats_without succession.leaves old.seats
 
--- one of the two, by the answer
+-- one of the two, by the result
 abbrev pub MakesWay : {B : Type 0} → (B → Object) → (ℕ → Type 0) →
     Result Succession Refusal → Hosted → Hosted → Result (Successor B) HostError → Type 0
 MakesWay meaning Gone wanted old new (Ok next) = HasMadeWay Gone wanted old new (next_of meaning next)
@@ -213,7 +213,7 @@ MakesWayFor meaning Gone wanted old new (Err numbers) = (wanted ≡ Err numbers)
 
 -- ---- what is written
 
--- all was written that this step writes, so many bytes
+-- all that this step writes was written, and its size is this number
 pub record IsWritten (step : Written (List ℕ)) (sent : ℕ) (new : Hosted) (before now : Option (List ℕ)) : Type 0 where
   pub executive : executive_in new ≡ step.0
   pub count : sent ≡ length (concat step.1)
@@ -248,12 +248,12 @@ pub record HasFailed (next : Next) (sent : ℕ) (old new : Hosted) (before now :
   pub known : AreKnown old → IsKnownNext old.stock next → AreKnown new
   pub exact : IfExact old next (IsBroken (followed_by old.services.moment next (executive_in old)) sent new before.gained now.gained)
 
--- one of the two, by the answer
+-- one of the two, by the result
 abbrev pub ComesIn : Next → Hosted → Hosted → Sink → Sink → Result ℕ WriteFault → Type 0
 ComesIn next old new before now (Ok sent) = HasComeIn next sent old new before now
 ComesIn next old new before now (Err fault) = HasFailed next fault.sent old new before now
 
--- the next one came behind what waited, and this is what was to be written of both
+-- the next one came after what waited, and these are the bytes of both
 pub record HasCome (next : Next) (old new : Hosted) (theirs : List ℕ) : Type 0 where
   pub later : Services
   pub came : ComesAs (comer_of next) old.stock (gone_in next) (written_off old.services) later old.seats new.seats
@@ -266,7 +266,7 @@ pub record HasStayed (old new : Hosted) (theirs : List ℕ) : Type 0 where
   pub sent : theirs ≡ old.services.outgoing
   pub services : new.services ≡ written_off old.services
 
--- all that waited is written, so many bytes, and the next one has its seat
+-- all that waited is written, this many bytes, and the next one has its seat
 pub record HasEntered (next : Next) (sent : ℕ) (old new : Hosted) (before now : Option (List ℕ)) : Type 0 where
   pub theirs : List ℕ
   pub count : sent ≡ length theirs
@@ -283,7 +283,7 @@ pub record HasNotEntered (next : Next) (sent : ℕ) (old new : Hosted) (before n
   pub own : ComesTo (seated_next next (roster_of old)) old new ⊎ ComesTo (roster_of old) old new
   pub come : HasCome next old new theirs ⊎ HasStayed old new theirs
 
--- one of the two, by the answer
+-- one of the two, by the result
 abbrev pub Enters : Next → Hosted → Hosted → Option (List ℕ) → Option (List ℕ) → Result ℕ WriteFault → Type 0
 Enters next old new before now (Ok sent) = HasEntered next sent old new before now
 Enters next old new before now (Err fault) = HasNotEntered next fault.sent old new before now

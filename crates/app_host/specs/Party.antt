@@ -1,4 +1,4 @@
--- Of which objects it is asked that they are this profile's, where it is said exactly what a record leads to.
+-- Which objects have to be of this profile, for an exact statement of what a record leads to.
 use Rattle.std.specs.Prelude.{◌≡◌, ◌≢◌, ℕ, ◌≤◌, ◌==◌, ⊤, true, List, [], ◌∷◌, slice_index_or, Option, Some, None, find, IfSome, IsTrue, if◌then◌else◌, Result, Ok, Err}
 use Rattle.std.specs.List.{list_any, AllByRecursion}
 use Rattle.lc_model.specs.Name.{Name, is_named}
@@ -40,7 +40,7 @@ ordered Stop name = Only (Some name) None
 ordered Restart name = Only (Some name) None
 ordered Reload name = Only (Some name) (Some name)
 
--- who may take part in a command: in its order, or nobody where it is none
+-- who may take part in a command: in its order, or nobody if it is not an order
 abbrev pub party_by : Result (Order × Name) Refusal → Party
 party_by (Ok command) = ordered command.0 command.1
 party_by (Err refusal) = nobody

@@ -1,4 +1,4 @@
--- What it leaves that packets are published, and that this keeps the rules of the interface.
+-- What it leaves to publish packets, and that this keeps the rules of the interface.
 use Rattle.std.specs.Prelude.{◌≡◌, ℕ, List, [], ◌∷◌, ◌++◌, Some, option_map}
 use Rattle.lc_model.specs.Name.{Name}
 use Rattle.lc_model.specs.Packet.{message_id, tick_mid}
@@ -18,7 +18,7 @@ use Rattle.app_host.specs.Calls.{Leaves}
 abbrev pub roomy_depth : ℕ
 roomy_depth = 64
 
--- at most so many packets wait in each pipe
+-- at most this many packets wait in each pipe
 abbrev pub AreShort : ℕ → Bus → Type 0
 AreShort n bus = (seat : ℕ) → IsShort n (pipe_at seat bus)
 
@@ -44,7 +44,7 @@ PublishingGoesOn = (packets : List (List ℕ)) (packet : List ℕ) (before betwe
 abbrev pub TicksHaveRoom : Type 0
 TicksHaveRoom = (seat : ℕ) (name : Name) (packet : List ℕ) (held : Held) → MayBeGiven seat name packet held → message_id packet ≡ tick_mid → AreShort roomy_depth held.bus
 
--- ---- an object that answers a packet by publishing alone
+-- ---- an object that handles a packet by publishing alone
 
 abbrev pub PublishingAnswers : Type 0
 PublishingAnswers = (seat : ℕ) (name : Name) (packets : List (List ℕ)) (before after : Services) → Publishes packets before after →

@@ -1,5 +1,5 @@
--- What HOST itself does for a record, whatever its applications are: the event that it tells, with its bytes, what it makes of files
--- and of its own filters, and who is on the seats. Its event comes behind all that the applications sent that the record called.
+-- What HOST itself does for a record, whatever its applications are: the event that it sends, with its bytes, what it makes of
+-- files and of its own filters, and who is on the seats. Its event comes after all that the called applications sent.
 use Rattle.std.specs.Prelude.{◌≡◌, ℕ, ◌+◌, ◌*◌, ◌<◌, ◌≤◌, ◌⊎◌, nat_lt, Bool, true, false, List, [], ◌++◌, length, take, if◌then◌else◌, Option, Some, None, IfSome, option_to_list, Result, Ok, Err}
 use Rattle.std.specs.Option.{option_map_or}
 use Rattle.std.specs.List.{concat}
@@ -27,9 +27,10 @@ use Rattle.app_host.specs.Turn.{Turn, without_comer, HasTurned}
 
 -- ---- what a record asks of HOST
 
--- HOST's event, if it tells any; whether packets are given to applications, and which packet is published for that; the seat that an object leaves, if any, and how many
--- objects retire and start at most; who leaves and who comes, where an order is obeyed; who is where when the one that leaves has left, and when the one that comes has come; and what
--- the event and the table services are behind HOST's work and before its event
+-- HOST's event, if it sends any; whether packets are given to applications, and which packet is published for that; the seat
+-- that an object leaves, if any, and how many objects retire and start at most; who leaves and who comes, where an order is
+-- obeyed; who is where after one has left, and after one has come; and the event and table services after HOST's work and
+-- before its event
 pub record Response : Type 0 where
   pub request : Option Request
   pub delivers : Bool
@@ -42,7 +43,7 @@ pub record Response : Type 0 where
   pub events : EventService
   pub tables : TableService
 
--- what is handed to the applications, where HOST tells nothing
+-- what is handed to the applications, where HOST sends no event
 abbrev pub handing_on : Hosted → Response
 handing_on h = record {
   request = None;
@@ -57,11 +58,11 @@ handing_on h = record {
   tables = h.services.tables;
 }
 
--- a packet or a tick is published and handed to the applications, and HOST tells nothing
+-- a packet or a tick is published and handed to the applications, and HOST sends no event
 abbrev pub passing_on : List ℕ → Hosted → Response
 passing_on packet h = record (handing_on h) { passes = Some packet }
 
--- HOST tells this, and that is all
+-- HOST sends this event, and that is all
 abbrev pub only_telling : Request → Hosted → Response
 only_telling request h = record (handing_on h) { request = Some request; delivers = false }
 
@@ -128,8 +129,8 @@ pub record IsAlone (response : Response) (old new : Hosted) (theirs : List ℕ) 
   pub counts : new.services.counts ≡ old.services.counts
   pub seats : new.seats ≡ old.seats
 
--- what the applications have sent that the record called, 65,536 bytes a call at most, and the event services behind that: HOST's
--- own types and filters are not theirs to change. Who leaves a seat has been retired.
+-- what the called applications have sent, 65,536 bytes a call at most, and the event services after that: HOST's own types and
+-- filters are not theirs to change. Who leaves a seat has been retired.
 pub record HasCalled (moment : Moment) (response : Response) (old new : Hosted) : Type 0 where
   pub theirs : List ℕ
   pub behind : EventService
@@ -140,7 +141,7 @@ pub record HasCalled (moment : Moment) (response : Response) (old new : Hosted) 
   pub heard : IfSome response.passes (λ packet. HasHeard packet moment old new theirs)
   pub gone : IfSome response.leaves (λ seat. HasGone seat old.seats (at_moment moment old.services))
 
--- all is written, HOST's packet behind theirs
+-- all is written, HOST's packet after theirs
 pub record RespondsWhole (moment : Moment) (response : Response) (old new : Hosted) (before now : Option (List ℕ)) : Type 0 where
   pub called : HasCalled moment response old new
   pub gains : Appends before now (called.theirs ++ (asked_by_host moment response.request called.behind).1)
@@ -149,7 +150,7 @@ pub record RespondsWhole (moment : Moment) (response : Response) (old new : Host
   pub roster : roster_of new ≡ response.come
   pub turned : IfSome response.turn (λ turn. HasTurned turn moment old new called.theirs called.behind)
 
--- a write failed, and so many bytes were taken, the first ones. Where that is inside what the applications sent, HOST has not asked
+-- a write failed, and the first `sent` bytes were taken. If these end inside what the applications sent, HOST has not asked
 -- for its event, and it may be that nobody has come.
 pub record RespondsPart (moment : Moment) (response : Response) (sent : ℕ) (old new : Hosted) (before now : Option (List ℕ)) : Type 0 where
   pub called : HasCalled moment response old new
@@ -160,17 +161,17 @@ pub record RespondsPart (moment : Moment) (response : Response) (sent : ℕ) (ol
   pub roster : (roster_of new ≡ response.come) ⊎ ((roster_of new ≡ response.left) × (sent < length called.theirs))
   pub turned : IfSome response.turn (λ turn. HasTurned turn moment old new called.theirs called.behind ⊎ (HasTurned (without_comer turn) moment old new called.theirs called.behind × (sent < length called.theirs)))
 
--- all is written, so many bytes
+-- all is written, this many bytes
 pub record RespondsWithCount (moment : Moment) (response : Response) (total : ℕ) (old new : Hosted) (before now : Option (List ℕ)) : Type 0 where
   pub responds : RespondsWhole moment response old new before now
   pub count : total ≡ length (responds.called.theirs ++ (asked_by_host moment response.request responds.called.behind).1)
 
--- one of the two, by the answer
+-- one of the two, by the result
 abbrev pub Responds : {A : Type 0} → Moment → Response → Hosted → Hosted → Option (List ℕ) → Option (List ℕ) → Result A WriteFault → Type 0
 Responds moment response old new before now (Ok done) = RespondsWhole moment response old new before now
 Responds moment response old new before now (Err fault) = RespondsPart moment response fault.sent old new before now
 
--- and by an answer with the number of bytes, which is theirs and HOST's
+-- and by a result with the number of bytes, theirs and HOST's
 abbrev pub RespondsCounted : Moment → Response → Hosted → Hosted → Option (List ℕ) → Option (List ℕ) → Result ℕ WriteFault → Type 0
 RespondsCounted moment response old new before now (Ok total) = RespondsWithCount moment response total old new before now
 RespondsCounted moment response old new before now (Err fault) = RespondsPart moment response fault.sent old new before now

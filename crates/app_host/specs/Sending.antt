@@ -14,7 +14,7 @@ use Rattle.app_host.specs.Telling.{Tells}
 abbrev pub NothingIsTold : Type 0
 NothingIsTold = (origin : Origin) (name : Name) (s : Services) → Tells origin name [] s s
 
--- requests behind other requests
+-- requests after other requests
 abbrev pub TellingGoesOn : Type 0
 TellingGoesOn = (origin : Origin) (name : Name) (first second : List Request) (before between after : Services) → Tells origin name first before between →
     Tells origin name second between after → Tells origin name (first ++ second) before after

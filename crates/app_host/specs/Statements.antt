@@ -34,12 +34,12 @@ abbrev pub OpeningSettles : Type 0
 OpeningSettles = (seat : ℕ) (name : Name) (mids : List ℕ) (before after : Services) → IsOpened seat name mids before after → MayBeStarted seat name (held_by before) →
     (state : AppState) → own_name state ≡ name → own_forms state ≡ [] → subscriptions_of state ≡ mids → IsSettled state seat (held_by after)
 
--- who tells, by the name that stands at the place
+-- who sends an event, by the name that stands at the place
 abbrev pub TellingIsByName : Type 0
 TellingIsByName = (origin : Origin) (name : Name) (requests : Name → List Request) (before after : Services) → option_map name_of (sender_at origin before.events) ≡ Some name →
     IfSome (sender_at origin before.events) (λ (sender : Sender). Tells origin sender.name (requests sender.name) before after) → Tells origin name (requests name) before after
 
--- an object that answers a packet with events of its own alone
+-- an object that handles a packet by sending events of its own alone
 abbrev pub TellingAnswers : Type 0
 TellingAnswers = (seat : ℕ) (name : Name) (requests : List Request) (before after : Services) → Tells (Some seat) name requests before after →
     (packet : List ℕ) → BelongsTo seat name (held_by before) → length after.outgoing ≤ outgoing_room → IsGiven seat name packet (held_by before) (held_by after)
@@ -54,7 +54,7 @@ TellingSettles = (seat : ℕ) (name : Name) (requests : List Request) (before af
     (old state : AppState) → own_name state ≡ own_name old → own_forms state ≡ own_forms old → subscriptions_of state ≡ subscriptions_of old →
     IsSettled old seat (held_by before) → IsSettled state seat (held_by after)
 
--- an object that does not answer
+-- an object that does nothing for a packet
 abbrev pub SilenceAnswers : Type 0
 SilenceAnswers = (seat : ℕ) (name : Name) (s : Services) (packet : List ℕ) → BelongsTo seat name (held_by s) → s.outgoing ≡ [] →
     IsGiven seat name packet (held_by s) (held_by s)

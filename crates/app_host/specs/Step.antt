@@ -68,7 +68,7 @@ HandlesInput input old new before now result =
 
 -- ---- a whole step
 
--- so a host is between two steps: where no write has failed no packet waits
+-- a host between two steps: if no write has failed, no packet waits
 pub record IsBetween (h : Hosted) : Type 0 where
   pub whole : IsWhole h
   pub quiet : h.is_closed ≡ false → IsQuiet h
@@ -94,7 +94,7 @@ pub record StopsSo (moment : Moment) (input : Input (List ℕ)) (sent : ℕ) (ol
   pub host : host_step on_board moment sent (in_numbers old) input ≡ (in_numbers new, Some sent)
   pub gains : Appends before now (take sent (called_for moment input old))
 
--- all is written, the host is open, and no spare is new. What is exact asks of those who may take part that they are this profile's.
+-- all is written, the host is open, and no spare is new. The exact part holds if those who may take part are of this profile.
 pub record StepsWhole (moment : Moment) (input : Input (List ℕ)) (old new : Hosted) (before now : Sink) : Type 0 where
   pub is_open : new.is_closed ≡ false
   pub stock : All (Contains old.stock) new.stock
@@ -112,17 +112,17 @@ pub record StepsPart (moment : Moment) (input : Input (List ℕ)) (sent : ℕ) (
   pub known : AreKnown old → AreKnownIn (party_of input) old → AreKnown new
   pub exact : AreKnownIn (party_of input) old → StopsSo moment input sent old new before.gained now.gained
 
--- an answer without the number of bytes
+-- a result without the number of bytes
 abbrev pub without_count : Result ℕ WriteFault → Result (Unit {0}) WriteFault
 without_count (Ok total) = Ok tt
 without_count (Err fault) = Err fault
 
--- then so many bytes are those that the record calls for
+-- then this number of bytes is that of the bytes that the record calls for
 abbrev pub Counts : Moment → Input (List ℕ) → Hosted → Result ℕ WriteFault → Type 0
 Counts moment input old (Ok total) = AreKnownIn (party_of input) old → total ≡ length (called_for moment input old)
 Counts moment input old (Err fault) = ⊤
 
--- one of the two, by the answer
+-- one of the two, by the result
 abbrev pub Steps : Moment → Input (List ℕ) → Hosted → Hosted → Sink → Sink → Result (Unit {0}) WriteFault → Type 0
 Steps moment input old new before now (Ok done) = StepsWhole moment input old new before now
 Steps moment input old new before now (Err fault) = StepsPart moment input fault.sent old new before now

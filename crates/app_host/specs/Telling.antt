@@ -1,4 +1,4 @@
--- What it leaves that a sender's requests are sent.
+-- What it leaves to send a sender's requests.
 use Rattle.std.specs.Prelude.{◌≡◌, ◌≢◌, List, ◌++◌, option_map}
 use Rattle.std.specs.List.{concat}
 use Rattle.lc_model.specs.Name.{Name}

@@ -43,8 +43,8 @@ ComesAs (FromStock place seat) stock _ before after seats now = HasTaken seat be
 ComesAs (Again seat) stock None before after seats now = ⊥
 ComesAs (Again seat) stock (Some gone) before after seats now = HasTaken seat before after gone seats now
 
--- one left, if any does, and then the other one came, if any does; this is what they sent, and these are the event services behind
--- both. Bus, tables and sequence counts stay from then on.
+-- one left, if any does, and then the other one came, if any does; this is what they sent, and these are the event services
+-- after both. Bus, tables and sequence counts stay from then on.
 pub record HasTurned (turn : Turn) (moment : Moment) (old new : Hosted) (theirs : List ℕ) (behind : EventService) : Type 0 where
   pub after : Services
   pub later : Services

@@ -31,7 +31,7 @@ pub record AreSeated (seats : List (Option Object)) (s : Services) : Type 0 wher
 abbrev pub AreSpares : List Object → Type 0
 AreSpares stock = All (λ (spare : Object). spare.seat ≡ None) stock
 
--- so it is between any two calls of an application; and nothing waits to be written
+-- a host between any two calls of an application; and nothing waits to be written
 pub record IsWhole (h : Hosted) : Type 0 where
   pub seated : AreSeated h.seats h.services
   pub spares : AreSpares h.stock

@@ -23,7 +23,7 @@ most_sent = 1000000000000
 abbrev pub written_off : Services → Services
 written_off s = record s { outgoing = [] }
 
--- the host is as before, but that nothing waits to be written
+-- the host is as before, except that nothing waits to be written
 pub record IsFlushed (old new : Hosted) : Type 0 where
   pub stock : new.stock ≡ old.stock
   pub seats : new.seats ≡ old.seats
@@ -47,7 +47,7 @@ pub record IsPartSent (sent : ℕ) (old new : Hosted) (before now : Sink) (total
   pub failed : now.failed ≡ true
   pub is_closed : new.is_closed ≡ true
 
--- one of the two, by the answer
+-- one of the two, by the result
 abbrev pub IsSent : ℕ → Hosted → Hosted → Sink → Sink → Result ℕ WriteFault → Type 0
 IsSent sent old new before now (Ok total) = IsAllSent sent old new before now total
 IsSent sent old new before now (Err fault) = IsPartSent sent old new before now fault.sent
@@ -71,7 +71,7 @@ pub record IsCut (stations : List (Station (List ℕ))) (step : Written (List �
 
 -- ---- a step, or a part of one, by who may take part in it
 
--- all is written, so many bytes; no packet waits, no spare is new, and the host is as open as before
+-- all is written, this many bytes; no packet waits, no spare is new, and the host is as open as before
 pub record HandlesAll (party : Party) (stations : List (Station (List ℕ))) (step : Written (List ℕ)) (last total : ℕ) (old new : Hosted) (before now : Sink) : Type 0 where
   pub whole : IsWhole new
   pub quiet : IsQuiet new
@@ -93,7 +93,7 @@ pub record HandlesPart (party : Party) (stations : List (Station (List ℕ))) (s
   pub known : AreKnown old → AreKnownIn party old → AreKnown new
   pub exact : AreKnownIn party old → IsCut stations step sent new before.gained now.gained
 
--- one of the two, by the answer
+-- one of the two, by the result
 abbrev pub Handles : Party → List (Station (List ℕ)) → Written (List ℕ) → ℕ → Hosted → Hosted → Sink → Sink → Result ℕ WriteFault → Type 0
 Handles party stations step last old new before now (Ok total) = HandlesAll party stations step last total old new before now
 Handles party stations step last old new before now (Err fault) = HandlesPart party stations step fault.sent old new before now

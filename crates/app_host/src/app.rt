@@ -14,11 +14,11 @@ use lc_model::Seat;
 
 /// An application of the host.
 ///
-/// It holds a seat from `start` to the next `retire`, and what is there (a pipe, a sender of events, tables) is its own. No
-/// call changes what another seat or `HOST` holds, publishing apart, nor a stored file or the moment; and one call puts at
-/// most 65,536 bytes into `outgoing`.
+/// It holds a seat from `start` to the next `retire`, and what is there (a pipe, a sender of events, tables) is its own. Apart
+/// from publishing, no call changes what another seat or `HOST` holds; none changes a stored file or the moment. One call puts
+/// at most 65,536 bytes into `outgoing`.
 pub trait App: Drop {
-    // What it means: its name, what it is by now, and the seat that it holds.
+    // What contracts see of it: its name, its state and the seat that it holds.
     ghost meaning: { Self → Object };
 
     /// Its name, 1 to 20 bytes, none of them zero or a dot, and not `HOST`. It never changes, and the names of its tables begin
@@ -42,10 +42,10 @@ pub trait App: Drop {
         ensures settled { Settled (meaning self.new).state seat (held_by services.new) }
         ensures other { (meaning self.old).state ≡ Other → (meaning self.new).state ≡ Other };
 
-    /// Answers a packet. Conditions: it holds a seat, and what is there is its own and goes with its state, as its own calls and
-    /// the commands to the event and table services left it; the packet has no fault; nothing waits to be written; and for a tick
-    /// each pipe has room for eight packets. It publishes for a tick alone, at most eight packets and no tick. Of an application
-    /// of another kind than this profile's, whose state says nothing, the first condition is that what is there is its own.
+    /// Handles a packet. Conditions: it holds a seat, and what is there is its own and goes with its state, as its own calls
+    /// and the commands to the event and table services left it; the packet has no fault; nothing waits to be written; and for
+    /// a tick each pipe has room for eight packets. It publishes for a tick alone, at most eight packets and no tick. For an
+    /// application of another kind than this profile's, the first condition is only that what is there is its own.
     fn on_packet(&mut self, services: &mut Services, packet: &[u8])
         requires home { IsSomeAnd (meaning self.old).seat
             (λ seat. IsAtHome (meaning self.old).state (meaning self.old).called seat

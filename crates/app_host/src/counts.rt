@@ -28,7 +28,7 @@ impl Model for Counts {
 }
 
 impl Counts {
-    /// Nothing sent. It takes all the memory there will ever be; out of memory is the only error.
+    /// Creates counts of 0. It allocates all memory that they ever need; out of memory is the only error.
     pub fn new(alloc: Global) -> Result<Counts, AllocError>
         ensures { IfOk result (λ counts. counts ≡ replicate message_id_end 0) }
     {
@@ -39,7 +39,7 @@ impl Counts {
         Ok(Counts { counts })
     }
 
-    /// The sequence count of the next packet of a message id, which is counted from now on. Condition: an id of packet
+    /// Returns the sequence count of the next packet of a message id, and counts that packet. Condition: an id of packet
     /// version 0.
     pub fn advance(&mut self, message_id: u16) -> u16
         requires { message_id < message_id_end }

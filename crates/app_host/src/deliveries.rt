@@ -16,8 +16,8 @@ use crate::places::give_at;
 use lc_model::{ByteSink, Seat, write_all};
 
 impl<B: App> Host<B> {
-    /// The object of a seat answers the first packet of its pipe. Condition: that is the least seat with a packet. Answers the
-    /// next such seat.
+    /// Lets the object of a seat handle the first packet of its pipe, and returns the next seat with a packet. Condition: the
+    /// seat is the least one with a packet.
     #[inline(never)]
     pub(crate) fn deliver(&mut self, seat: Seat) -> Option<Seat>
         requires whole { IsWhole (shown B.meaning self.old) }
@@ -42,14 +42,14 @@ impl<B: App> Host<B> {
             &mut self.services,
             &self.packet[..size],
         );
-        // And so they are behind the call.
+        // They are so after the call, too.
         self.services.tables.is_service();
         self.calls += 1;
         self.services.bus.least_ready()
     }
 
-    /// What waits to be written is written, behind so many bytes of this step; answers how many these are then. Where the write
-    /// fails the host is closed. Most records leave nothing to be written, and are told so without a call.
+    /// Writes what waits to be written, after `sent` bytes of this step, and returns how many bytes of the step are written
+    /// then. If the write fails, the host is closed. Most records leave nothing to write; then no further call is made.
     #[inline(always)]
     pub(crate) fn flush<W: ByteSink>(&mut self, out: &mut W, sent: u64) -> Result<u64, WriteFault>
         requires seated { AreSeated (shown B.meaning self.old).seats
@@ -65,7 +65,7 @@ impl<B: App> Host<B> {
         self.write_waiting(out, sent)
     }
 
-    /// Writes what waits, be it nothing, behind so many bytes of this step, as `flush` says of it.
+    /// Writes what waits, even if that is nothing, after `sent` bytes of this step, as `flush` does.
     #[inline(always)]
     fn write_waiting<W: ByteSink>(&mut self, out: &mut W, sent: u64) -> Result<u64, WriteFault>
         requires seated { AreSeated (shown B.meaning self.old).seats

@@ -12,7 +12,7 @@ use crate::places::retire_at;
 use lc_model::Seat;
 
 impl<B: App> Host<B> {
-    /// The object of a seat retires, if there is one, and is handed on.
+    /// Retires the object of a seat, if there is one, and returns it.
     fn vacate(&mut self, seat: Seat) -> Option<B>
         requires seated { AreSeated (shown B.meaning self.old).seats
             (shown B.meaning self.old).services }
@@ -24,12 +24,12 @@ impl<B: App> Host<B> {
         // For the proof: tables and files are within their bounds, each under a name of its own.
         self.services.tables.is_service();
         let retired = retire_at(&mut self.seats, seat, &mut self.services);
-        // And so they are behind the call.
+        // They are so after the call, too.
         self.services.tables.is_service();
         retired
     }
 
-    /// All applications that run retire, seat by seat, and are returned by seat. What they ask to be written then is dropped.
+    /// Retires all applications that run, seat by seat, and returns them by seat. What they ask to be written then is dropped.
     /// Nothing runs afterwards, and no pipe, subscription, sender of events or table is left. The stock stays.
     pub fn retire_all(&mut self) -> [Option<B>; Seat::COUNT]
         requires whole { IsWhole (shown B.meaning self.old) }
@@ -48,14 +48,14 @@ impl<B: App> Host<B> {
         retired
     }
 
-    /// All applications that run retire as in `retire_all`, and then all are dropped.
+    /// Retires all applications that run, as `retire_all` does, and then drops all applications.
     pub fn close(mut self)
         requires whole { IsWhole (shown B.meaning self) }
     {
         let _retired = self.retire_all();
     }
 
-    /// What waits to be written is let go.
+    /// Discards what waits to be written.
     fn let_go(&mut self)
         requires seated { AreSeated (shown B.meaning self.old).seats
             (shown B.meaning self.old).services }

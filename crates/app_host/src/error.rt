@@ -20,13 +20,13 @@ pub enum HostError {
     /// Eight applications run.
     #[error("eight applications run")]
     TooManyApps,
-    /// No memory for the services; only `Host::new` answers it.
+    /// No memory for the services; only `Host::new` returns it.
     #[error("out of memory")]
     Memory,
 }
 
 impl HostError {
-    /// The refusal's number, 121 to 124. Want of memory has none.
+    /// Returns the refusal's number, 121 to 124, or `None` for `Memory`.
     pub fn code(self) -> Option<u8>
         ensures { result ≡ error_code self }
     {
@@ -40,9 +40,10 @@ impl HostError {
     }
 }
 
-/// A write failed. In the step in which it did, `sent` is how many bytes of this step the writer took.
+/// A failed write, at which the host is closed.
 #[derive(Clone, Copy, Debug, PartialEq, Eq, Error)]
 #[error("a write failed behind {sent} bytes")]
 pub struct WriteFault {
+    /// The bytes of this step that the writer took before; 0 if the write failed in an earlier step.
     pub sent: u64,
 }

@@ -20,7 +20,7 @@ use event_service::{EventTypes, Events};
 use lc_model::packet::function_code;
 use lc_model::{ByteSink, EventKind, name_in, u16_at};
 
-/// A filter is set: 20 bytes of a name, then an id and a mask.
+/// Sets a filter. Payload: 20 bytes of a name, then an id and a mask.
 fn set_filter(events: &mut Events, payload: &[u8]) -> Result<(), Numbers>
     ensures answer { obeyed_by result events.new ≡ set_filter_by payload.now events.old }
     ensures refused { OnErr result (events.new ≡ events.old) }
@@ -38,7 +38,7 @@ fn set_filter(events: &mut Events, payload: &[u8]) -> Result<(), Numbers>
     }
 }
 
-/// The filters of a name begin again: 20 bytes of a name.
+/// Restarts the filters of a name. Payload: 20 bytes of the name.
 fn reset_filters(events: &mut Events, payload: &[u8]) -> Result<(), Numbers>
     ensures answer { obeyed_by result events.new ≡ reset_by payload.now events.old }
     ensures refused { OnErr result (events.new ≡ events.old) }
@@ -52,7 +52,7 @@ fn reset_filters(events: &mut Events, payload: &[u8]) -> Result<(), Numbers>
     }
 }
 
-/// Types are turned on or off: 20 bytes of a name, a byte whose lower four bits are types, and one that does not count.
+/// Turns types on or off. Payload: 20 bytes of a name, a byte whose lower four bits are types, and one that does not count.
 fn set_types(events: &mut Events, payload: &[u8], on: bool) -> Result<(), Numbers>
     ensures answer { obeyed_by result events.new ≡ set_types_by on payload.now events.old }
     ensures refused { OnErr result (events.new ≡ events.old) }
@@ -67,8 +67,8 @@ fn set_types(events: &mut Events, payload: &[u8], on: bool) -> Result<(), Number
     }
 }
 
-/// A command to the event services is obeyed. It is refused with 151 for its code, 152 for its length, and then for what the
-/// services refuse it for; then nothing changes.
+/// Obeys a command to the event services. It is refused with 151 for its code, 152 for its length, and then for the services'
+/// own reasons; a refused command changes nothing.
 pub(crate) fn obey(events: &mut Events, packet: &[u8]) -> Result<(), Numbers>
     requires { command_header_size ≤ length packet.now }
     ensures answer { obeyed_by result events.new ≡
@@ -86,7 +86,7 @@ pub(crate) fn obey(events: &mut Events, packet: &[u8]) -> Result<(), Numbers>
 }
 
 impl<B: App> Host<B> {
-    /// A command to the event services is obeyed or refused, and `HOST` tells which.
+    /// Obeys or refuses a command to the event services; `HOST` reports which.
     #[inline(never)]
     pub(crate) fn obey_events<W: ByteSink>(
         &mut self,

@@ -16,7 +16,7 @@ use crate::texts;
 use lc_model::{ByteSink, EventKind};
 
 impl<B: App> Host<B> {
-    /// A file is stored, or refused. Condition: a name of at most 40 bytes.
+    /// Stores or refuses a file. Condition: a name of at most 40 bytes.
     #[inline(never)]
     pub(crate) fn store_file<W: ByteSink>(
         &mut self,
@@ -40,7 +40,7 @@ impl<B: App> Host<B> {
         // For the proof: tables and files are within their bounds, each under a name of its own.
         self.services.tables.is_service();
         let stored = self.services.tables.put_file(name, bytes);
-        // And so they are behind the call.
+        // They are so after the call, too.
         self.services.tables.is_service();
         match stored {
             Ok(()) => {

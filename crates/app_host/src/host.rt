@@ -24,7 +24,7 @@ pub struct Host<B: App = Box<dyn App>> {
     pub(crate) stock: Vec<B>,
     pub(crate) seats: [Option<B>; Seat::COUNT],
     pub(crate) services: Services,
-    /// The packet that is delivered, in front, and what was there before behind it: a delivery clears nothing.
+    /// The delivered packet at the front, followed by what was there before: a delivery clears nothing.
     pub(crate) packet: [u8; PACKET_SIZE],
     /// Whether a write has failed.
     pub(crate) closed: bool,
@@ -33,8 +33,8 @@ pub struct Host<B: App = Box<dyn App>> {
 }
 
 impl<B: App> Host<B> {
-    /// A host that runs nothing; these are its spares. It takes all the memory there will ever be; out of memory is the only
-    /// error, and gives the stock back. Condition: no object holds a seat.
+    /// Creates a host that runs nothing, with these spares. It allocates all memory that it ever needs; `Memory` is the only
+    /// error, and returns the stock. Condition: no object holds a seat.
     pub fn new(alloc: Global, stock: Vec<B>) -> Result<Host<B>, (HostError, Vec<B>)>
         requires spares { AreSpares (objects_in B.meaning stock.items) }
         ensures whole { IfOk result (λ host. IsWhole (shown B.meaning host)) }
@@ -94,7 +94,7 @@ impl<B: App> Host<B> {
         self.services.tables.active_under(table)
     }
 
-    /// Whether a write has failed: then it takes no record any more.
+    /// Whether a write has failed: then the host takes no further record.
     pub fn is_closed(&self) -> bool
         ensures { result ≡ (shown B.meaning self.now).is_closed }
     {

@@ -4,7 +4,7 @@ ghost use Rattle.app_host.specs.Statements.{OpeningStarts, OpeningLeaves, Openin
 
 use host_refinement::calls_go_with_services;
 
-/// Taking a seat, telling of events, doing nothing, and giving the seat back keep the rules of the interface, and are what the
+/// Taking a seat, sending events, doing nothing and giving the seat back keep the rules of the interface, and do what the
 /// definitions say.
 pub fn seats_are_kept_by_the_rules()
     ensures opening_starts { OpeningStarts }

@@ -63,7 +63,7 @@ impl Numbers {
     }
 }
 
-/// The numbers of a refusal of the table services: its own, and behind 112 the file's.
+/// The numbers of a refusal of the table services: its own, and after 112 the file's.
 pub(crate) fn of_tables(error: TableError) -> Numbers
     ensures { result ≡ tables.refusal_of error }
 {

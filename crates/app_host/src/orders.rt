@@ -190,7 +190,7 @@ impl<B: App> Host<B> {
         }
     }
 
-    /// The order is begun: who is to leave a seat has left it. Answers who takes it next, or why the order is refused.
+    /// Begins the order: an application that is to leave its seat leaves it. Returns who takes the seat next, or the refusal.
     fn prepare(&mut self, order: Order, name: &[u8]) -> Result<Successor<B>, HostError>
         requires whole { IsWhole (shown B.meaning self.old) }
         ensures prepared { Prepares B.meaning (ordered (order_of order) name.now)
@@ -209,7 +209,7 @@ impl<B: App> Host<B> {
         }
     }
 
-    /// Prepares the order of a command, which may be refused as none.
+    /// Prepares the order of a command. Returns who takes the seat next, or the numbers of the refusal.
     fn take_order(&mut self, packet: &[u8]) -> Result<Successor<B>, Numbers>
         requires whole { IsWhole (shown B.meaning self.old) }
         requires headers { command_header_size ≤ length packet.now }
@@ -230,7 +230,7 @@ impl<B: App> Host<B> {
         }
     }
 
-    /// What waits is written, the next one takes its seat, and what it asks for is written. Answers how many bytes these are.
+    /// Writes what waits, lets the next one take its seat, and writes what that asks for. Returns the number of these bytes.
     fn come_in<W: ByteSink>(&mut self, next: Successor<B>, out: &mut W) -> Result<u64, WriteFault>
         requires seated { AreSeated (shown B.meaning self.old).seats
             (shown B.meaning self.old).services }
@@ -248,8 +248,8 @@ impl<B: App> Host<B> {
         Ok(total)
     }
 
-    /// A command to the executive services is obeyed or refused. What the application asks for is written, and then `HOST`
-    /// tells which.
+    /// Obeys or refuses a command to the executive services. What the application asks for is written, and then `HOST` reports
+    /// which.
     #[inline(never)]
     pub(crate) fn obey_orders<W: ByteSink>(
         &mut self,

@@ -11,10 +11,10 @@ use lc_model::{EventKind, Moment, Seat};
 use std::alloc::{AllocError, Global};
 use std::marker::Model;
 
-/// The most bytes that one call of an application puts there.
+/// The most bytes that one call of an application appends.
 pub const OUTGOING_ROOM: usize = 65_536;
 
-/// The packets that a call asks to be written, one behind the other, with room for 65,536 bytes. Contracts see the bytes.
+/// The packets that a call asks to be written, one after the other, with room for 65,536 bytes. Contracts see the bytes.
 #[derive(Debug, Drop)]
 pub struct Outgoing {
     bytes: Vec<u8>,
@@ -32,7 +32,7 @@ impl Model for Outgoing {
 }
 
 impl Outgoing {
-    /// None. It takes all the memory there will ever be; out of memory is the only error.
+    /// Creates it empty. It allocates all memory that it ever needs; out of memory is the only error.
     pub fn new(alloc: Global) -> Result<Outgoing, AllocError>
         ensures { IfOk result (λ outgoing. outgoing ≡ []) }
     {
@@ -56,7 +56,7 @@ impl Outgoing {
         self.bytes.is_empty()
     }
 
-    /// Adds bytes behind those that wait. There is room for them.
+    /// Appends bytes. Condition: there is room for them.
     #[inline(always)]
     pub fn append(&mut self, bytes: &[u8])
         requires { length self.old + length bytes.now ≤ outgoing_room }
@@ -65,7 +65,7 @@ impl Outgoing {
         self.bytes.extend_from_slice(bytes).unwrap();
     }
 
-    /// The packet of an event that is asked for, where it is sent, comes behind those that wait. There is room for it.
+    /// Asks for an event and appends its packet, if it is sent. Condition: there is room for it.
     #[inline(always)]
     pub(crate) fn send(
         &mut self,
@@ -86,7 +86,7 @@ impl Outgoing {
         events.send_into(from, moment, id, kind, text, &mut self.bytes);
     }
 
-    /// Nothing waits from now on.
+    /// Removes all bytes.
     pub fn clear(&mut self)
         ensures { self.new ≡ [] }
     {

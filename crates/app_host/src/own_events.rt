@@ -16,7 +16,7 @@ use event_service::EventText;
 use lc_model::{ByteSink, EventKind};
 
 impl<B: App> Host<B> {
-    /// `HOST` asks for an event; where it is sent its packet waits to be written.
+    /// Asks for an event of `HOST`; if it is sent, its packet waits to be written.
     pub(crate) fn tell(&mut self, id: u16, kind: EventKind, text: &EventText)
         requires seated { AreSeated (shown B.meaning self.old).seats
             (shown B.meaning self.old).services }
@@ -29,7 +29,7 @@ impl<B: App> Host<B> {
         self.services.tell(None, id, kind, text.as_bytes());
     }
 
-    /// Tells an event of `HOST` and writes it, which is all that a record leads to.
+    /// Sends an event of `HOST` and writes it, which is all that a record leads to.
     pub(crate) fn tell_alone<W: ByteSink>(
         &mut self,
         id: u16,
@@ -51,7 +51,7 @@ impl<B: App> Host<B> {
         self.flush(out, 0)
     }
 
-    /// A packet that is none is refused, for this reason.
+    /// Refuses a packet of a stream, for this reason.
     #[inline(never)]
     pub(crate) fn refuse_packet<W: ByteSink>(
         &mut self,

@@ -12,7 +12,7 @@ use crate::objects::retire;
 use crate::services::Services;
 use lc_model::Seat;
 
-/// The object of a place answers a packet.
+/// Lets the object of a place handle a packet.
 #[inline(always)]
 fn give_in<B: App>(place: &mut Option<B>, seat: Seat, services: &mut Services, packet: &[u8])
     requires { IfSome (object_in B.meaning place.old) (MayAnswer seat packet.now services.old) }
@@ -26,7 +26,7 @@ fn give_in<B: App>(place: &mut Option<B>, seat: Seat, services: &mut Services, p
     }
 }
 
-/// The object of a seat answers a packet.
+/// Lets the object of a seat handle a packet.
 #[inline(always)]
 pub(crate) fn give_at<B: App>(
     seats: &mut [Option<B>; Seat::COUNT],
@@ -46,7 +46,7 @@ pub(crate) fn give_at<B: App>(
     give_in(&mut seats[seat.index()], seat, services, packet);
 }
 
-/// The object of a place gives its seat back, if there is one, and is handed on.
+/// Retires the object of a place, if there is one, and returns it.
 fn retire_in<B: App>(place: &mut Option<B>, seat: Seat, services: &mut Services) -> Option<B>
     requires { IfSome (object_in B.meaning place.old) (MayRetire seat services.old) }
     ensures gone { place.new ≡ None }
@@ -59,7 +59,7 @@ fn retire_in<B: App>(place: &mut Option<B>, seat: Seat, services: &mut Services)
     Some(app)
 }
 
-/// The object of a seat gives it back, if there is one, and is handed on.
+/// Retires the object of a seat, if there is one, and returns it.
 pub(crate) fn retire_at<B: App>(
     seats: &mut [Option<B>; Seat::COUNT],
     seat: Seat,

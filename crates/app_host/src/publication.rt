@@ -22,8 +22,8 @@ use lc_model::{ByteSink, Seat};
 const TICK: [u8; 8] = [0x18, 0xC0, 0xC0, 0, 0, 1, 0, 0xE6];
 
 impl<B: App> Host<B> {
-    /// The object of a seat answers this packet, without the bus. Conditions: no packet waits, and that seat alone hears this one.
-    /// Answers the next seat with a packet.
+    /// Lets the object of a seat handle this packet without the bus, and returns the next seat with a packet. Conditions: no
+    /// packet waits, and that seat alone is subscribed to this packet's message id.
     #[inline(always)]
     fn hand_over(&mut self, seat: Seat, packet: &[u8]) -> Option<Seat>
         requires whole { IsWhole (shown B.meaning self.old) }
@@ -39,15 +39,15 @@ impl<B: App> Host<B> {
         // For the proof: tables and files are within their bounds, each under a name of its own.
         self.services.tables.is_service();
         give_at(&mut self.seats, seat, &mut self.services, packet);
-        // And so they are behind the call.
+        // They are so after the call, too.
         self.services.tables.is_service();
         self.calls += 1;
         self.services.bus.least_ready()
     }
 
-    /// A packet is published, and all packets are delivered. One that a single application hears is handed to it where it lies:
-    /// to publish it and to take it out of the pipe again would leave the bus as it is. What each call asks for is written
-    /// behind it. Answers how many bytes these were. Condition: it has no fault.
+    /// Publishes a packet and delivers all packets. If a single application is subscribed to it, it is given the packet
+    /// directly: publishing it and taking it out of the pipe again would leave the bus as it is. After each call, what the
+    /// call asks for is written. Returns the number of these bytes. Condition: the packet has no fault.
     #[inline(always)]
     pub(crate) fn pass_on<W: ByteSink>(
         &mut self,
@@ -86,7 +86,7 @@ impl<B: App> Host<B> {
         Ok(sent)
     }
 
-    /// A tick is published, and all packets are delivered.
+    /// Publishes a tick, and delivers all packets.
     #[inline(never)]
     pub(crate) fn tick<W: ByteSink>(&mut self, out: &mut W) -> Result<u64, WriteFault>
         requires whole { IsWhole (shown B.meaning self.old) }

@@ -9,8 +9,8 @@ use crate::services::Services;
 use lc_model::laws::bus::bus_is_seen;
 
 impl Services {
-    /// Publishes a packet: each pipe that is subscribed to its message id has it once, behind what waits. Conditions: the packet
-    /// has no fault, and there is room in each pipe that hears it.
+    /// Publishes a packet: it is appended once to each pipe that is subscribed to its message id. Conditions: the packet has
+    /// no fault, and each of these pipes has room.
     pub fn publish(&mut self, packet: &[u8])
         requires good { header_fault packet.now ≡ None }
         requires room { is_blocked packet.now self.old.bus ≡ false }
@@ -21,7 +21,8 @@ impl Services {
     }
 }
 
-/// Publishing one packet after the other, and nothing else, keeps the rules of the interface, and is what the definitions say.
+/// Publishing one packet after the other, and nothing else, keeps the rules of the interface, and does what the definitions
+/// say.
 pub fn publishing_is_by_the_rules()
     ensures nothing { NothingIsPublished }
     ensures goes_on { PublishingGoesOn }

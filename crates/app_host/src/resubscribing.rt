@@ -1,4 +1,4 @@
-//! What a seat's pipe hears changes while packets wait in it (cFE user's guide, software bus services).
+//! Changes of a pipe's subscriptions while packets wait in it (cFE user's guide, software bus services).
 
 ghost use Rattle.std.specs.Prelude.{◌≡◌, ◌+◌, ◌≤◌, ◌++◌, [], IfSome, IsSomeAnd, IsTrue, is_some, length};
 ghost use Rattle.lc_model.specs.Kept.Call.{with_mids};
@@ -9,8 +9,8 @@ use crate::seat::subscribe;
 use lc_model::{Seat, Term};
 use packet_bus::Bus;
 
-/// The seat's pipe hears these message ids and those of these watchpoints, too; what waits in it stays. Condition: the seat has
-/// a pipe, with room for as many subscriptions more.
+/// Subscribes the seat's pipe to these message ids and those of these watchpoints, too; packets that wait in it stay.
+/// Condition: the seat has a pipe, with room for as many subscriptions more.
 pub fn subscribe_to(bus: &mut Bus, seat: Seat, message_ids: &[u16], terms: &[Term])
     requires { IsSomeAnd (pipe_at seat bus.old)
         (λ (queue : Queue). length queue.subscriptions + length message_ids.now + length
@@ -27,8 +27,8 @@ pub fn subscribe_to(bus: &mut Bus, seat: Seat, message_ids: &[u16], terms: &[Ter
     watch(bus, seat, terms);
 }
 
-/// The seat's pipe hears nothing more; what waits in it stays. Condition: the seat has a pipe, which was subscribed to these
-/// message ids and to those of these watchpoints.
+/// Ends all subscriptions of the seat's pipe; packets that wait in it stay. Condition: the seat has a pipe, which was
+/// subscribed to these message ids and to those of these watchpoints.
 pub fn unsubscribe_from(bus: &mut Bus, seat: Seat, message_ids: &[u16], terms: &[Term])
     requires { IsSomeAnd (pipe_at seat bus.old)
         (λ (queue : Queue). queue.subscriptions ≡
@@ -41,7 +41,7 @@ pub fn unsubscribe_from(bus: &mut Bus, seat: Seat, message_ids: &[u16], terms: &
     unwatch(bus, seat, terms);
 }
 
-/// The seat's pipe hears the message ids of these watchpoints, too.
+/// Subscribes the seat's pipe to the message ids of these watchpoints, too.
 fn watch(bus: &mut Bus, seat: Seat, terms: &[Term])
     requires { IsSomeAnd (pipe_at seat bus.old)
         (λ (queue : Queue). length queue.subscriptions + length terms.now ≤ most_subscriptions) }
@@ -55,7 +55,7 @@ fn watch(bus: &mut Bus, seat: Seat, terms: &[Term])
     }
 }
 
-/// The seat's pipe hears these message ids no more.
+/// Ends the subscriptions of the seat's pipe to these message ids.
 fn unsubscribe(bus: &mut Bus, seat: Seat, message_ids: &[u16])
     requires { IsTrue (is_some (pipe_at seat bus.old)) }
     ensures { IfSome (pipe_at seat bus.old)
@@ -68,7 +68,7 @@ fn unsubscribe(bus: &mut Bus, seat: Seat, message_ids: &[u16])
     }
 }
 
-/// The seat's pipe hears the message ids of these watchpoints no more.
+/// Ends the subscriptions of the seat's pipe to the message ids of these watchpoints.
 fn unwatch(bus: &mut Bus, seat: Seat, terms: &[Term])
     requires { IsTrue (is_some (pipe_at seat bus.old)) }
     ensures { IfSome (pipe_at seat bus.old)

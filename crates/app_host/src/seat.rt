@@ -14,7 +14,7 @@ use lc_model::Seat;
 use packet_bus::Bus;
 
 impl Services {
-    /// The seat has a pipe that is subscribed to these message ids, and is registered under a name for events. Conditions: the
+    /// Gives the seat a pipe that is subscribed to these message ids, and a sender of events with this name. Conditions: the
     /// seat is free, the name is unused, and at most 256 ids.
     pub fn open(&mut self, seat: Seat, name: &[u8], message_ids: &[u16])
         requires seat { seat < seat_count }
@@ -31,7 +31,7 @@ impl Services {
         self.events.register(seat, name).unwrap();
     }
 
-    /// The seat has no pipe, no sender of events and no table from now on. Condition: it has a pipe and a sender.
+    /// Removes the seat's pipe, sender of events and tables. Condition: it has a pipe and a sender.
     pub fn close(&mut self, seat: Seat)
         requires { HasPipeAndSender seat (held_by self.old) }
         ensures { IsClosed seat self.old self.new }
@@ -44,7 +44,7 @@ impl Services {
     }
 }
 
-/// The seat's pipe hears these message ids, too. Condition: the seat has a pipe, with room for as many subscriptions more.
+/// Subscribes the seat's pipe to these message ids, too. Condition: it has a pipe, with room for as many subscriptions more.
 pub fn subscribe(bus: &mut Bus, seat: Seat, message_ids: &[u16])
     requires { IsSomeAnd (pipe_at seat bus.old)
         (λ (queue : Queue).

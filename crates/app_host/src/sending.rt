@@ -13,11 +13,12 @@ use crate::services::Services;
 use lc_model::packet::{UNSEGMENTED, sequence_request};
 use lc_model::{LcMode, Moment, TABLE_ENTRIES, mids, u16_bytes, u32_bytes};
 
-/// In housekeeping, in the place of a rule that there isn't.
+/// In housekeeping, the byte in the place of a rule that does not exist.
 const NO_RULE: u8 = 0xFF;
 
 impl Services {
-    /// A request for a command sequence waits to be written (message id 0x18A9). Condition: room for its 12 bytes.
+    /// Appends a request for a command sequence to what waits to be written (message id 0x18A9). Condition: room for its 12
+    /// bytes.
     pub fn request_sequence(&mut self, number: u16)
         requires room { length self.old.outgoing + sequence_request_size ≤ outgoing_room }
         ensures told { RequestsSequence number self.old self.new }
@@ -27,8 +28,9 @@ impl Services {
         self.outgoing.append(&sequence_request(count, number));
     }
 
-    /// The housekeeping of the Limit Checker waits to be written (message id 0x08A7): its mode, the number of its rules, and how
-    /// each of them stands, in a byte each; 0xFF in the bytes of no rule. Conditions: at most 176 rules, and room for 192 bytes.
+    /// Appends the housekeeping packet of the Limit Checker to what waits to be written (message id 0x08A7): its mode, the
+    /// number of its rules, and a byte for the state and result of each; 0xFF in the bytes of no rule. Conditions: at most 176
+    /// rules, and room for 192 bytes.
     pub fn send_housekeeping(&mut self, mode: LcMode, standings: &[u8])
         requires few { length standings.now ≤ table_entries }
         requires room { length self.old.outgoing + housekeeping_size ≤ outgoing_room }

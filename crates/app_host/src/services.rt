@@ -23,16 +23,23 @@ use tbl_service::Tables;
 /// that is handled, and the bytes that wait to be written.
 #[derive(Drop)]
 pub struct Services {
+    /// The packet bus.
     pub bus: Bus,
+    /// The event services.
     pub events: Events,
+    /// The table services.
     pub tables: Tables,
+    /// The sequence counts of all packets but events.
     pub counts: Counts,
+    /// The moment of the record that is handled.
     pub moment: Moment,
+    /// The bytes that wait to be written.
     pub outgoing: Outgoing,
 }
 
 impl Services {
-    /// Nothing registered, stored or sent. It takes all the memory there will ever be; out of memory is the only error.
+    /// Creates services with nothing registered, stored or sent. It allocates all memory that they ever need; out of memory is
+    /// the only error.
     pub fn new(alloc: Global) -> Result<Services, AllocError>
         ensures bus { IfOk result (λ s. s.bus ≡ no_pipes) }
         ensures events { IfOk result (λ s. s.events ≡ first_events) }
@@ -54,9 +61,9 @@ impl Services {
         })
     }
 
-    /// An event of the seat's application, or of `HOST` where `from` is none: its packet waits to be written, where types and
-    /// filters let it through. Conditions: somebody is registered there, a text of at most 121 bytes, and room for a packet of
-    /// 168 bytes.
+    /// Asks for an event of the seat's application, or of `HOST` if `from` is `None`; its packet waits to be written if types
+    /// and filters let it through. Conditions: a sender is registered there, a text of at most 121 bytes, and room for a
+    /// packet of 168 bytes.
     #[inline(always)]
     pub fn tell(&mut self, from: Option<Seat>, id: u16, kind: EventKind, text: &[u8])
         requires text { length text.now ≤ longest_event_text }

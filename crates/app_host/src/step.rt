@@ -17,9 +17,9 @@ use lc_model::packet::{message_id, stream_fault};
 use lc_model::{Body, ByteSink, Moment, Record, mids};
 
 impl<B: App> Host<B> {
-    /// Handles a record, and writes what it leads to: the output of each call of an application behind that call, and each
-    /// event of `HOST`. Where a write fails, `sent` is how many bytes of this step the writer took; what was done before that
-    /// write stands, and the host is closed. A closed host answers `sent: 0` and does nothing. It asks for no memory.
+    /// Handles a record and writes what it leads to: after each call of an application what that call asks for, and each event
+    /// of `HOST`. If a write fails, `sent` is the number of this step's bytes that the writer took; what was done before that
+    /// write stands, and the host is closed. A closed host returns `sent: 0` and does nothing. A step allocates no memory.
     /// Condition: a file's name has at most 40 bytes.
     pub fn step<W: ByteSink>(&mut self, entry: &Record<'_>, out: &mut W) -> Result<(), WriteFault>
         requires between { IsBetween (shown B.meaning self.old) }
@@ -46,7 +46,7 @@ impl<B: App> Host<B> {
         }
     }
 
-    /// Handles a record as `step` does, and answers how many bytes were written, for writers that don't tell.
+    /// Handles a record as `step` does, and returns how many bytes were written, for writers that don't report it.
     #[inline(always)]
     pub fn step_counted<W: ByteSink>(
         &mut self,
@@ -84,7 +84,7 @@ impl<B: App> Host<B> {
         self.handle(&entry.body, out)
     }
 
-    /// A step begins, at this moment: no call was made in it.
+    /// Begins a step at this moment, with no call counted.
     #[inline(always)]
     fn begin_step(&mut self, moment: Moment)
         requires whole { IsWhole (shown B.meaning self.old) }
@@ -119,7 +119,7 @@ impl<B: App> Host<B> {
         }
     }
 
-    /// A packet is refused, obeyed as a command to a service, or passed on to the applications.
+    /// Refuses a packet, obeys it as a command to a service, or passes it on to the applications.
     #[inline(always)]
     fn take_packet<W: ByteSink>(&mut self, packet: &[u8], out: &mut W) -> Result<u64, WriteFault>
         requires whole { IsWhole (shown B.meaning self.old) }
@@ -139,7 +139,8 @@ impl<B: App> Host<B> {
         }
     }
 
-    /// A packet with a fault is refused. Few have one, so which it is, is found here, where no other packet passes.
+    /// Refuses a packet with a fault, or with a message id that is the host's to send. Few packets are refused, so the reason
+    /// is found here, out of the way of all others.
     #[cold]
     #[inline(never)]
     fn refuse_faulty<W: ByteSink>(&mut self, packet: &[u8], out: &mut W) -> Result<u64, WriteFault>
@@ -161,7 +162,8 @@ impl<B: App> Host<B> {
         }
     }
 
-    /// A packet is obeyed as a command to a service, or passed on to the applications. Condition: a stream may bring it.
+    /// Obeys a packet as a command to a service, or passes it on to the applications. Condition: it has no fault, and its
+    /// message id isn't the host's to send.
     #[inline(always)]
     fn route<W: ByteSink>(&mut self, packet: &[u8], out: &mut W) -> Result<u64, WriteFault>
         requires whole { IsWhole (shown B.meaning self.old) }

@@ -24,14 +24,14 @@ pub(crate) enum Successor<B: App> {
     Same(B, Seat),
 }
 
-/// What every object is.
+/// States what holds of every object (`IsObject`).
 fn is_object<B: App>(app: &B)
     ensures { IsObject (B.meaning app.now).state (B.meaning app.now).called }
 {
     app.name();
 }
 
-/// The object of a place gives its seat back. Condition: there is one.
+/// Retires the object of a place and returns it. Condition: there is one.
 fn withdraw_in<B: App>(place: &mut Option<B>, seat: Seat, services: &mut Services) -> B
     requires { IsSomeAnd (object_in B.meaning place.old) (MayRetire seat services.old) }
     ensures gone { place.new ≡ None }
@@ -45,7 +45,7 @@ fn withdraw_in<B: App>(place: &mut Option<B>, seat: Seat, services: &mut Service
     app
 }
 
-/// The object of a seat gives it back. Condition: there is one.
+/// Retires the object of a seat and returns it. Condition: there is one.
 fn withdraw_at<B: App>(
     seats: &mut [Option<B>; Seat::COUNT],
     seat: Seat,
@@ -91,7 +91,7 @@ fn begin_at<B: App>(
 }
 
 impl<B: App> Host<B> {
-    /// The object of a seat gives it back. Condition: there is one.
+    /// Retires the object of a seat and returns it. Condition: there is one.
     pub(crate) fn withdraw(&mut self, seat: Seat) -> B
         requires seated { AreSeated (shown B.meaning self.old).seats
             (shown B.meaning self.old).services }
@@ -104,7 +104,7 @@ impl<B: App> Host<B> {
         // For the proof: tables and files are within their bounds, each under a name of its own.
         self.services.tables.is_service();
         let app = withdraw_at(&mut self.seats, seat, &mut self.services);
-        // And so they are behind the call.
+        // They are so after the call, too.
         self.services.tables.is_service();
         app
     }
@@ -123,7 +123,7 @@ impl<B: App> Host<B> {
         is_object(&app);
         self.services.tables.is_service();
         begin_at(&mut self.seats, seat, &mut self.services, app);
-        // And so they are behind the call.
+        // They are so after the call, too.
         self.services.tables.is_service();
     }
 

@@ -22,7 +22,7 @@ use lc_model::packet::function_code;
 use lc_model::{ByteSink, EventKind, name_in};
 use tbl_service::Tables;
 
-/// A file is loaded: 40 bytes of its name.
+/// Loads a file. Payload: 40 bytes of its name.
 fn load(tables: &mut Tables, payload: &[u8]) -> Result<(), Numbers>
     ensures answer { obeyed_by result tables.new ≡
         tables_by (of_length name_size payload.now (Load (name_in payload.now))) tables.old }
@@ -37,7 +37,7 @@ fn load(tables: &mut Tables, payload: &[u8]) -> Result<(), Numbers>
     }
 }
 
-/// The image that waits for a table is to be validated: 40 bytes of the table's name.
+/// Asks for the validation of a table's waiting image. Payload: 40 bytes of the table's name.
 fn validate(tables: &mut Tables, payload: &[u8]) -> Result<(), Numbers>
     ensures answer { obeyed_by result tables.new ≡
         tables_by (of_length name_size payload.now (Manage Validate (name_in payload.now)))
@@ -53,7 +53,7 @@ fn validate(tables: &mut Tables, payload: &[u8]) -> Result<(), Numbers>
     }
 }
 
-/// It is to come into use: 40 bytes of the table's name.
+/// Activates a table's waiting image. Payload: 40 bytes of the table's name.
 fn activate(tables: &mut Tables, payload: &[u8]) -> Result<(), Numbers>
     ensures answer { obeyed_by result tables.new ≡
         tables_by (of_length name_size payload.now (Manage Activate (name_in payload.now)))
@@ -69,7 +69,7 @@ fn activate(tables: &mut Tables, payload: &[u8]) -> Result<(), Numbers>
     }
 }
 
-/// It goes: 40 bytes of the table's name.
+/// Drops a table's waiting image. Payload: 40 bytes of the table's name.
 fn abort(tables: &mut Tables, payload: &[u8]) -> Result<(), Numbers>
     ensures answer { obeyed_by result tables.new ≡
         tables_by (of_length name_size payload.now (Manage Abort (name_in payload.now)))
@@ -85,8 +85,8 @@ fn abort(tables: &mut Tables, payload: &[u8]) -> Result<(), Numbers>
     }
 }
 
-/// A command to the table services is obeyed. It is refused with 151 for its code, 152 for its length, and then for what the
-/// services refuse it for; then nothing changes.
+/// Obeys a command to the table services. It is refused with 151 for its code, 152 for its length, and then for the services'
+/// own reasons; a refused command changes nothing.
 pub(crate) fn obey(tables: &mut Tables, packet: &[u8]) -> Result<(), Numbers>
     requires { command_header_size ≤ length packet.now }
     ensures answer { obeyed_by result tables.new ≡
@@ -104,7 +104,7 @@ pub(crate) fn obey(tables: &mut Tables, packet: &[u8]) -> Result<(), Numbers>
 }
 
 impl<B: App> Host<B> {
-    /// A command to the table services is obeyed or refused, and `HOST` tells which.
+    /// Obeys or refuses a command to the table services; `HOST` reports which.
     #[inline(never)]
     pub(crate) fn obey_tables<W: ByteSink>(
         &mut self,
@@ -129,7 +129,7 @@ impl<B: App> Host<B> {
         table_commands_go_by_names();
         self.services.tables.is_service();
         let obeyed = obey(&mut self.services.tables, packet);
-        // And so they are behind the call.
+        // They are so after the call, too.
         self.services.tables.is_service();
         match obeyed {
             Ok(()) => {

@@ -31,7 +31,7 @@ const START: &[u8] = &[
 /// The command that it counts.
 const COUNT: &[u8] = &[0x18, 0xC1, 0xC0, 0, 0, 1, 1, 0];
 
-/// The first spare that a counter is, and one of any kind behind it. Condition: they hold no seats.
+/// A stock of a counter and an application of any kind after it. Condition: they hold no seats.
 fn stock_of<B: App>(alloc: Global, counter: B, other: B) -> Result<Vec<B>, AllocError>
     requires counter { (B.meaning counter).seat ≡ None }
     requires other { (B.meaning other).seat ≡ None }

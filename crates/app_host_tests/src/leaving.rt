@@ -1,5 +1,5 @@
-//! Objects retire and are dropped, each once: as they are stopped or replaced, and as the host is closed. That all have left at
-//! the end is what `plays` asks for.
+//! Objects retire and are dropped, each once: as they are stopped or replaced, and as the host is closed. `plays` checks that
+//! all have left at the end.
 
 use crate::playing::plays;
 use crate::script::Given::{Order, Packet};
@@ -76,7 +76,7 @@ fn a_close_retires_all_before_it_drops_one(rt: HostRuntime) {
     all_holds(&rt, spares, SCRIPT);
 }
 
-/// Run with `rt try --test --fail-alloc N`, this one passes: each answer but want of memory is the right one. A host that is
+/// This test passes with `rt try --test --fail-alloc N`: lack of memory is the only error that it allows. A host that is
 /// refused gives all its spares back.
 #[test]
 fn want_of_memory_is_the_only_error(rt: HostRuntime) {

@@ -1,8 +1,8 @@
-//! The tests of `app_host` with applications of another kind than this profile's, of which no contract says what they send:
-//! that a host writes all of it, in its order, and up to where a write fails; and that objects retire and are dropped. A host
+//! The tests of `app_host` with applications of another kind than this profile's. No contract says what these send: the tests
+//! check that a host writes all of it, in order, up to where a write fails, and that objects retire and are dropped. A host
 //! plays scripts of records and questions (`playing`, `script`) over applications that count, that write letters, and that
-//! speak as they come and go (`tracked`, `named`, `speaking`). One call is proved: what is written by a counter beside any
-//! other application (`beside`).
+//! send when they come and go (`tracked`, `named`, `speaking`). One call is proved: what a counter beside any other
+//! application writes (`beside`).
 #![tactic(auto)]
 
 pub mod beside;

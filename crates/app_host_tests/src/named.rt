@@ -21,8 +21,8 @@ pub const HEARD: u16 = 0x18D0;
 /// The packet that they publish.
 const PUBLISHED: &[u8] = &[0x18, 0xD0, 0xC0, 0, 0, 1, 0, 0];
 
-/// An application whose name is one letter. Of each tick and of each packet of 0x18D0 it writes its letter, and at a tick it
-/// publishes eight packets of 0x18D0 first.
+/// An application whose name is one letter. For each tick and each packet of 0x18D0 it writes its letter; at a tick it first
+/// publishes eight packets of 0x18D0.
 #[derive(Drop)]
 pub struct LetterApp {
     name: [u8; 1],
@@ -42,8 +42,8 @@ impl LetterApp {
         }
     }
 
-    /// Publishes eight packets at a tick, and nothing else. Answers how many. Condition: room for as many in
-    /// each pipe.
+    /// Publishes eight packets at a tick, and nothing for any other packet. Returns how many it published. Condition: room for
+    /// as many in each pipe.
     fn publish(&self, services: &mut Services, packet: &[u8]) -> usize
         requires headers { 2 ≤ length packet.now }
         requires room { message_id packet.now ≡ tick_mid → AreShort 64 services.old.bus }
@@ -100,7 +100,7 @@ fn publish_eight(services: &mut Services)
     }
 }
 
-/// The seat has no pipe, no sender of events and no table from now on, whatever of them it had.
+/// Removes the seat's pipe, sender of events and tables, as far as it has them.
 pub fn leave(seat: Seat, services: &mut Services)
     ensures { IsClosed seat services.old services.new }
 {

@@ -15,8 +15,8 @@ fn text_in(field: &[u8]) -> &[u8] {
     field.get(..size).unwrap_or(field)
 }
 
-/// Whether these bytes begin with a whole event packet: message id 0x0808, then at byte 12 who tells, at 32 the id, and at 44 the
-/// text.
+/// Whether these bytes begin with a whole event packet: message id 0x0808, then at byte 12 the sender, at 32 the id, and at 44
+/// the text.
 fn is_event(bytes: &[u8], sender: &[u8], id: u16, text: &[u8]) -> bool {
     if bytes.len() < EVENT_SIZE {
         return false;
@@ -27,7 +27,7 @@ fn is_event(bytes: &[u8], sender: &[u8], id: u16, text: &[u8]) -> bool {
         && text_in(&bytes[44..EVENT_SIZE]) == text
 }
 
-/// Whether these bytes are all that was expected, one behind the other.
+/// Whether these bytes are all that was expected, one after the other.
 pub fn says(bytes: &[u8], expected: &[Output<'_>]) -> bool {
     let mut rest = bytes;
     for said in expected {

@@ -60,7 +60,7 @@ fn writes<B: App>(host: &mut Host<B>, given: Given<'_>, expected: &[Output<'_>])
     answer.is_ok() && says(out.bytes(), expected)
 }
 
-/// Whether a write fails behind so many bytes, and these are written.
+/// Whether a write fails after `limit` bytes, and these are written.
 fn is_cut<B: App>(host: &mut Host<B>, given: Given<'_>, limit: usize) -> bool
     requires { IsBetween (shown B.meaning host.old) }
     ensures { IsBetween (shown B.meaning host.new) }
@@ -86,7 +86,7 @@ fn holds<B: App>(host: &mut Host<B>, tally: &Tally, line: ScriptLine<'_>) -> boo
     }
 }
 
-/// The lines one after the other: the number of the first that does not hold, or none.
+/// Follows the lines in order. Returns the index of the first line that does not hold, or `None`.
 fn follow<B: App>(host: &mut Host<B>, tally: &Tally, script: &[ScriptLine<'_>]) -> Option<usize>
     requires { IsBetween (shown B.meaning host.old) }
     ensures { IsBetween (shown B.meaning host.new) }
@@ -99,7 +99,7 @@ fn follow<B: App>(host: &mut Host<B>, tally: &Tally, script: &[ScriptLine<'_>]) 
     None
 }
 
-/// One spare more. Condition: it holds no seat.
+/// Adds a spare. Condition: it holds no seat.
 fn add(stock: &mut Vec<Box<dyn App>>, app: Box<dyn App>) -> Result<(), AllocError>
     requires spares { AreSpares (map meaning stock.old.items) }
     requires spare { (meaning app).seat ≡ None }
@@ -109,9 +109,9 @@ fn add(stock: &mut Vec<Box<dyn App>>, app: Box<dyn App>) -> Result<(), AllocErro
     Ok(())
 }
 
-/// A host with this stock plays the script, and is closed. The number of the first line that does not hold; 0, where want of
-/// memory took one of the stock; the number of lines, where an object was not dropped once, one that started was not retired as
-/// often, or the close dropped one before another had retired; else none. Out of memory is the only error.
+/// A host with this stock plays the script, and is closed. Returns the index of the first line that does not hold; 0 if lack
+/// of memory took one of the stock; the number of lines if an object was not dropped once, one that started was not retired as
+/// often, or the close dropped one before another had retired; else `None`. Out of memory is the only error.
 fn perform(
     alloc: Global,
     stock: Vec<Box<dyn App>>,

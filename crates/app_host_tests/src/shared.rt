@@ -1,4 +1,4 @@
-//! What tests claim.
+//! An assertion that the tests share.
 
 use crate::playing::plays;
 use crate::script::{ScriptLine, Spare};

@@ -1,4 +1,4 @@
-//! An application that has something to say as it comes, of each packet, and as it goes.
+//! An application that sends something as it comes, for each packet, and as it goes.
 
 ghost use Rattle.std.specs.Prelude.{◌≡◌, ◌≤◌, None, length, slice_index_or};
 
@@ -7,7 +7,7 @@ use app_host::laws::seats_are_kept_by_the_rules;
 use app_host::{App, Services};
 use lc_model::{EventKind, Seat};
 
-/// An application whose name is one letter. It tells of its start in an event, and writes its letter for each packet of 0x18D0,
+/// An application whose name is one letter. It sends an event at its start, and writes its letter for each packet of 0x18D0
 /// and as it retires.
 #[derive(Drop)]
 pub struct Speaking {

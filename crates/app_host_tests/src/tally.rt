@@ -20,7 +20,7 @@ pub struct Tally {
 }
 
 impl Tally {
-    /// Nothing counted. Out of memory is the only error.
+    /// Creates counts of 0. Out of memory is the only error.
     pub fn new(alloc: Global) -> Result<Tally, AllocError> {
         let counts = Rc::new(
             alloc,
@@ -41,27 +41,31 @@ impl Tally {
         })
     }
 
+    /// How many objects were dropped so far.
     pub fn drops(&self) -> u32 {
         self.counts.drops.get()
     }
 
-    /// Whether so many were dropped once each, those that started were retired as often, and no more had been dropped before the
-    /// last retirement than before the close.
+    /// Whether `spares` objects were dropped once each, those that started were retired as often, and no more had been dropped
+    /// before the last retirement than before the close.
     pub fn have_left(&self, spares: usize, dropped: u32) -> bool {
         self.drops() as usize == spares
             && self.counts.retirements.get() == self.counts.starts.get()
             && self.counts.drops_before_retirement.get() <= dropped
     }
 
+    /// Counts a start.
     pub fn count_start(&self) {
         add_one(&self.counts.starts);
     }
 
+    /// Counts a retirement.
     pub fn count_retirement(&self) {
         add_one(&self.counts.retirements);
         self.counts.drops_before_retirement.set(self.drops());
     }
 
+    /// Counts a drop.
     pub fn count_drop(&self) {
         add_one(&self.counts.drops);
     }

@@ -13,7 +13,7 @@ pub struct Tracked<A: App> {
 }
 
 impl<A: App> Tracked<A> {
-    /// The application, from now on watched.
+    /// Wraps the application; its calls are tallied from now on.
     pub fn new(app: A, tally: Tally) -> Tracked<A>
         ensures { result.app ≡ app }
     {

@@ -14,8 +14,8 @@ const HEARD: &[u8] = &[0x18, 0xD0, 0xC0, 0, 0, 1, 0, 0];
 
 const COMES: Output<'static> = Event(b"S", 1, b"here");
 
-/// The application starts, hears, and is replaced by itself and by the other; `HOST` tells behind what they say. With `HOST`'s
-/// events of type information off, they speak as before.
+/// The application starts, gets a packet, and is replaced by itself and by the other; `HOST`'s event comes after what they
+/// send. With `HOST`'s events of type information off, they send as before.
 #[test]
 fn host_tells_behind_what_applications_say(rt: HostRuntime) {
     const SCRIPT: &[ScriptLine<'static>] = &[
@@ -53,8 +53,8 @@ fn host_tells_behind_what_applications_say(rt: HostRuntime) {
     all_holds(&rt, BOTH, SCRIPT);
 }
 
-/// Where the writer fails inside what the one that goes has said, nobody comes; inside what the one that comes has said, it is
-/// there; and inside what `HOST` tells, too.
+/// If the writer fails inside what the leaving application sends, nobody comes; if it fails inside what the coming one sends,
+/// or inside `HOST`'s event, the coming one is there.
 #[test]
 fn a_cut_leaves_who_was_there_by_then(rt: HostRuntime) {
     for limit in [0usize, 1, 169, 336] {
@@ -151,7 +151,7 @@ fn eight_packets_from_each_of_eight_seats(rt: HostRuntime) {
     all_holds(&rt, SPARES, SCRIPT);
 }
 
-/// Two publishers write 34 letters for a tick, one a call. Behind the write that fails nobody is called.
+/// Two publishers write 34 letters for a tick, one a call. After the write that fails, no application is called.
 #[test]
 fn each_byte_of_a_tick_may_be_the_last(rt: HostRuntime) {
     for limit in 0..34usize {

@@ -1,10 +1,10 @@
-//! The words of a command line: what their plan holds, and some that are none.
+//! The words of a command line: what their plan holds, and some words that are no command.
 
 use crate::shared::same;
 use flight_run_args::{Plan, WordsError, read_words};
 use std::process::Abort;
 
-/// The files of a plan, in the order in which the program uses them, behind the name of its command.
+/// The files of a plan, in the order in which the program uses them, after the name of its command.
 fn plan_files<'a, R: Abort + AllocGlobal>(
     rt: &R,
     words: &'a [&'a str],
@@ -30,7 +30,7 @@ fn plan_files<'a, R: Abort + AllocGlobal>(
     Ok(told)
 }
 
-/// Words, and what their plan tells; nothing, where they are refused.
+/// Words, and the name and the files of their plan; nothing if the words are refused.
 const ROWS: &[(&[&str], &[&str])] = &[
     (&["flight_run"], &["stored"]),
     (

@@ -9,7 +9,7 @@ use std::process::Abort;
 
 const TEXT: &[u8] = b"watchpoint, stale: 7";
 
-/// So many reads, over faults, and how many bytes came.
+/// Reads this many times, even after faults, and counts the bytes that come.
 fn read_on(source: &mut impl ByteSource, room: &mut [u8], reads: u64) -> usize {
     let mut filled = 0;
     for _ in 0..reads {
@@ -24,7 +24,7 @@ fn read_on(source: &mut impl ByteSource, room: &mut [u8], reads: u64) -> usize {
     filled
 }
 
-/// So many reads give the whole text, with a fault or without.
+/// This number of reads gives the whole text, with a fault or without.
 fn gives<R: Abort, W: Copy + Debug>(
     rt: &R,
     of: W,
@@ -51,7 +51,7 @@ fn sources_give_the_text(rt: HostRuntime) {
     gives(&rt, "a reader", &mut Reading::new(TEXT), 2, false);
 }
 
-/// Of two writes of the text, the first takes so many bytes or fails, and so does the second.
+/// Two writes of the text: how many bytes each takes, or whether it fails.
 fn takes<R: Abort, W: Copy + Debug>(
     rt: &R,
     of: W,

@@ -16,7 +16,7 @@ const HEADERS: &[(usize, &[u8])] = &[
     (85, &[0; 31]),
 ];
 
-/// The file has these headers, and this image behind them, and opens to it.
+/// The file has these headers and then this image, and opens to it.
 fn is_file<R: Abort>(rt: &R, file: &[u8], name: &[u8], length_and_name: &[u8], image: &[u8]) {
     have(rt, file, HEADERS);
     have(rt, file, &[(72, length_and_name)]);

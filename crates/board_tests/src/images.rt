@@ -15,8 +15,8 @@ pub const WATCHPOINT: [u8; 24] = [
 pub const ACTIONPOINT: [u8; 50] =
     *b"\x01\x00\x00\x00\x00\x00\x00\x07\x00\x02\x00\x03\x03\xE9low volts\0\0\0\0\0\0\0\0\0\0\0\0\0\0\0\0\0\0\0\0\0\0\0\x00\x00\xFF\x05";
 
-/// An image of this version and kind, with one entry of so many bytes, which begins so, over one watchpoint; and 175 entries
-/// that aren't used: 0xFF, and zeros.
+/// An image of this version and kind: one entry of this size, which begins with these bytes, over one watchpoint; and 175
+/// entries that aren't used: 0xFF, and zeros.
 pub fn image(
     alloc: Global,
     version: u8,

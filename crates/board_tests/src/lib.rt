@@ -1,8 +1,8 @@
 //! The tests of the crates that fly, and of the sources and sinks of `lc_model` below them, by public calls alone.
 //!
-//! What a contract says exactly isn't tested again. What is here comes from outside (files, packets and records byte by byte,
-//! from the formats and the guides), or no contract says it: that a call that takes memory succeeds, what `Memory` is answered
-//! for, what errors read like, and what calls cost.
+//! What a contract says exactly isn't tested again. The tests cover what comes from outside (files, packets and records byte
+//! by byte, from the formats and the guides), and what no contract says: that a call that allocates succeeds, what `Memory` is
+//! returned for, what errors read like, and what calls cost.
 #![tactic(auto)]
 
 #[cfg(test)]

@@ -1,5 +1,5 @@
-//! Want of memory: `rt try --test --fail-alloc N` refuses the Nth allocation of a test's process. Each of these tests then
-//! passes, for each N that it reaches; the others want what they begin with, and fail.
+//! Lack of memory: `rt try --test --fail-alloc N` refuses the Nth allocation of a test's process. Each of these tests then
+//! passes, for each N that it reaches; the other tests need their results, and fail.
 
 use crate::shared::same;
 use crate::values::{adt_file, wdt_file};

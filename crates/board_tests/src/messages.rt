@@ -38,7 +38,7 @@ fn of_headers(rt: HostRuntime) {
     all_read(&rt, rows);
 }
 
-/// The bus says which of its limits was met, and of bytes that are no packet why they are none.
+/// The bus says which of its limits was met, or why bytes are not a packet.
 #[test]
 fn of_the_bus(rt: HostRuntime) {
     let rows = &[
@@ -151,7 +151,8 @@ fn of_schedules(rt: HostRuntime) {
     all_read(&rt, rows);
 }
 
-/// What ended a run: a text is named by its number, with its own error; a record by its number; a failed write by the bytes before it.
+/// What ended a run: a text is named by its number, with its own error; a record by its number; a failed write by the bytes
+/// before it.
 #[test]
 fn of_runs(rt: HostRuntime) {
     let rows = &[

@@ -5,7 +5,7 @@ use flight_core::{Found, Records};
 use lc_model::{Body, Kind, Moment, Record};
 use std::process::Abort;
 
-/// A packet of three bytes; a tick; a file of two bytes, whose name has further bytes behind its end; the watchpoints of the
+/// A packet of three bytes; a tick; a file of two bytes, whose name has further bytes after its end; the watchpoints of the
 /// second text; its actionpoints, under a name of 40 bytes; and no record.
 const STREAM: &[u8] = b"\x01\0\0\0\x64\0\x07\0\0\0\x03\x15\x16\x17\
     \x02\0\0\0\x65\0\x08\0\0\0\0\
@@ -51,7 +51,7 @@ fn found_at(number: usize) -> Option<Found<'static>> {
     }
 }
 
-/// The records that are whole by now are the next ones. Answers how many there were so far.
+/// The records that are whole by now are the next ones. Returns how many there were so far.
 fn hand_out<R: Abort>(rt: &R, records: &mut Records, before: usize) -> usize {
     let mut count = before;
     for _ in before..6 {

@@ -1,4 +1,4 @@
-//! Claims of tests. Each ends the test where it doesn't hold, and says of what: a field, a place, or a row of a table.
+//! Assertions of tests. A failed one ends the test and says what is wrong: a field, a place, or a row of a table.
 //!
 //! A test's proof grows with the square of the assertions that stand in it, so they stand here once.
 

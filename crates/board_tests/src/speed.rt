@@ -1,5 +1,5 @@
-//! What calls cost: `time` on a test, or `valgrind --tool=callgrind`, which counts the instructions of the functions that stay
-//! functions of their own. What they are given comes by reference, so that they know nothing of it.
+//! What calls cost: `time` on a test, or `valgrind --tool=callgrind`, which counts the instructions of the functions that are
+//! not inlined. Their arguments come by reference, so that the compiler knows nothing of them.
 
 ghost use Rattle.std.specs.Prelude.{◌≤◌, length, vec_capacity};
 
@@ -18,7 +18,7 @@ fn give(bus: &mut Bus, packet: &[u8]) -> bool {
     bus.publish(packet).is_ok()
 }
 
-/// Receives a packet, and answers how many bytes it has.
+/// Receives a packet, and returns how many bytes it has.
 #[inline(never)]
 fn take(bus: &mut Bus, seat: Seat, buffer: &mut [u8; 2048]) -> usize {
     match bus.receive(seat, buffer) {
@@ -58,7 +58,7 @@ fn a_hundred_thousand_rounds(rt: HostRuntime) {
     rounds(&rt, &[(3, 4)]);
 }
 
-/// Sends an event behind nothing, as the host does; whether it is sent.
+/// Sends an event into an empty buffer, as the host does. Returns whether it is sent.
 #[inline(never)]
 fn is_sent(events: &mut Events, id: u16, text: &[u8], out: &mut Vec<u8>) -> bool
     requires text { length text.now ≤ 121 }
@@ -74,7 +74,7 @@ fn is_sent(events: &mut Events, id: u16, text: &[u8], out: &mut Vec<u8>) -> bool
     !out.is_empty()
 }
 
-/// A thousand times event 1001 of a sender with filters of these ids; so many are sent.
+/// Asks a thousand times for event 1001 of a sender with filters of these ids; `expected` of them are sent.
 fn sends<R: Abort + AllocGlobal>(rt: &R, filters: &[u16], expected: u32) {
     let mut events = Events::new(rt.alloc()).expect(rt, "out of memory");
     same(rt, "a sender", events.register(Seat::new(3), b"LC"), Ok(()));
@@ -124,7 +124,7 @@ fn drain(records: &mut Records, piece: &[u8]) -> usize {
     count
 }
 
-/// So many records of 27 bytes.
+/// A stream of `count` records of 27 bytes.
 fn stream_of(alloc: Global, count: u32) -> Result<Vec<u8>, AllocError> {
     let mut stream = Vec::new(alloc);
     for _ in 0..count {

@@ -13,7 +13,7 @@ use Rattle.c_interface.specs.Refusing.{numbers_of}
 use Rattle.c_interface.specs.Said.{Says}
 use Rattle.c_interface.specs.Words.{text_words}
 
--- these are the files of the text's tables, with so many watchpoints and rules
+-- these are the files of the text's tables, with these numbers of watchpoints and rules
 pub record AreFiles (text wdt adt : List ℕ) (watchpoints rules : ℕ) : Type 0 where
   pub says : List NamedRule
   pub compiles : Compiles limits text says
@@ -24,7 +24,7 @@ pub record AreFiles (text wdt adt : List ℕ) (watchpoints rules : ℕ) : Type 0
   pub watchpoints_counted : watchpoints ≡ pair.watchpoints
   pub rules_counted : rules ≡ pair.rules
 
--- the text is refused by this error, or there is no memory: its numbers are told, and its words are said
+-- the text is refused by this error, or there is no memory: its numbers and its words are given
 pub record IsUncompiled (text : List ℕ) (told : Refusal) (sentence : Sentence) : Type 0 where
   pub error : CompileError
   pub refused : Refuses (IsRefused limits text) error

@@ -26,7 +26,7 @@ use Rattle.c_interface.specs.Running.{unwritten, written_in, numbers_of_ending}
 abbrev pub host_in : Fed → Feeding
 host_in fed = feeding_of meaning_of fed.host
 
--- so it is between two calls
+-- a host between two calls
 abbrev pub IsFed : Fed → Type 0
 IsFed fed = IsReady (host_in fed)
 
@@ -44,7 +44,7 @@ pub record IsMade (sources : List (List ℕ)) (schedule : List ℕ) (room : ℕ)
   pub said : schedule_in schedule ≡ Ok slots
   pub stocked : IsStocked sources slots room fed
 
--- a text doesn't compile, or there is no memory: the error's numbers are told, and its words are said
+-- a text doesn't compile, or there is no memory: the error's numbers and its words are given
 pub record IsUnmade (sources : List (List ℕ)) (told : Refusal) (sentence : Sentence) : Type 0 where
   pub error : RunError
   pub refused : IsNotCompiled sources error
@@ -53,14 +53,14 @@ pub record IsUnmade (sources : List (List ℕ)) (told : Refusal) (sentence : Sen
 
 -- ---- a record
 
--- the numbers of answers: no whole record is held; the output is smaller than the host's room
+-- the codes: no whole record is held; the output is smaller than the host's room
 abbrev pub none_held : ℕ
 none_held = 250
 
 abbrev pub too_small : ℕ
 too_small = 249
 
--- what is told of what came of a record
+-- the code of what came of a record
 abbrev pub code_of : Result (Option ℕ) Halt → ℕ
 code_of (Ok (Some total)) = 0
 code_of (Ok None) = none_held
@@ -76,8 +76,8 @@ pub record HandlesInto (old new : Feeding) (output : List ℕ) (size written : �
   pub one : HandlesOne old new unwritten (written_in output written full) answer
   pub is_full : full ≡ true → written ≡ size
 
--- what is taken of the bytes is held behind what was held, and then the record in front is handled; an application that leaves its
--- seat for it has retired
+-- what is taken of the bytes is held after what was held, and then the record in front is handled; an application that leaves
+-- its seat for it has retired
 pub record Feeds (bytes output : List ℕ) (old new : Fed) (told : Handled) : Type 0 where
   pub taken : told.taken ≡ length (taken_of (host_in old).held bytes)
   pub answer : Result (Option ℕ) Halt
@@ -87,7 +87,7 @@ pub record Feeds (bytes output : List ℕ) (old new : Fed) (told : Handled) : Ty
   pub room : length new.room.items ≡ length old.room.items
   pub gone : (host_in old).host.is_closed ≡ false → LeavesForFront meaning_of (boxes_on old.host) (host_in old).host (front_of (fed_with bytes (host_in old)).held)
 
--- what two handles hold, one behind the other
+-- what two handles hold, one after the other
 abbrev pub AreFed : List ℕ → List ℕ → Handled → Option Fed → Option Fed → Type 0
 AreFed bytes output told None now = ⊥
 AreFed bytes output told (Some old) None = ⊥

@@ -10,6 +10,6 @@ use Rattle.c_interface.specs.contracts.handle.Fed.{the_row as fed_row}
 abbrev pub with_fed : Handle → Fed → Handle
 with_fed handle fed = record handle { value = Some fed }
 
--- once the loan ends, the handle holds what was left behind it
+-- once the loan ends, the handle holds what the borrower left in it
 abbrev pub LendsFed : MutBor Handle → MutBor Fed → Fml
 LendsFed handle fed = Lends handle_row fed_row handle fed (with_fed handle.now)

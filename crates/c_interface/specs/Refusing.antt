@@ -3,7 +3,7 @@ use Rattle.std.specs.Prelude.{ℕ, Option, Some, None}
 use Rattle.lc_model.specs.Text.Reading.{ParseFault, Expected, TooNested, TextRefusal, ForText, AtPlace, Unparsed, ForRule}
 use Rattle.c_interface.specs.declared.refusal.Refusal.{Refusal}
 
--- want of memory
+-- lack of memory
 abbrev pub no_memory : ℕ
 no_memory = 255
 
@@ -35,7 +35,7 @@ numbers_of_refusal text (AtPlace fault) = at_place text fault.code fault.at
 numbers_of_refusal text (Unparsed fault) = unparsed text fault
 numbers_of_refusal text (ForRule code rule) = record { code = code; of = rules; at = rule; text = text }
 
--- a refusal that is none is want of memory
+-- `None` stands for lack of memory
 abbrev pub numbers_of : ℕ → Option TextRefusal → Refusal
 numbers_of text None = record { code = no_memory; of = nothing; at = 0; text = text }
 numbers_of text (Some refusal) = numbers_of_refusal text refusal

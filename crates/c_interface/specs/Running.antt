@@ -37,11 +37,11 @@ unread stream = record { rest = Some stream; reads = 0; failed = false }
 abbrev pub unwritten : Sink
 unwritten = record { gained = Some []; failed = false }
 
--- the room's first bytes, so many, were written, and then it was full or not
+-- this many of the room's first bytes were written, and then it was full or not
 abbrev pub written_in : List ℕ → ℕ → Bool → Sink
 written_in output written full = record { gained = Some (take written output); failed = full }
 
--- what stands behind the first bytes of the output, so many, is as it was
+-- the output after its first bytes, this many, is as it was
 abbrev pub IsKeptBehind : ℕ → (old new : List ℕ) → Type 0
 IsKeptBehind count old new = drop count new ≡ drop count old
 
@@ -76,7 +76,7 @@ numbers_of_ending (FailedToWrite sent) = of_record 144 0
 numbers_of_ending ReachedTheBound = of_record 145 0
 numbers_of_ending NoMemory = numbers_of 0 None
 
--- a run of these texts by what the schedule's text says, told so, with the words of the error that ended it
+-- a run of these texts by what the schedule's text says, with its numbers, and with the words of the error that ended it
 pub record RunsOf (sources : List (List ℕ)) (schedule stream output : List ℕ) (written : ℕ) (told : Refusal) (sentence : Sentence) : Type 0 where
   pub slots : Schedule
   pub said : schedule_in schedule ≡ Ok slots
@@ -84,26 +84,26 @@ pub record RunsOf (sources : List (List ℕ)) (schedule stream output : List ℕ
   pub run : RunsInMemory sources slots stream output written answer
   pub is_told : told ≡ numbers_of_ending (ending_of answer)
   pub words : IfErr answer (λ error. Says (run_words error) sentence)
-  -- that a write failed is told only where the output is full
+  -- a failed write is reported only where the output is full
   pub full : told.of ≡ records → told.code ≡ 144 → written ≡ length output
 
 -- ---- where nothing was run
 
--- so it is told
+-- the numbers where nothing was run
 abbrev pub unrun : (code at : ℕ) → Refusal
 unrun code at = record { code = code; of = not_run; at = at; text = 0 }
 
--- the lengths do not add up to the texts: so it is told and said
+-- the lengths do not add up to the texts: these are the numbers and the words
 pub record IsUnfit (told : Refusal) (sentence : Sentence) : Type 0 where
   pub is_told : told ≡ unrun unfit 0
   pub said : Says unfit_words sentence
 
--- what is told of a schedule's fault; one that is none is want of memory
+-- the numbers of a schedule's fault; `None` stands for lack of memory
 abbrev pub numbers_of_fault : Option ScheduleFault → Refusal
 numbers_of_fault None = unrun no_memory 0
 numbers_of_fault (Some fault) = unrun fault.code fault.line
 
--- the text says no schedule for this reason, or there was no memory: its numbers are told, and its words are said
+-- the text says no schedule for this reason, or there was no memory: its numbers and its words are given
 pub record IsUnscheduled (schedule : List ℕ) (told : Refusal) (sentence : Sentence) : Type 0 where
   pub error : ScheduleError
   pub refused : IsRefused (schedule_in schedule) error

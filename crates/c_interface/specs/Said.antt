@@ -7,7 +7,7 @@ use Rattle.c_interface.specs.declared.sentence.Sentence.{Sentence}
 abbrev pub sentence_room : ℕ
 sentence_room = 252
 
--- it says this, with dots at its end where that is longer than the room, and zeros stand behind it
+-- it says this, with dots at its end if that is longer than the room, and then zeros
 pub record Says (text : List ℕ) (sentence : Sentence) : Type 0 where
   pub ends : sentence.length < sentence_room
   pub zeros : drop sentence.length sentence.bytes ≡ replicate (sentence_room - sentence.length) 0

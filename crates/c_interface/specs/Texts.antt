@@ -1,4 +1,4 @@
--- Texts that lie one behind the other. This project's own.
+-- Texts that lie one after the other. This project's own.
 use Rattle.std.specs.Prelude.{ℕ, List, [], ◌∷◌, take, drop}
 
 -- the texts with these lengths

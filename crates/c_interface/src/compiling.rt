@@ -15,23 +15,28 @@ use crate::sentence::Sentence;
 use rpn_compiler::compile;
 use std::alloc::Global;
 
-/// The bytes of a file of watchpoints.
+/// The length of a file of watchpoints in bytes.
 pub const WDT: usize = 4_380;
 
-/// The bytes of a file of actionpoints.
+/// The length of a file of actionpoints in bytes.
 pub const ADT: usize = 19_516;
 
-/// What is told of a compilation: how many entries of the two tables are used, or why the text is refused.
+/// The result of a compilation, as C sees it: how many entries of the two tables are used, or why the text is refused.
 #[repr(C)]
 #[derive(Clone, Copy)]
 pub struct Compiled {
+    /// Why the text is refused; code 0 if it is compiled.
     pub refusal: Refusal,
+    /// The used entries of the watchpoint table, up to 176; 0 if the text is refused.
     pub watchpoints: u32,
+    /// The used entries of the actionpoint table, up to 176; 0 if the text is refused.
     pub rules: u32,
+    /// The refusal for people; empty if the text is compiled.
     pub sentence: Sentence,
 }
 
-/// Compiles a rule text into two table files, and answers 0, or the number of the refusal; the files are then as before.
+/// Compiles a rule text into two table files, and returns 0 or the number of the refusal. A refused text leaves both files as
+/// they were.
 pub fn compile_files(
     alloc: Global,
     text: &[u8],

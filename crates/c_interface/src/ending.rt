@@ -14,7 +14,7 @@ use crate::sentence::Sentence;
 use flight_core::{Report, RunError};
 use schedules::ScheduleError;
 
-/// The lengths are not those of parts of the texts.
+/// The code if the lengths of texts do not add up to their bytes.
 pub const UNFIT: u32 = 252;
 
 /// What `at` counts besides: records; lines of a schedule, where nothing was run.
@@ -59,7 +59,7 @@ fn of_record(code: u32, number: u64) -> Refusal
     }
 }
 
-/// What is told where nothing was run.
+/// The numbers where nothing was run: `at` is the schedule's line at fault, from 1, or 0.
 pub(crate) fn not_run(code: u32, at: u64) -> Refusal
     ensures { result ≡ unrun code at }
 {
@@ -71,7 +71,7 @@ pub(crate) fn not_run(code: u32, at: u64) -> Refusal
     }
 }
 
-/// Why there is no schedule, and the line.
+/// The numbers of a schedule's refusal, with the line.
 pub(crate) fn no_schedule(error: ScheduleError) -> Refusal
     ensures of { result.of ≡ 4 }
     ensures tells { result ≡ numbers_of_fault (fault_of error) }
@@ -86,7 +86,7 @@ pub(crate) fn no_schedule(error: ScheduleError) -> Refusal
     }
 }
 
-/// What a run's end says to people.
+/// The sentence for people of how a run ended; empty if it came to the end of its stream.
 pub(crate) fn end_sentence(answer: Result<Report, RunError>) -> Sentence
     ensures silent { IfOk answer (λ _. result ≡ no_sentence) }
     ensures said { IfErr answer (λ error. Says (run_words error) result) }

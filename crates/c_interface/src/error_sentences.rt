@@ -172,7 +172,7 @@ pub(crate) fn of_lengths() -> Sentence
     Sentence::of("the lengths are not those of the texts")
 }
 
-/// The sentence of a want of memory.
+/// The sentence of a lack of memory.
 pub(crate) fn of_no_memory() -> Sentence
     ensures { Says out_of_memory result }
 {

@@ -26,32 +26,38 @@ use schedules::{Schedule, parse_schedule};
 use std::alloc::Global;
 use std::marker::Brand;
 
-/// No whole record is held.
+/// The code if no whole record is held.
 pub const NONE_HELD: u32 = 250;
 
-/// The output is smaller than the host's room.
+/// The code if the output is smaller than the host's room.
 pub const TOO_SMALL: u32 = 249;
 
-/// What is told of a host that is to be made: nothing is refused, or why it isn't made, in numbers and for people.
+/// The result of making a host, as C sees it: why it isn't made, in numbers and for people.
 #[repr(C)]
 #[derive(Clone, Copy)]
 pub struct Made {
+    /// Why the host isn't made; code 0 if it is made.
     pub refusal: Refusal,
+    /// The refusal for people; empty if the host is made.
     pub sentence: Sentence,
 }
 
-/// What is told of a record: what came of it, how many of the bytes were taken, and how many bytes of the output were written.
+/// The result of feeding a host, as C sees it.
 #[repr(C)]
 #[derive(Clone, Copy)]
 pub struct Handled {
+    /// 0: a record was handled; 141: what comes next is no record; 144: it leads to more than the room takes; 249: `TOO_SMALL`;
+    /// 250: `NONE_HELD`.
     pub code: u32,
+    /// How many of the given bytes were taken.
     pub taken: u64,
+    /// How many bytes of the output were written.
     pub written: u64,
 }
 
 // ---- a host is made
 
-/// A host of these texts with this profile's stock, and its room.
+/// Creates a host of these texts with this profile's stock, and its room.
 fn fed_of(
     alloc: Global,
     texts: &[&[u8]],
@@ -74,7 +80,7 @@ fn fed_of(
     }
 }
 
-/// What is told where none is made.
+/// The result where no host is made.
 fn unmade(refusal: Refusal, sentence: Sentence) -> Made
     ensures refusal { result.refusal ≡ refusal }
     ensures sentence { result.sentence ≡ sentence }
@@ -82,7 +88,7 @@ fn unmade(refusal: Refusal, sentence: Sentence) -> Made
     Made { refusal, sentence }
 }
 
-/// A host of these texts and of what the schedule's text says, or what is told.
+/// Creates a host of these texts and of what the schedule's text says. The error is what C is given.
 fn fed_by_text(
     alloc: Global,
     texts: &[&[u8]],
@@ -106,7 +112,7 @@ fn fed_by_text(
     }
 }
 
-/// A host of texts that lie one behind the other, or what is told.
+/// Creates a host of texts that lie one after the other. The error is what C is given.
 fn fed_by_texts(
     alloc: Global,
     texts: &[u8],
@@ -135,8 +141,8 @@ fn fed_by_texts(
     }
 }
 
-/// Makes a host of rule texts, which lie one behind the other and have these lengths, with room for so many bytes that one
-/// record leads to; and answers 0, or the number of what is refused. Condition: the handle holds nothing.
+/// Makes a host of rule texts, which lie one after the other and have these lengths, with room for `size` bytes of output of
+/// one record. Returns 0 or the number of the refusal. Condition: the handle holds nothing.
 pub fn make_host(
     alloc: Global,
     texts: &[u8],
@@ -175,7 +181,7 @@ pub fn make_host(
 
 // ---- it is fed
 
-/// The host handles the record in front; what that leads to goes through the room to the front of the output: what came of it,
+/// Handles the record in front; its output goes through the room to the front of `output`. Returns what came of the record,
 /// and how many bytes were written.
 fn handle_into<S: Size>(
     host: &mut FedHost<Box<Member>>,
@@ -200,7 +206,7 @@ fn handle_into<S: Size>(
     (answer, written)
 }
 
-/// The number of what came of a record.
+/// The code of what came of a record.
 fn in_number(answer: Result<Option<u64>, Halt>) -> u32
     ensures { result ≡ code_of answer }
 {
@@ -228,9 +234,9 @@ fn feed_fed(fed: &mut Fed, bytes: &[u8], output: &mut [u8]) -> Handled
     }
 }
 
-/// Takes bytes of the stream, as many as there is room for behind those that are held, and handles the record in front, where it
-/// is whole; and answers what came of it. Condition: the handle holds a host. An output that is smaller than the host's room is
-/// refused, and nothing is done.
+/// Takes as many bytes of the stream as there is room for after those that are held, handles the record in front if it is
+/// whole, and returns what came of it. If the output is smaller than the host's room, it is refused and nothing is done.
+/// Condition: the handle holds a host.
 pub fn feed_host(handle: &mut Handle, bytes: &[u8], output: &mut [u8], told: &mut Handled) -> u32
     requires there { IsSomeAnd handle.old.value IsFed }
     ensures answered { result ≡ told.new.code }
@@ -258,7 +264,8 @@ pub fn feed_host(handle: &mut Handle, bytes: &[u8], output: &mut [u8], told: &mu
 
 // ---- it is closed
 
-/// All that run retire, and all memory is given back. Condition: the handle holds a host; it holds nothing afterwards.
+/// Retires all applications that run, and gives all memory back. Condition: the handle holds a host; it holds nothing
+/// afterwards.
 pub fn close_host(alloc: Global, handle: &mut Handle)
     requires { IsSomeAnd handle.old.value IsFed }
     ensures { handle.new.value ≡ None }

@@ -22,7 +22,7 @@ pub struct Fed {
     pub(crate) room: Vec<u8>,
 }
 
-/// A pointer to what a program in C was given, or null. What it holds is its own.
+/// A pointer to a host that a program in C was given, or null. The handle owns what it points to.
 #[repr(C)]
 #[derive(Drop)]
 pub struct Handle {
@@ -59,7 +59,7 @@ fn loose_fed(handle: Handle, alloc: Global) -> Loose<Fed, Global>
     }
 }
 
-/// A handle of this.
+/// Creates a handle that holds this.
 pub(crate) fn handle_of(fed: Box<Fed>) -> Handle
     ensures { result.value ≡ Some fed.value }
 {

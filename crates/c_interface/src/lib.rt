@@ -1,5 +1,6 @@
-//! What the library for C calls, below its archives: rule texts are compiled into a caller's room, and a host runs from memory to
-//! memory. Each call takes its memory by an allocator of the caller's program, and gives all of it back before it answers.
+//! What the library for C calls, below its archives: rule texts are compiled into a caller's room, a host runs from memory to
+//! memory, and one is fed record by record. Each call takes its memory by an allocator of the caller's program, and gives it
+//! back before it returns; only a host that is fed keeps memory, until it is closed.
 #![tactic(auto)]
 
 mod compiling;

@@ -9,7 +9,7 @@ use rpn_compiler::CompileError;
 use rule_lexer::LexError;
 use rule_parser::ParseError;
 
-/// Want of memory.
+/// The code for a lack of memory.
 pub const NO_MEMORY: u32 = 255;
 
 /// What `at` counts: nothing; bytes of the text before the fault; rules before it.
@@ -19,18 +19,22 @@ const BYTES: u32 = 1;
 
 const RULES: u32 = 2;
 
-/// Why something is refused: the number, 0 where nothing is; what `at` counts, and how many there are; and the number of the
-/// text that is refused, from 0.
+/// Why something is refused, in numbers for C.
 #[repr(C)]
 #[derive(Clone, Copy, Debug, PartialEq, Eq)]
 pub struct Refusal {
+    /// The number of the refusal; 0 if nothing is refused.
     pub code: u32,
+    /// What `at` counts: 0 nothing, 1 bytes of the text, 2 rules of the text, 3 records, 4 a schedule's lines, where nothing was run.
     pub of: u32,
+    /// The bytes or rules before the fault; the record's number from 1, or all records if the code is 0; or the schedule's line
+    /// from 1, or 0.
     pub at: u64,
+    /// The number of the refused text, from 0.
     pub text: u64,
 }
 
-/// Nothing is refused.
+/// Creates the refusal that refuses nothing.
 pub fn none() -> Refusal
     ensures { result ≡ record { code = 0; of = 0; at = 0; text = 0 } }
 {
@@ -64,7 +68,7 @@ fn at(text: u64, code: u32, at: usize) -> Refusal
     }
 }
 
-/// The refusal of the text with this number.
+/// The numbers of a refusal of the text with this number.
 pub fn in_numbers(text: u64, error: CompileError) -> Refusal
     ensures numbers { result ≡ numbers_of text (refusal_of error) }
     ensures some { 0 < result.code }

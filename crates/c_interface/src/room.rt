@@ -15,8 +15,8 @@ impl Size for Brand {
     ghost size = { 0 };
 }
 
-/// Takes bytes into a slice from its front on, and fails where there is no room left. It tells its bytes, and it has as many as
-/// its kind says, whatever it went through.
+/// Takes bytes into a slice, from its front on, and fails where there is no room left. Its type parameter says how many bytes
+/// it has, whatever calls it went through.
 #[derive(Drop)]
 pub(crate) struct Room<'a, S: Size> {
     room: &'a mut [u8],
@@ -29,7 +29,7 @@ pub(crate) struct Room<'a, S: Size> {
 }
 
 impl<'a, S: Size> Room<'a, S> {
-    /// Nothing was taken yet.
+    /// Creates it with nothing taken.
     pub(crate) fn new(room: &'a mut [u8]) -> Room<'a, S>
         requires { length room.old ≡ S.size }
         ensures room { result.room.now ≡ room.old }

@@ -21,17 +21,20 @@ use schedules::{Schedule, parse_schedule};
 use std::alloc::Global;
 use std::marker::Brand;
 
-/// What is told of a run: how it ended, how many bytes of the output were written, and a sentence for people.
+/// The result of a run, as C sees it.
 #[repr(C)]
 #[derive(Clone, Copy)]
 pub struct Run {
+    /// How the run ended, in numbers; code 0 at the end of the stream.
     pub ending: Refusal,
+    /// How many bytes of the output were written.
     pub written: u64,
+    /// The error that ended the run, for people; empty at the end of the stream.
     pub sentence: Sentence,
 }
 
-/// Runs into a room, and copies what was written to the front of the output, which has as many bytes: how it ended, and how many
-/// bytes were written.
+/// Runs into a room, which has as many bytes as the output, and copies what was written to the output's front. Returns how the
+/// run ended, and how many bytes were written.
 fn run_into<S: Size>(
     alloc: Global,
     texts: &[&[u8]],
@@ -56,7 +59,7 @@ fn run_into<S: Size>(
     (answer, written)
 }
 
-/// Runs, and answers how it ended and how many bytes were written; none where there is no memory for what is written.
+/// Runs, and returns how the run ended and how many bytes were written; `None` if there is no memory for what is written.
 fn run_in_memory(
     alloc: Global,
     texts: &[&[u8]],
@@ -78,7 +81,7 @@ fn run_in_memory(
     Some(run_into::<Brand>(alloc, texts, schedule, stream, place, output))
 }
 
-/// What is told where nothing was run.
+/// The result where nothing was run.
 fn unrun(ending: Refusal, sentence: Sentence) -> Run
     ensures ending { result.ending ≡ ending }
     ensures written { result.written ≡ 0 }
@@ -123,7 +126,8 @@ fn run_scheduled(
     }
 }
 
-/// Runs rule texts, which lie one behind the other and have these lengths, over a stream.
+/// Runs rule texts, which lie one after the other and have these lengths, over a stream with the schedule that a text says.
+/// The packets that are sent are written to the front of the output.
 #[tactic(auto, using(crate::proofs::NotRun::of_these, crate::proofs::NotRun::out_of_memory_for_texts, crate::proofs::NotRun::unfit_lengths, crate::proofs::NotRun::unscheduled))]
 pub fn run_texts(
     alloc: Global,

@@ -11,16 +11,18 @@ pub const ROOM: usize = 252;
 
 const MOST: usize = ROOM - 1;
 
-/// A sentence: how many bytes it has, at most 251, and these, with zeros behind them.
+/// A sentence in English, as C sees it, with zeros after its bytes.
 #[repr(C)]
 #[derive(Clone, Copy)]
 pub struct Sentence {
+    /// The length of the sentence in bytes, at most 251.
     pub length: u32,
+    /// The bytes of the sentence, and then zeros.
     pub bytes: [u8; ROOM],
 }
 
 impl Sentence {
-    /// No sentence.
+    /// Creates the empty sentence.
     pub fn none() -> Sentence
         ensures { result ≡ no_sentence }
     {
@@ -30,7 +32,7 @@ impl Sentence {
         }
     }
 
-    /// What this says, with dots at its end where it is longer than the room.
+    /// Writes the value's `Display`, with dots at its end if it is longer than the room.
     pub fn of<D: Display + Drop>(value: D) -> Sentence
         ensures ends { result.length < ROOM }
         ensures zeros { drop result.length result.bytes ≡ replicate (ROOM - result.length) 0 }

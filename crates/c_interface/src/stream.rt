@@ -13,7 +13,7 @@ pub(crate) struct Stream<'a> {
 }
 
 impl<'a> Stream<'a> {
-    /// Nothing was read yet.
+    /// Creates it with nothing read.
     pub(crate) fn new(bytes: &'a [u8]) -> Stream<'a>
         ensures { ⟦<Stream<'a> as ByteSource>⟧.source result ≡ unread bytes.now }
     {

@@ -1,4 +1,4 @@
-//! Texts that lie one behind the other.
+//! Texts that lie one after the other.
 
 ghost use Rattle.std.specs.Prelude.{◌≡◌, ◌==◌, length, IfOk};
 ghost use Rattle.std.specs.List.{sum};
@@ -7,7 +7,7 @@ ghost use Rattle.c_interface.specs.Texts.{texts_in};
 
 use std::alloc::{AllocError, Global};
 
-/// Whether these lengths are the lengths of parts of so many bytes in all.
+/// Whether these lengths add up to `bytes`, and so are those of parts of that many bytes.
 pub(crate) fn are_lengths(lengths: &[usize], bytes: usize) -> bool
     ensures { result ≡ (sum lengths.now == bytes) }
 {

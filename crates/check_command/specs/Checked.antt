@@ -6,7 +6,7 @@ use Rattle.check_command.specs.declared.totals.CheckResult.{CheckResult}
 use Rattle.check_command.specs.declared.totals.CheckResult.TheVariants.{Refused, Warnings}
 use Rattle.check_command.specs.declared.totals.Totals.{Totals}
 
--- what is known of several texts, with one more
+-- the total of several texts, with one more
 abbrev pub counted : Totals → CheckResult → Totals
 counted totals Refused = record { is_refused = true; is_warned = totals.is_warned }
 counted totals (Warnings count) = record { is_refused = totals.is_refused; is_warned = totals.is_warned || nat_lt 0 count }

@@ -1,4 +1,4 @@
-//! What is said of each text.
+//! Checks rule texts, and writes their faults and warnings.
 
 ghost use Rattle.std.specs.Prelude.{◌≡◌, None};
 ghost use Rattle.lc_model.specs.Tables.Compiling.{limit_refusal};
@@ -21,7 +21,7 @@ use tool_faults::{
     write_warnings,
 };
 
-/// Writes how many rules a text has, and how many warnings.
+/// Writes the number of a text's rules and of its warnings.
 fn write_counts<'a, W: Write>(
     name: &'a str,
     rules: usize,
@@ -37,7 +37,7 @@ fn write_counts<'a, W: Write>(
     listing_result(writeln!(out, "{name}: {rules}, {told}{shown}"))
 }
 
-/// Writes what can be said of a valid rule text, and answers how many warnings these are.
+/// Writes the warnings of a valid rule text, and returns their number.
 fn judge<'a, W: Write>(
     alloc: Global,
     name: &'a str,
@@ -61,7 +61,7 @@ fn judge<'a, W: Write>(
     Ok(told.len())
 }
 
-/// Writes what there is to say of the rule text in a file, and answers what was found.
+/// Writes the faults or warnings of the rule text in a file, and returns the result.
 fn check_text<'a, R: Files + AllocGlobal, W: Write>(
     rt: &R,
     name: &'a str,
@@ -85,7 +85,7 @@ fn check_text<'a, R: Files + AllocGlobal, W: Write>(
     }
 }
 
-/// The schedule in a file. Where it is refused there is none, and what is wrong with it is written.
+/// The schedule in a file; `None` if it is refused, and then its fault is written.
 fn plan_in<'a, R: Files + AllocGlobal, W: Write>(
     rt: &R,
     name: &'a str,
@@ -105,9 +105,9 @@ fn plan_in<'a, R: Files + AllocGlobal, W: Write>(
     }
 }
 
-/// Says of the schedule, where one is named, what is wrong with it, and of each rule text in these files whether it compiles; where it
-/// doesn't, what is wrong with it, and where it does, its warnings: what is declared and not used, and what can be said of its rules
-/// before any packet comes; and of each rule, where all is asked for, for which values of its fields it fails and passes.
+/// Checks a schedule, if one is named, and the rule texts in these files. Writes the faults of each text that doesn't compile, and the
+/// warnings of each other text; with `is_all` also the values with which each rule fails and passes. Errors: `Refused` for a text or
+/// schedule with a fault, `Warned` for a warning if `is_strict`; others are of files, output and memory.
 pub fn check<'a, R: Files + AllocGlobal, W: Write>(
     rt: &R,
     schedule: Option<&'a str>,

@@ -1,4 +1,4 @@
-//! The command `check`: what is wrong with rules, or can be said of them before any packet comes.
+//! The command `check`: reports the faults and warnings of rule texts before any packet comes.
 #![tactic(auto)]
 
 mod checking;

@@ -1,4 +1,4 @@
-//! For which values of their fields the rules of a text fail and pass.
+//! Writes the values of their fields with which the rules of a text fail and pass.
 
 use analysis_listing::list_outcomes;
 use diagnostics::{note_line, printable};
@@ -7,7 +7,7 @@ use std::alloc::Global;
 use std::io::Write;
 use tool_faults::{Fault, judgement_fault, listing_result};
 
-/// Writes a line as an object.
+/// Writes a line as a JSON object.
 fn write_note<'a, W: Write>(
     alloc: Global,
     name: &'a str,
@@ -19,14 +19,14 @@ fn write_note<'a, W: Write>(
     listing_result(out.write_all(object.as_bytes()))
 }
 
-/// Writes a line behind the name of its file.
+/// Writes a line after the name of its file.
 fn write_named<'a, W: Write>(name: &'a str, line: &[u8], out: &mut W) -> Result<(), Fault<'a>> {
     listing_result(write!(out, "{name}: "))?;
     listing_result(out.write_all(line))?;
     listing_result(out.write_all(b"\n"))
 }
 
-/// Writes lines, each behind the name of its file or as an object.
+/// Writes lines, each after the name of its file or as a JSON object.
 fn write_lines<'a, W: Write>(
     alloc: Global,
     name: &'a str,
@@ -47,7 +47,7 @@ fn write_lines<'a, W: Write>(
     Ok(())
 }
 
-/// Writes for which values of their fields the rules of a text fail and pass.
+/// Writes the values of their fields with which the rules of a text fail and pass. Errors are of output and memory.
 pub fn write_outcomes<'a, W: Write>(
     alloc: Global,
     name: &'a str,

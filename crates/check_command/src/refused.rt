@@ -1,4 +1,4 @@
-//! How a rule text that another command refuses is told: as `check` tells it.
+//! The report of a rule text that another command refuses: the same as that of `check`.
 
 ghost use Rattle.std.specs.Prelude.{◌≡◌};
 ghost use Rattle.check_command.specs.Refused.{IsToldAs};
@@ -10,7 +10,7 @@ use std::alloc::{AllocError, Global};
 use std::fs::Files;
 use tool_faults::{Fault, read_text};
 
-/// The page of what is said of a text in a file of this name; none where nothing is.
+/// The messages for a text in a file of this name; `None` if there are none.
 fn page(alloc: Global, name: &str, text: &[u8]) -> Result<Option<String>, AllocError> {
     let told = messages(alloc, text)?;
     if told.is_empty() {
@@ -19,7 +19,7 @@ fn page(alloc: Global, name: &str, text: &[u8]) -> Result<Option<String>, AllocE
     Ok(Some(page_of(alloc, name, text, told.as_slice())?))
 }
 
-/// The same of the text that the file has now; none where it can't be read, is too long to be read to its end, or there is no memory.
+/// The messages for the text that the file has now; `None` if it can't be read, is too long, or there is no memory.
 fn page_of_file<R: Files + AllocGlobal>(rt: &R, name: &str) -> Option<String> {
     let text = read_text(rt, name).ok()?;
     if text.len() > LONGEST_TEXT {
@@ -28,7 +28,7 @@ fn page_of_file<R: Files + AllocGlobal>(rt: &R, name: &str) -> Option<String> {
     page(rt.alloc(), name, text.as_slice()).ok()?
 }
 
-/// A fault as it is told: of a rule text that is refused all that `check` says of it, where its file can be read once more.
+/// The fault to report: for a refused rule text all messages of `check`, if its file can be read again; any other fault unchanged.
 pub fn told<'a, R: Files + AllocGlobal>(rt: &R, fault: Fault<'a>) -> Fault<'a>
     ensures { IsToldAs fault.entry result }
 {

@@ -1,39 +1,41 @@
-//! What several texts come to.
+//! The total result of several texts.
 
 ghost use Rattle.std.specs.Prelude.{◌≡◌};
 ghost use Rattle.check_command.specs.Checked.{answer_of, counted};
 
 use tool_faults::Fault;
 
-/// What `check` is asked for.
+/// The options of `check`.
 #[derive(Clone, Copy)]
 pub struct CheckOptions {
-    /// A line for each rule that both fails and passes, and not warnings alone.
+    /// Whether to write a line for each rule that can fail and pass, besides the warnings.
     pub is_all: bool,
-    /// A warning is a fault.
+    /// Whether a warning is a fault.
     pub is_strict: bool,
-    /// All is said in JSON, an object a line.
+    /// Whether to write one JSON object per line.
     pub is_json: bool,
 }
 
-/// What is found of a rule text.
+/// The result of checking a rule text.
 #[derive(Clone, Copy)]
 pub enum CheckResult {
     /// It doesn't compile.
     Refused,
-    /// It compiles, with so many warnings.
+    /// It compiles, with this number of warnings.
     Warnings(usize),
 }
 
-/// Of several texts, whether one doesn't compile, and whether there is a warning.
+/// The total result of several texts.
 #[derive(Clone, Copy)]
 pub struct Totals {
+    /// Whether a text doesn't compile, or the schedule is refused.
     pub is_refused: bool,
+    /// Whether there is a warning.
     pub is_warned: bool,
 }
 
 impl Totals {
-    /// With one text more.
+    /// The total with one text more.
     pub fn with(self, found: CheckResult) -> Totals
         ensures { result ≡ counted self found }
     {
@@ -49,7 +51,7 @@ impl Totals {
         }
     }
 
-    /// What the call comes to: a text that doesn't compile is a fault, and so is a warning, where that is asked for.
+    /// The result of the command. Errors: `Refused` if a text is refused; `Warned` if there is a warning and `is_strict`.
     pub fn answer(self, is_strict: bool) -> Result<(), Fault<'static>>
         ensures { result ≡ answer_of self is_strict }
     {

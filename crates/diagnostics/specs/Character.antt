@@ -24,7 +24,7 @@ char_in_front bytes = char_or (decoded bytes).char
 abbrev pub size_in_front : List ℕ → ℕ
 size_in_front bytes = size_or (decoded bytes).char (decoded bytes).size
 
--- the characters behind so many bytes, which belong to the character before
+-- the characters after this many bytes, which belong to the character before
 abbrev pub characters_behind : ℕ → List ℕ → List ℕ
 characters_behind left [] = []
 characters_behind zero (byte ∷ bytes) =

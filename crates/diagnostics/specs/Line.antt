@@ -15,7 +15,7 @@ is_line_feed byte = byte == line_feed
 abbrev pub is_line_byte : ℕ → Bool
 is_line_byte byte = not (byte == line_feed)
 
--- where the line of a place begins: behind the last line feed before the place, or at the text's first byte
+-- where the line of a place begins: after the last line feed before the place, or at the text's first byte
 unfoldable pub line_start : List ℕ → ℕ → ℕ
 line_start text zero = 0
 line_start text (suc at) = if slice_index text at == line_feed then suc at else line_start text at

@@ -1,4 +1,4 @@
--- The object that tells of a message. This project's own, of JSON (RFC 8259).
+-- The JSON object of a message (RFC 8259). Its members are this project's own.
 use Rattle.std.specs.Prelude.{◌≡◌, ℕ, ◌+◌, min, Bool, if◌then◌else◌, List, [], ◌∷◌, ◌++◌, length, map, Option, Some, None, codes, string_bytes}
 use denote.Ref.{Bor}
 use Rattle.serde_json.specs.Data.{Data, Items, object, member, no_members, string, array, no_items, number, unsigned, null}
@@ -14,15 +14,15 @@ use Rattle.diagnostics.specs.declared.spot.Spot.{Spot}
 
 -- ---- places
 
--- so many bytes at a place, as far as they stand on its line
+-- this many bytes at a place, as far as they stand on its line
 abbrev pub token_in_line : List ℕ → (at size : ℕ) → List ℕ
 token_in_line text at size = window.token_in_line text at size
 
--- the column behind them
+-- the column after them
 abbrev pub end_column : List ℕ → (at size : ℕ) → ℕ
 end_column text at size = column text at + length (characters (token_in_line text at size))
 
--- where a mark stands: a place behind the text's end is its end
+-- where a mark stands: a place beyond the text's end is its end
 abbrev pub place_of : List ℕ → Mark → ℕ
 place_of text mark = min mark.at (length text)
 
@@ -43,7 +43,7 @@ abbrev pub number_or_null : Option ℕ → Data
 number_or_null None = null
 number_or_null (Some n) = number_of n
 
--- what is told, at a place or at none, with other places
+-- a notice, with its place or null, its other places and its warning's name or null
 abbrev members : (at code : Data) → (file level message : List ℕ) → Items → Data → Data
 members at code file level message others warning =
     object (member (codes "at") at
@@ -105,6 +105,6 @@ message_text file text message = compact_text (message_object file text message)
 abbrev pub level_of : Bool → List ℕ
 level_of is_warning = if is_warning then codes "warning" else codes "note"
 
--- what is said of a file as a whole
+-- a notice about a file as a whole
 abbrev pub note_text : List ℕ → Bool → List ℕ → List ℕ
 note_text file is_warning note = compact_text (members null null file (level_of is_warning) note no_items null) ++ 10 ∷ []

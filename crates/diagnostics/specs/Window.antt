@@ -14,11 +14,11 @@ before = 40
 abbrev pub dots : List ℕ
 dots = 46 ∷ 46 ∷ 46 ∷ []
 
--- the first column shown: 40 before the mark, but at most so far that 100 are shown
+-- the first column shown: 40 before the mark, or less far on where fewer than 100 would be shown
 abbrev pub window_start : (columns mark : ℕ) → ℕ
 window_start columns mark = if nat_le columns width then 0 else min (mark - before) (columns - width)
 
--- dots for what is cut before, and behind
+-- dots for what is cut before, and after
 abbrev pub dotted_before : ℕ → List ℕ → List ℕ
 dotted_before start part = if start == 0 then part else dots ++ drop 3 part
 
@@ -32,7 +32,7 @@ window columns start =
 abbrev pub mark_width : (shown from token : ℕ) → ℕ
 mark_width shown from token = max (min token (shown - from)) 1
 
--- the bytes of the line before a place, and those of so many from there on
+-- the bytes of the line before a place, and the line's bytes among this many from there on
 abbrev pub before_in_line : List ℕ → ℕ → List ℕ
 before_in_line text at = take (at - line_start text at) (written_line text at)
 

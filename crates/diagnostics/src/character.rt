@@ -5,7 +5,7 @@ ghost use Rattle.diagnostics.specs.Character.{char_in_front, characters, size_in
 
 use bstr::decode_utf8;
 
-/// The character in front and how many bytes it has. A byte that is in no character is one by itself, read as U+FFFD.
+/// The character in front and how many bytes it has. A byte that belongs to no UTF-8 sequence counts as one, read as U+FFFD.
 pub fn front_character(rest: &[u8]) -> (char, usize)
     requires { 0 < length rest.now }
     ensures char { result.0 ≡ char_in_front rest.now }

@@ -33,8 +33,8 @@ fn push_shown(columns: &mut Vec<char>, character: char) -> Result<(), AllocError
     Ok(())
 }
 
-/// The columns that show the bytes: a tab as four blanks, control characters, those that change the direction and bytes that aren't
-/// UTF-8 as U+FFFD, and all others as they are, each as one column.
+/// The columns that show the bytes. A tab is four blanks; a control character, a character that changes the direction and a
+/// byte that isn't UTF-8 is U+FFFD; any other character is itself, in one column.
 pub fn shown_columns(alloc: Global, bytes: &[u8]) -> Result<Vec<char>, AllocError>
     ensures { IfOk result (λ columns. columns.items ≡ shown bytes.now) }
 {

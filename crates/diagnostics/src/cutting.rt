@@ -15,7 +15,7 @@ const BEFORE: usize = 40;
 /// What stands for the rest of a line.
 const DOTS: [char; 3] = ['.', '.', '.'];
 
-/// The first column shown of a line of so many columns, for a mark that begins behind so many of them.
+/// The first column shown of a line of `columns` columns, for a mark that begins after `mark` of them.
 pub fn window_start(columns: usize, mark: usize) -> usize
     ensures { result ≡ window_start columns mark }
 {
@@ -25,7 +25,7 @@ pub fn window_start(columns: usize, mark: usize) -> usize
     mark.saturating_sub(BEFORE).min(columns - WIDTH)
 }
 
-/// Columns that begin at this one of a line, with dots in the place of the first three where some stand before them.
+/// A line's columns from `start` on, with dots in the place of the first three where the line has columns before them.
 fn dotted_before(alloc: Global, start: usize, part: &[char]) -> Result<Vec<char>, AllocError>
     ensures { IfOk result (λ dotted. dotted.items ≡ dotted_before start part.now) }
 {
@@ -37,8 +37,8 @@ fn dotted_before(alloc: Global, start: usize, part: &[char]) -> Result<Vec<char>
     Ok(dotted)
 }
 
-/// The columns shown from this one on: with three dots in the place of the first three where something is cut before them, and of the
-/// last three where something is cut behind them.
+/// The columns shown from `start` on, at most 100. Three dots replace the first three where the line is cut before them, and the
+/// last three where it is cut after them.
 pub fn window(alloc: Global, columns: &[char], start: usize) -> Result<Vec<char>, AllocError>
     ensures { IfOk result (λ shown. shown.items ≡ window columns.now start) }
 {
@@ -52,7 +52,7 @@ pub fn window(alloc: Global, columns: &[char], start: usize) -> Result<Vec<char>
     Ok(shown)
 }
 
-/// How many columns are marked: those of the token, as many of them as are shown, and one at least.
+/// How many columns are marked: those of the token that are shown, and at least one.
 pub fn mark_width(shown: usize, from: usize, token: usize) -> usize
     ensures { result ≡ mark_width shown from token }
 {

@@ -9,7 +9,7 @@ use crate::line::{line_number, line_start, written_line};
 use crate::parts::{behind, front};
 use std::alloc::{AllocError, Global};
 
-/// What is shown of a line, and which columns of that are marked.
+/// The part of a line that is shown, and which of its columns are marked.
 #[derive(Drop)]
 pub(crate) struct Excerpt {
     /// The line's number, from 1.
@@ -20,11 +20,11 @@ pub(crate) struct Excerpt {
     pub from: usize,
     /// Columns that are marked, one at least.
     pub marks: usize,
-    /// Whether something of the line is left out.
+    /// Whether a part of the line is left out.
     pub is_cut: bool,
 }
 
-/// The excerpt for so many bytes at this place.
+/// The excerpt for this many bytes at this place.
 pub(crate) fn excerpt_of(
     alloc: Global,
     text: &[u8],

@@ -39,7 +39,7 @@ impl fmt::Display for Signed {
     }
 }
 
-/// So many of a thing, by its name for one.
+/// A count of things, with the name of one: `1 rule`, `1,000 rules`.
 #[derive(Clone, Copy)]
 pub struct Many<'a>(pub usize, pub &'a str);
 

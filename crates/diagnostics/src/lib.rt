@@ -1,5 +1,5 @@
 //! Messages to people about a text: where a byte of it stands, how its line is shown, how words and numbers are written into a
-//! sentence, which word was meant, and messages with marks, as they are printed and as JSON (RFC 8259, an object a line).
+//! sentence, the nearest known word, and messages with marks, as they are printed and as JSON (RFC 8259, an object a line).
 #![tactic(auto)]
 
 mod character;

@@ -1,4 +1,4 @@
-//! Lines of a text. A line ends with a line feed, which is none of its bytes, or with the text.
+//! Lines of a text. A line ends with a line feed, which isn't one of its bytes, or with the text.
 
 ghost use Rattle.std.specs.Prelude.{◌≡◌, ◌+◌, ◌≤◌, ◌&&◌, length, nat_lt, take, drop, count_by};
 ghost use Rattle.std.specs.List.{prefix_len};
@@ -8,7 +8,7 @@ const LINE_FEED: u8 = b'\n';
 
 const CARRIAGE_RETURN: u8 = b'\r';
 
-/// How many bytes of a text stand before the line of the one at this place. The text's end is a place, too.
+/// How many bytes of a text stand before the line of this place. The text's end is a place, too.
 pub fn line_start(text: &[u8], at: usize) -> usize
     requires { at ≤ length text.now }
     ensures start { result ≡ line_start text.now at }
@@ -40,8 +40,7 @@ fn line_length(rest: &[u8]) -> usize
     rest.iter().take_while(|byte| **byte != LINE_FEED).count()
 }
 
-/// The bytes of the line in which this place stands: from behind the last line feed before the place to the next one, or to the
-/// end.
+/// The bytes of the line in which this place stands: after the last line feed before the place, up to the next one or the end.
 pub fn line_of(text: &[u8], at: usize) -> &[u8]
     requires { at ≤ length text.now }
     ensures { result.now ≡ line_of text.now at }

@@ -10,17 +10,18 @@ use std::alloc::{AllocError, Global};
 pub struct Mark {
     /// Bytes of the text before them.
     pub at: usize,
-    /// How many bytes they are; none where something is to be written, and at the text's end.
+    /// How many bytes they are; 0 where something is missing, and at the text's end.
     pub size: usize,
+    /// What the message says about them.
     pub label: String,
 }
 
-/// What is wrong with a text, or what is to be looked at.
+/// A refusal of a text, or a warning about it.
 #[derive(Drop)]
 pub struct Message {
-    /// The refusal's number; 0 of a warning.
+    /// The refusal's number; 0 for a warning.
     pub code: u8,
-    /// The name of a warning, as `unused-field`; none of a refusal.
+    /// The name of a warning, as `unused-field`; `None` for a refusal.
     pub warning: Option<&'static str>,
     /// What is wrong, in one sentence.
     pub head: String,

@@ -9,7 +9,7 @@ use crate::spot::spot_of;
 use serde_json::{Value, json};
 use std::alloc::{AllocError, Global};
 
-/// What is said, and of which file.
+/// A sentence about a file, and its level.
 #[derive(Clone, Copy)]
 pub struct Notice<'a> {
     /// The file's name, as it was given.
@@ -18,11 +18,11 @@ pub struct Notice<'a> {
     pub level: &'a str,
     /// The refusal's number, where it is one.
     pub code: Option<u8>,
-    /// What is so, in one sentence.
+    /// What is wrong or to be noted, in one sentence.
     pub message: &'a str,
 }
 
-/// What is told, at a place or at none, with other places.
+/// The object of a notice, with its place or null, its other places and its warning's name or null.
 pub fn told_object(
     alloc: Global,
     told: Notice<'_>,

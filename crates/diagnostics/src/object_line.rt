@@ -30,7 +30,7 @@ fn kind_of(message: &Message) -> &'static str
     }
 }
 
-/// The number of the refusal that a message tells. A warning has none.
+/// The number of the refusal that a message reports. A warning has none.
 fn code_of(message: &Message) -> Option<u8>
     ensures { result ≡ code_of message.now.warning message.now.code }
 {
@@ -75,14 +75,14 @@ pub fn message_line(
     line_of(alloc, &object)
 }
 
-/// The level of what is said of a file as a whole.
+/// The level of a notice about a file as a whole.
 fn level_of(is_warning: bool) -> &'static str
     ensures { result.now ≡ level_of is_warning }
 {
     if is_warning { "warning" } else { "note" }
 }
 
-/// What is said of a file of this name as a whole, as a line: a warning, or a note.
+/// A warning or a note about a file of this name as a whole, as a line.
 pub fn note_line(
     alloc: Global,
     file: &str,

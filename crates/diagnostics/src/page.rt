@@ -9,13 +9,13 @@ use std::alloc::{AllocError, Global};
 /// The most messages that are shown.
 const MOST_SHOWN: usize = 10;
 
-/// The most faults that are told of; one more says that there are more.
+/// The most faults that are counted; a message more means that there are more.
 pub const MOST_TOLD: usize = 100;
 
 /// The least columns of a line's number.
 const NUMBER_COLUMNS: usize = 3;
 
-/// Adds so many of a character.
+/// Adds a character this many times.
 fn push_many(page: &mut String, character: char, count: usize) -> Result<(), AllocError> {
     for _ in 0..count {
         page.push(character)?;
@@ -136,7 +136,7 @@ fn push_excerpts(
     Ok(())
 }
 
-/// Where a message points, behind the file's name: its line and column, if it has a place.
+/// Where a message points, after the file's name: its line and column, if it has a place.
 fn push_place(
     alloc: Global,
     page: &mut String,

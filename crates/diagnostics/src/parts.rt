@@ -1,8 +1,8 @@
-//! Parts of lists, as far as there are as many items.
+//! Parts of lists, by a count that may be greater than the list's.
 
 ghost use Rattle.std.specs.Prelude.{◌≡◌, drop, take};
 
-/// The first so many items, or all.
+/// The first `count` items, or all if there are fewer.
 pub fn front<T>(items: &[T], count: usize) -> &[T]
     ensures { result.now ≡ take count items.now }
 {
@@ -13,7 +13,7 @@ pub fn front<T>(items: &[T], count: usize) -> &[T]
     }
 }
 
-/// The items behind so many, if there are as many.
+/// The items after the first `count`; none if there are fewer.
 pub fn behind<T>(items: &[T], count: usize) -> &[T]
     ensures { result.now ≡ drop count items.now }
 {

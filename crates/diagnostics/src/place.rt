@@ -10,11 +10,13 @@ use crate::line::{line_number, line_start};
 /// A line and a column, both counted from 1. A column is a character.
 #[derive(Clone, Copy)]
 pub(crate) struct Place {
+    /// Counted from 1.
     pub line: usize,
+    /// Counted from 1, in characters.
     pub column: usize,
 }
 
-/// Where the byte stands that has so many bytes before it, or the text's end.
+/// The line and column of the byte that has `at` bytes before it, or of the text's end.
 pub(crate) fn place_of(text: &[u8], at: usize) -> Place
     requires { at ≤ length text.now }
     ensures line { result.line ≡ line_number text.now at }

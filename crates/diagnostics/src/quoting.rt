@@ -47,7 +47,7 @@ pub fn quote(alloc: Global, bytes: &[u8]) -> Result<String, AllocError>
     Ok(text)
 }
 
-/// What the user wrote, as it can be shown, between backticks, with what stands before and behind it.
+/// What a person wrote, as it can be shown, between backticks, with a text before it and one after it.
 pub fn around(
     alloc: Global,
     before: &str,

@@ -15,12 +15,13 @@ pub struct Spot<'a> {
     pub line: usize,
     /// From 1, in characters.
     pub column: usize,
-    /// The column behind what is marked, as far as that stands on the line.
+    /// The column after the marked bytes, as far as they stand on the line.
     pub end_column: usize,
+    /// What the message says about it.
     pub label: &'a str,
 }
 
-/// So many bytes at this place, as far as they stand on its line.
+/// The `size` bytes at this place, as far as they stand on its line.
 fn token_in_line(text: &[u8], at: usize, size: usize) -> &[u8]
     requires { at ≤ length text.now }
     ensures { result.now ≡ token_in_line text.now at size }
@@ -31,7 +32,7 @@ fn token_in_line(text: &[u8], at: usize, size: usize) -> &[u8]
     rest.split_at(size.min(rest.len())).0
 }
 
-/// The column behind so many bytes at this place.
+/// The column after the `size` bytes at this place.
 fn end_column(text: &[u8], at: usize, size: usize) -> usize
     requires { at ≤ length text.now }
     ensures { result ≡ end_column text.now at size }
@@ -40,7 +41,7 @@ fn end_column(text: &[u8], at: usize, size: usize) -> usize
     character_count(before) + 1 + character_count(token_in_line(text, at, size))
 }
 
-/// Where a mark stands. A place behind the text's end is its end.
+/// Where a mark stands. A place beyond the text's end is its end.
 pub fn spot_of<'a>(text: &[u8], mark: &'a Mark) -> Spot<'a>
     ensures { IsSpot text.now mark.now result }
 {

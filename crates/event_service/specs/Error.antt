@@ -1,10 +1,10 @@
--- The numbers of the refusals, and what an answer by them says. This project's own.
+-- The numbers of the refusals, and the results of calls by them. This project's own.
 use Rattle.std.specs.Prelude.{ℕ, [], ◌∷◌, Option, Some, None, Result, Ok, Err}
 use Rattle.lc_model.specs.Refusal.{Refusal, not_registered, filters_full, sender_taken}
 use Rattle.event_service.specs.declared.error.EventError.{EventError}
 use Rattle.event_service.specs.declared.error.EventError.TheVariants.{NotRegistered, FilterFull, AppsFull, Memory}
 
--- the number of the refusal; want of memory has none
+-- the number of the refusal; lack of memory has none
 abbrev pub error_code : EventError → Option ℕ
 error_code NotRegistered = Some not_registered
 error_code FilterFull = Some filters_full
@@ -18,7 +18,7 @@ refusal_of FilterFull = filters_full ∷ []
 refusal_of AppsFull = sender_taken ∷ []
 refusal_of Memory = []
 
--- what a call answers: what there is now, or a refusal
+-- what a call returns: what there is now, or a refusal
 abbrev pub answered : {A B : Type 0} → Result B EventError → A → Result A Refusal
 answered (Ok done) now = Ok now
 answered (Err error) now = Err (refusal_of error)

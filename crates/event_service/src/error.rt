@@ -10,7 +10,7 @@ use thiserror::Error;
 /// Why a call is refused; it changes nothing then.
 #[derive(Clone, Copy, Debug, PartialEq, Eq, Error)]
 pub enum EventError {
-    /// Nobody is registered under the name, or at the seat.
+    /// No sender is registered under the name, or at the seat.
     #[error("no such sender")]
     NotRegistered,
     /// The sender has filters for 16 other ids.
@@ -19,7 +19,7 @@ pub enum EventError {
     /// The seat or the name is taken; `HOST` always is.
     #[error("the seat or the name is taken")]
     AppsFull,
-    /// No memory for the places of the senders; only `Events::new` answers it.
+    /// No memory for the places of the senders; only `Events::new` returns it.
     #[error("out of memory")]
     Memory,
 }
@@ -41,7 +41,7 @@ impl From<AllocError> for EventError {
 }
 
 impl EventError {
-    /// The refusal's number, 101 to 103. Want of memory has none, since the call isn't at fault.
+    /// Returns the refusal's number, 101 to 103, or `None` for `Memory`: then the call isn't at fault.
     pub fn code(self) -> Option<u8>
         ensures { result ≡ error_code self }
     {

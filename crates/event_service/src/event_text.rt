@@ -30,7 +30,7 @@ impl Model for EventText {
 }
 
 impl EventText {
-    /// Its bytes, at most 121.
+    /// The text's bytes, at most 121.
     pub fn as_bytes(&self) -> &[u8]
         ensures bytes { result.now ≡ self.now }
         ensures fits { length result.now ≤ longest_event_text }
@@ -38,7 +38,7 @@ impl EventText {
         self.bytes.as_slice()
     }
 
-    /// These bytes alone. Condition: at most 121.
+    /// Creates a text of these bytes. Condition: at most 121.
     pub fn of(bytes: &[u8]) -> EventText
         requires { length bytes.now ≤ longest_event_text }
         ensures { result ≡ bytes.now }
@@ -50,7 +50,7 @@ impl EventText {
         text
     }
 
-    /// More bytes. Condition: with them, at most 121.
+    /// Appends bytes. Condition: at most 121 in all.
     pub fn push(&mut self, bytes: &[u8])
         requires { length self.old + length bytes.now ≤ longest_event_text }
         ensures text { self.new ≡ self.old ++ bytes.now }
@@ -59,7 +59,7 @@ impl EventText {
         self.bytes.try_extend_from_slice(bytes).unwrap();
     }
 
-    /// A space and a number in decimal digits. Condition: room for 11 bytes.
+    /// Appends a space and a number in decimal digits. Condition: room for 11 bytes.
     pub fn push_number(&mut self, number: u32)
         requires { length self.old + longest_number ≤ longest_event_text }
         ensures text { self.new ≡ numbered self.old (number ∷ []) }
@@ -70,7 +70,7 @@ impl EventText {
         self.push(digits.format(number).as_bytes());
     }
 
-    /// Several numbers, each behind a space. Condition: room for 11 bytes each.
+    /// Appends several numbers, each after a space. Condition: room for 11 bytes each.
     pub fn push_numbers(&mut self, numbers: &[u16])
         requires { length self.old + longest_number * length numbers.now ≤ longest_event_text }
         ensures { self.new ≡ numbered self.old numbers.now }
@@ -80,7 +80,7 @@ impl EventText {
         }
     }
 
-    /// Four lower case hexadecimal digits. Condition: room for them.
+    /// Appends a number in four lower-case hexadecimal digits. Condition: room for four bytes.
     pub fn push_hex(&mut self, number: u16)
         requires { length self.old + hex_size ≤ longest_event_text }
         ensures { self.new ≡ self.old ++ four_digits number }

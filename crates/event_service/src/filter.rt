@@ -48,7 +48,7 @@ impl Filter {
         id == self.id
     }
 
-    /// Whether it lets an event through, which is asked once more.
+    /// Counts a request, and returns whether the filter lets its event through.
     fn ask(&mut self) -> bool
         ensures open { result ≡ is_unfiltered (Some self.old) }
         ensures after { self.new ≡ asked_once self.old }
@@ -58,7 +58,7 @@ impl Filter {
         open
     }
 
-    /// Its count begins again.
+    /// Restarts the count.
     fn reset(&mut self)
         ensures { self.new ≡ record { id = self.old.id; mask = self.old.mask; count = 0 } }
     {
@@ -87,7 +87,7 @@ impl Model for Filters {
 }
 
 impl Filters {
-    /// None.
+    /// Creates an empty list of filters.
     pub(crate) fn new() -> Filters
         ensures { result ≡ [] }
     {
@@ -97,7 +97,7 @@ impl Filters {
         }
     }
 
-    /// Asks the filter of an id, where there is one, and answers whether the event is sent.
+    /// Asks the filter of an id, where there is one, and returns whether the event is sent.
     pub(crate) fn ask(&mut self, id: u16) -> bool
         ensures open { result ≡ is_unfiltered (filter_of id self.old) }
         ensures after { self.new ≡ filters_with asked_once id self.old }
@@ -106,8 +106,8 @@ impl Filters {
         ask_of(self.list.as_mut_slice(), id, hint)
     }
 
-    /// Sets the mask of an id, whose count begins again. It answers whether there was room: there is, where the id has a
-    /// filter or there are under 16.
+    /// Sets the mask of an id's filter and restarts its count. Returns whether there was room: the id has a filter already, or
+    /// there are under 16.
     pub(crate) fn set(&mut self, id: u16, mask: u16) -> bool
         ensures room { result ≡ not (is_full_for id (ids_of self.old)) }
         ensures after { self.new ≡ (if result then filter_put id mask self.old else self.old) }
@@ -123,7 +123,7 @@ impl Filters {
         true
     }
 
-    /// All counts begin again.
+    /// Restarts all counts.
     pub(crate) fn reset(&mut self)
         ensures { self.new ≡ map (λ (filter : Kept). record filter { count = 0 }) self.old }
     {
@@ -131,7 +131,7 @@ impl Filters {
     }
 }
 
-/// Asks the filter of the id, where there is one, and answers whether the event is sent.
+/// Asks the filter of the id, where there is one, and returns whether the event is sent.
 fn ask_of(filters: &mut [Filter], id: u16, hint: usize) -> bool
     requires own_ids { HaveOwnIds filters.old }
     ensures open { result ≡ is_unfiltered (filter_of id filters.old) }
@@ -143,7 +143,7 @@ fn ask_of(filters: &mut [Filter], id: u16, hint: usize) -> bool
     }
 }
 
-/// The filter of the id, where there is one, has this mask, and its count begins again. It answers whether there is one.
+/// If the id has a filter, sets its mask and restarts its count. Returns whether it has one.
 fn renew(filters: &mut [Filter], id: u16, mask: u16) -> bool
     requires own_ids { HaveOwnIds filters.old }
     ensures found { result ≡ list_any (λ (filter : Kept). id == filter.id) filters.old }

@@ -1,5 +1,5 @@
-//! Event services (cFE user's guide, event services): who sends events, with types and filters, the packets of the events
-//! that are sent, and what their texts are written with.
+//! Event services (cFE user's guide, event services): the senders of events with their types and filters, the packets of the
+//! events that are sent, and a buffer for their texts.
 #![tactic(auto)]
 
 mod error;

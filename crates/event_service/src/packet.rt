@@ -13,10 +13,10 @@ use lc_model::packet::UNSEGMENTED;
 use lc_model::{EventKind, Moment, PROCESSOR, SPACECRAFT, mids};
 use std::marker::Model;
 
-/// The bytes of an event packet.
+/// The length of an event packet in bytes.
 pub const PACKET_SIZE: usize = 168;
 
-/// The length field: the bytes behind the primary header, less 1.
+/// The length field: the number of bytes after the primary header, less 1.
 const PACKET_LENGTH: u16 = 161;
 
 /// An event packet: 168 bytes with big-endian numbers, the primary header (6), seconds (4) and subseconds (2), the sender's

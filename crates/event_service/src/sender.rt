@@ -72,7 +72,7 @@ impl Sender {
         name == self.name.as_slice()
     }
 
-    /// Counts a request for an event, and answers whether it is sent: its type is on, and its filter lets it through.
+    /// Counts a request for an event, and returns whether it is sent: its type is on, and its filter lets it through.
     #[inline(always)]
     fn admits(&mut self, id: u16, kind: EventKind) -> bool
         ensures chosen { result ≡ next_chosen id kind self.old.events }
@@ -165,7 +165,7 @@ impl Sender {
     }
 }
 
-/// The sequence count of the next event packet, after `sent` packets, which is one more from now on, modulo 16,384.
+/// Returns the sequence count of the next event packet, and adds 1 to `sent`, modulo 16,384.
 #[inline(always)]
 fn next_count(sent: &mut u16) -> u16
     requires { sent.old < count_end }

@@ -46,7 +46,8 @@ impl Model for Events {
 }
 
 impl Events {
-    /// `HOST` alone, and nothing sent. It takes all the memory there will ever be; out of memory is the only error.
+    /// Creates the services with `HOST` as the only sender and nothing sent. It allocates all memory that they ever need;
+    /// `Memory` is the only error.
     pub fn new(alloc: Global) -> Result<Events, EventError>
         ensures first { IfOk result (λ events. events ≡ first_events) }
         ensures memory { IfErr result (λ e. e ≡ Memory) }
@@ -62,15 +63,16 @@ impl Events {
         })
     }
 
-    /// There are eight seats, the senders and `HOST` have names of their own, and the count is below 16,384. It does nothing.
+    /// States the invariant: eight seats, distinct names of the senders and `HOST`, a count below 16,384. The body does
+    /// nothing.
     pub fn is_service(&self)
         ensures { IsEventService self.now }
     {
         let _sent = self.sent;
     }
 
-    /// The seat sends events from now on under a name of at most 20 bytes, without filters, all types but debug on. Error:
-    /// `AppsFull`, where the seat or the name is taken, as `HOST` is.
+    /// Registers a sender for the seat, with a name of at most 20 bytes, no filters, and all types on but debug. Error:
+    /// `AppsFull` if the seat or the name is taken; `HOST` always is.
     pub fn register(&mut self, seat: Seat, name: &[u8]) -> Result<(), EventError>
         requires { length name.now ≤ app_name_size }
         ensures answer { answered result self.new ≡ registered_at seat name.now self.old }
@@ -87,7 +89,7 @@ impl Events {
         Ok(())
     }
 
-    /// The seat sends events no more, and its filters are gone. Error: `NotRegistered`, where it sent none.
+    /// Removes the seat's sender and its filters. Error: `NotRegistered` if the seat has none.
     pub fn unregister(&mut self, seat: Seat) -> Result<(), EventError>
         ensures answer { answered result self.new ≡ unregistered_at seat self.old }
         ensures refused { OnErr result (self.new ≡ self.old) }
@@ -100,14 +102,14 @@ impl Events {
         Ok(())
     }
 
-    /// An event of the seat's sender, or of `HOST` where `from` is none, with a text of at most 121 bytes: the packet, where
-    /// it is sent. It is not sent where nobody is registered at the seat, where its type is off, and where its filter holds it
-    /// back: an id's filter lets a request through where the requests before it, those with their type off left out and
-    /// counted up to 65,535 since the filter was set or reset, have no bit in common with the mask. The packet's sequence
-    /// count is the number of event packets sent before, modulo 16,384.
+    /// Asks for an event of the seat's sender, or of `HOST` if `from` is `None`, with a text of at most 121 bytes. Returns its
+    /// packet, or `None` if the event isn't sent: nobody is registered at the seat, its type is off, or its id's filter holds
+    /// it back. A filter lets a request through if the number of requests before it has no bit in common with the mask.
+    /// Requests count from when the filter was set or reset, up to 65,535; those with their type off don't count. The packet's
+    /// sequence count is the number of event packets sent before, modulo 16,384.
     ///
-    /// Over every list of calls that is what the log of each sender since it was registered chooses:
-    /// `lc_model::laws::senders::event_services_go_by_logs`.
+    /// Over every list of calls, the events that are sent are those that the log of each sender since its registration
+    /// chooses: `lc_model::laws::senders::event_services_go_by_logs`.
     pub fn send(
         &mut self,
         from: Option<Seat>,
@@ -159,7 +161,7 @@ impl Events {
         }
     }
 
-    /// Events of the id are sent from now on where their count, which begins again, and the mask have no bit in common.
+    /// Sets the filter of an id and restarts its count: an event is sent if the count and the mask have no bit in common.
     /// Errors: `NotRegistered` for the name, `FilterFull` for a filter of a 17th id.
     pub fn set_filter(&mut self, name: &[u8], id: u16, mask: u16) -> Result<(), EventError>
         ensures answer { answered result self.new ≡ commanded name.now (FilterSet id mask)
@@ -169,7 +171,7 @@ impl Events {
         self.change(name, Change::Filter { id, mask })
     }
 
-    /// All counts of the name's filters begin again. Error: `NotRegistered`.
+    /// Restarts all counts of the name's filters. Error: `NotRegistered`.
     pub fn reset_filters(&mut self, name: &[u8]) -> Result<(), EventError>
         ensures answer { answered result self.new ≡ commanded name.now FiltersReset self.old }
         ensures refused { OnErr result (self.new ≡ self.old) }
@@ -177,7 +179,7 @@ impl Events {
         self.change(name, Change::Reset)
     }
 
-    /// Events of these types are sent, or not, from now on; the other types stay as they are. Error: `NotRegistered`.
+    /// Turns these types on or off; the other types stay as they are. Error: `NotRegistered`.
     pub fn set_types(&mut self, name: &[u8], types: EventTypes, on: bool) -> Result<(), EventError>
         ensures answer { answered result self.new ≡ commanded name.now (TypesSet (bits_of types) on)
             self.old }
@@ -186,7 +188,7 @@ impl Events {
         self.change(name, Change::Types { types, on })
     }
 
-    /// Changes what the sender of a name has.
+    /// Changes the types or filters of the sender with this name.
     fn change(&mut self, name: &[u8], change: Change) -> Result<(), EventError>
         ensures answer { answered result self.new ≡ commanded name.now (item_of change) self.old }
         ensures refused { OnErr result (self.new ≡ self.old) }

@@ -9,7 +9,7 @@ ghost use Rattle.event_service.specs.Types.{bits_of};
 use bitflags::{Flag, Flags, bitflag_items};
 use lc_model::EventKind;
 
-/// A set of event types: debug 1, information 2, error 4, critical 8. Contracts see `bits_of` it.
+/// A set of event types: debug 1, information 2, error 4, critical 8. Contracts see its bits (`bits_of`).
 #[derive(Clone, Copy, Debug, PartialEq, Eq)]
 pub struct EventTypes(u8);
 

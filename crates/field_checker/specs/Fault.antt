@@ -23,7 +23,7 @@ number_of_check check.LengthRange = 29
 abbrev pub fault_of : CheckFault → TextFault
 fault_of f = record { code = number_of_check f.check; at = f.at }
 
--- the error that answers a fault
+-- the error that returns a fault
 abbrev pub error_of : CheckFault → CheckError
 error_of f = answer f.check f.at
   where
@@ -38,7 +38,7 @@ error_of f = answer f.check f.at
     answer check.NumberRange at = NumberRange at
     answer check.LengthRange at = LengthRange at
 
--- the fault of a text that an error is; want of memory is none
+-- the fault of a text that an error is; lack of memory is none
 abbrev pub text_fault_of : CheckError → Option TextFault
 text_fault_of (DuplicateName at) = Some (record { code = 21; at = at })
 text_fault_of (UnknownName at) = Some (record { code = 22; at = at })
@@ -55,6 +55,6 @@ text_fault_of Memory = None
 abbrev pub error_code : CheckError → Option ℕ
 error_code error = option_map (λ (fault : TextFault). fault.code) (text_fault_of error)
 
--- want of memory, or the fault that is expected
+-- lack of memory, or the fault that is expected
 abbrev pub IsFaultUnlessMemory : Option TextFault → CheckError → Type 0
 IsFaultUnlessMemory expected error = (error ≡ Memory) ⊎ (text_fault_of error ≡ expected)

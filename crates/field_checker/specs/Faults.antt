@@ -7,16 +7,16 @@ use Rattle.field_checker.specs.Number.{NamesItsNumber}
 use Rattle.field_checker.specs.declared.fault.CheckFault.{CheckFault}
 use Rattle.field_checker.specs.declared.faults.Faults.{Faults}
 
--- the first fault that was met
+-- the first fault that was found
 abbrev pub first_of : Faults → Option TextFault
 first_of f = option_map fault_of f.first
 
--- the first fault, once these are met too
+-- the first fault, with these added
 unfoldable pub after : Option TextFault → List TextFault → Option TextFault
 after first [] = first
 after first (f ∷ fs) = after (Some (earlier_of f first)) fs
 
--- the fault that was met, if any, names the number that it is of
+-- the fault, if any, names the number that is out of its range
 abbrev pub NamesItsFault : List Item → Option CheckFault → Type 0
 NamesItsFault items None = ⊤
 NamesItsFault items (Some fault) = NamesItsNumber items (error_of fault)

@@ -14,14 +14,14 @@ use Rattle.field_checker.specs.declared.index.Declared.{Declared}
 use Rattle.field_checker.specs.declared.index.Index.{Index}
 use denote.Ref.{Bor}
 
--- the number of no bytes, and that of one byte more (the FNV-1a hash, of 64 bits)
+-- the hash of no bytes, and that of one byte more (FNV-1a, of 64 bits)
 abbrev pub begin : ℕ
 begin = 0xCBF29CE484222325
 
 abbrev pub spread_with : ℕ → ℕ → ℕ
 spread_with number byte = (bit_xor number byte * 0x00000100000001B3) % 2 ^ 64
 
--- the number of a name, in which nearly any two names differ
+-- the hash of a name, which differs for nearly any two names
 unfoldable pub spread : List ℕ → ℕ
 spread text = fold spread_with begin text
 
@@ -29,7 +29,7 @@ spread text = fold spread_with begin text
 abbrev pub compared : List ℕ → ℕ × Bor (List ℕ) → Ordering
 compared text key = ordering_then (nat_cmp (spread text) key.0) (slice_cmp nat_cmp text key.1.now)
 
--- what stands at a name
+-- the value under a name
 abbrev pub at_name : {X : Type 0} → BTreeMap (ℕ × Bor (List ℕ)) X → List ℕ → Option X
 at_name map text = get_by (compared text) map
 
@@ -43,7 +43,7 @@ pub record Declares (item : model.Item) (d : Declared) : Type 0 where
   pub packet : option_map (λ p. packet_of p.now) d.packet ≡ meaning.packet_of item
   pub field : option_map (λ f. field_of f.now) d.field ≡ meaning.field_of item
 
--- what items of one name declare, and others of that name behind them
+-- what items of one name declare, and others of that name after them
 abbrev pub both : Declared → Declared → Declared
 both first behind = record {
   least = min first.least behind.least;
@@ -51,7 +51,7 @@ both first behind = record {
   field = option_or first.field behind.field;
 }
 
--- what both declare, where either may be none
+-- what both declare, where either may be absent
 abbrev pub joined : Option Declared → Option Declared → Option Declared
 joined None behind = behind
 joined (Some first) None = Some first

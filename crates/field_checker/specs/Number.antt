@@ -9,7 +9,7 @@ use Rattle.field_checker.specs.declared.number.RuleNumber.TheVariants.{Fails, Se
 use Rattle.field_checker.specs.declared.error.CheckError.{CheckError}
 use Rattle.field_checker.specs.declared.error.CheckError.TheVariants.{NumberRange}
 
--- from what to what each may be
+-- the range of each
 abbrev pub least_of : RuleNumber → ℕ
 least_of Fails = 1
 least_of Sequence = 1
@@ -28,7 +28,7 @@ most_of ReportPassToFail = 65_535
 most_of ReportFailToPass = 65_535
 most_of Stale = 4_294_967_295
 
--- what an engineer reads of each
+-- what a message says of each
 abbrev pub number_text : RuleNumber → List ℕ
 number_text Fails = codes "`fails` takes 1 to 65,535"
 number_text Sequence = codes "`sequence` takes 1 to 65,535"
@@ -49,7 +49,7 @@ number_in ReportFailToPass (Rule r) = option_map (λ report. report.fail_to_pass
 number_in Stale (Field f) = f.stale
 number_in number item = None
 
--- it is less than the least, or more than the most
+-- the number is less than the least, or more than the most
 abbrev pub is_out_of_range : RuleNumber → Number → Bool
 is_out_of_range number n = int_lt n.value (pos (least_of number)) || int_lt (pos (most_of number)) n.value
 

@@ -20,12 +20,11 @@ use std::alloc::Global;
 /// may be used before its declaration; where one is declared twice, the first packet or field of that name counts.
 ///
 /// Work: at most three look-ups for each name of the text, declared or used, and four for one declared again, in ordered maps:
-/// for `n` names in the order of `n log n` comparisons, whatever the names are. A comparison is mostly one of two numbers, which
-/// are spread from the names' bytes. Memory: the maps, which go at the end, and the rules. The stack grows with the depth of the
-/// conditions.
+/// for `n` names in the order of `n log n` comparisons, whatever the names are. A comparison is mostly one of two hashes of the
+/// names. Memory: the maps, which are freed at the end, and the rules. The stack grows with the depth of the conditions.
 ///
-/// Errors: of all faults of all items the one at the least place, at one place the one with the least number. Which
-/// number is out of its range, `number_at` says; `Memory` where the names or the rules find no room.
+/// Errors: of all faults of all items the one at the least place, at one place the one with the least number. `number_at`
+/// finds the number that is out of its range. `Memory` where there is no memory for the names or the rules.
 pub fn check(alloc: Global, file: &RuleFile) -> Result<RuleSet, CheckError>
     ensures means { IfOk result (λ set. Means (items_of file.now.items.items) set.rules) }
     ensures refused { IfErr result

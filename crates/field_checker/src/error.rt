@@ -23,7 +23,7 @@ pub enum CheckError {
     /// The message id of event packets or of the Limit Checker's housekeeping, 0x0808 or 0x08A7.
     #[error("the message id at {at} is one of the host's own, 0x0808 and 0x08A7")]
     ReservedMid { at: usize },
-    /// A field's first byte is before its packet's first, or its last one behind the packet's declared length.
+    /// A field begins before its packet's first byte, or ends after the packet's declared length.
     #[error("the field at {at} isn't inside its packet")]
     FieldOutside { at: usize },
     /// A mask without a bit, or with one outside the field's type.
@@ -32,7 +32,7 @@ pub enum CheckError {
     /// A comparison's number that the field's type doesn't have.
     #[error("the number at {at} isn't in the field's type: u8 0 to 255, i8 -128 to 127, u16 0 to 65,535, i16 -32,768 to 32,767, u32 0 to 4,294,967,295, i32 -2,147,483,648 to 2,147,483,647")]
     ConstRange { at: usize },
-    /// A number of a rule, or a stale age, outside the range of its place in a table. Which number it is, `number_at` says.
+    /// A number of a rule, or a stale age, outside the range of its place in a table. `number_at` finds which number it is.
     #[error("the number at {at} is out of range")]
     NumberRange { at: usize },
     /// A packet's length outside 12 to 2,048 bytes.
@@ -71,7 +71,7 @@ impl From<CheckFault> for CheckError {
 }
 
 impl CheckError {
-    /// The fault's number, 21 to 29. Want of memory has none, since the text isn't at fault.
+    /// The fault's number, 21 to 29. `Memory` has none, since the text isn't at fault.
     pub fn code(self) -> Option<u8>
         ensures { result ≡ error_code self }
     {

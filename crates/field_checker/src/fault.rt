@@ -19,7 +19,7 @@ pub(crate) enum Check {
 }
 
 impl Check {
-    /// The number by which the checks at one place are ordered, and refusals are known.
+    /// The refusal's number, 21 to 29, by which the checks at one place are ordered.
     fn number(self) -> u8
         ensures { result ≡ number_of_check self }
     {
@@ -37,7 +37,7 @@ impl Check {
     }
 }
 
-/// What is refused: by which check, and the number of bytes of the text before it.
+/// A fault: the check that it fails, and the number of bytes of the text before it.
 #[derive(Clone, Copy)]
 pub(crate) struct CheckFault {
     pub check: Check,
@@ -45,7 +45,7 @@ pub(crate) struct CheckFault {
 }
 
 impl CheckFault {
-    /// Whether this fault is the one to answer of the two: it stands at the lesser place, or has at most the other's
+    /// Whether this fault is the one of the two to return: it stands at the lesser place, or has at most the other's
     /// number at the same place.
     pub fn precedes(self, other: CheckFault) -> bool
         ensures { result ≡ precedes (fault_of self) (fault_of other) }

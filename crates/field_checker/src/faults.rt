@@ -1,4 +1,4 @@
-//! The fault that comes first of those that the checks met so far.
+//! The first of the faults that the checks found so far.
 
 ghost use Rattle.std.specs.Prelude.{◌≡◌, ◌||◌, List, None, Some, [], ◌∷◌, int_lt, pos, true};
 ghost use Rattle.lc_model.specs.Text.Syntax.{Item};
@@ -19,21 +19,21 @@ fn is_outside(number: Number, low: u32, high: u32) -> bool
     number.value < i64::from(low) || i64::from(high) < number.value
 }
 
-/// What the checks met: of all faults the first alone.
+/// What the checks found: only the first of all faults.
 #[derive(Clone, Copy)]
 pub(crate) struct Faults {
     pub first: Option<CheckFault>,
 }
 
 impl Faults {
-    /// No fault was met.
+    /// Creates the state before the first check.
     pub fn none() -> Faults
         ensures { result.first ≡ None }
     {
         Faults { first: None }
     }
 
-    /// Meets a fault.
+    /// Adds a fault.
     #[tactic(auto, unfolding(crate::specs::Faults::after))]
     fn meet(&mut self, fault: CheckFault)
         ensures faults { first_of self.new ≡ after (first_of self.old) (fault_of fault ∷ []) }
@@ -45,7 +45,7 @@ impl Faults {
         }
     }
 
-    /// Meets this fault, where the test holds.
+    /// Adds this fault if the test holds.
     #[tactic(auto, unfolding(crate::specs::Faults::after))]
     pub fn refuse_if(&mut self, refused: bool, check: Check, at: usize)
         ensures faults { first_of self.new ≡
@@ -60,7 +60,7 @@ impl Faults {
         }
     }
 
-    /// Meets this fault, where the number isn't `low`, `high` or between them.
+    /// Adds this fault if the number isn't `low`, `high` or between them.
     pub fn refuse_outside(&mut self, number: Number, low: u32, high: u32, check: Check)
         ensures faults { first_of self.new ≡
             after (first_of self.old)
@@ -73,7 +73,7 @@ impl Faults {
         self.refuse_if(is_outside(number, low, high), check, number.at);
     }
 
-    /// Meets the fault that this number is out of its range.
+    /// Adds a fault if this number is out of its range.
     pub fn refuse_number(&mut self, number: Number, kind: RuleNumber)
         ensures faults { first_of self.new ≡
             after (first_of self.old)

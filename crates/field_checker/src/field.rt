@@ -15,7 +15,7 @@ use crate::names::Names;
 use lc_model::FieldType;
 use rule_parser::{FieldItem, Number, PacketItem};
 
-/// Whether a byte of the field is outside its packet, as far as it's known: its packet may be named by no item.
+/// Whether a byte of the field is outside its packet. A field whose packet isn't declared can only begin too early.
 fn is_outside(field: &FieldItem, packet: Option<&PacketItem>) -> bool
     ensures { result ≡ is_outside (field_of field.now)
         (option_map (λ p. packet_of p.now) packet.entry) }
@@ -35,7 +35,7 @@ fn is_negative(number: Number) -> bool
 }
 
 impl Faults {
-    /// Meets the fault of a mask, where one is written.
+    /// Adds the fault of a mask, if one is written.
     #[tactic(auto, using(crate::proofs::After::both_met, crate::proofs::After::nothing_met))]
     fn check_mask(&mut self, kind: FieldType, mask: Option<Number>)
         ensures faults { first_of self.new ≡
@@ -50,7 +50,7 @@ impl Faults {
         }
     }
 
-    /// Meets the fault of a stale age, where one is written.
+    /// Adds the fault of a stale age, if one is written.
     #[tactic(auto, using(crate::proofs::After::both_met, crate::proofs::After::nothing_met))]
     fn check_stale(&mut self, stale: Option<Number>)
         ensures faults { first_of self.new ≡
@@ -67,7 +67,7 @@ impl Faults {
         }
     }
 
-    /// Meets the faults of a field's packet, place, mask and stale age.
+    /// Adds the faults of a field's packet, place, mask and stale age.
     #[tactic(auto, using(crate::proofs::After::both_met, crate::proofs::After::nothing_met))]
     pub fn check_field<'a>(&mut self, names: &Names<'_, 'a>, field: &FieldItem<'a>)
         ensures faults { first_of self.new ≡

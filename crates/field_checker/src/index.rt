@@ -1,4 +1,4 @@
-//! What names are declared as.
+//! The declarations of names.
 
 ghost use Rattle.std.specs.Prelude.{◌≡◌, ℕ, List, [], ◌∷◌, ◌++◌, Some, None, OnOk, bytes_eq, cond, nat_lt, ◌&&◌, ◌||◌};
 ghost use Rattle.lc_model.specs.Text.Syntax as model;
@@ -11,7 +11,7 @@ use rule_parser::{FieldItem, Item, Name, PacketItem};
 use std::alloc::{AllocError, Global};
 use std::collections::BTreeMap;
 
-/// What the packets and fields of one name declare, of those that are taken in.
+/// What the indexed packets and fields of one name declare.
 #[derive(Clone, Copy)]
 pub(crate) struct Declared<'f, 'a> {
     /// The least place at which one of them declares the name.
@@ -22,8 +22,8 @@ pub(crate) struct Declared<'f, 'a> {
     pub field: Option<&'f FieldItem<'a>>,
 }
 
-/// What some items declare, by the keys of names. Rules stand apart: conditions name none of them, so that a look-up of what
-/// conditions name passes by none.
+/// What some items declare, by the keys of names. Rules have a map of their own: conditions never name one, so a look-up for a
+/// condition needn't search among them.
 #[derive(Drop)]
 pub(crate) struct Index<'f, 'a> {
     /// What packets and fields declare.
@@ -66,7 +66,7 @@ impl<'f, 'a> Declared<'f, 'a> {
         }
     }
 
-    /// What these items declare together with those behind them.
+    /// What these items declare together with those after them.
     fn with(self, behind: Declared<'f, 'a>) -> Declared<'f, 'a>
         ensures { result ≡ both self.entry behind.entry }
     {
@@ -78,7 +78,7 @@ impl<'f, 'a> Declared<'f, 'a> {
     }
 }
 
-/// Adds what a packet or a field behind all others declares under the name with this key. A name that is new costs one search.
+/// Adds what a packet or a field declares under the name with this key, after all others. A new name costs one search.
 fn insert<'f, 'a>(
     named: &mut BTreeMap<(u64, &'a [u8]), Declared<'f, 'a>>,
     key: (u64, &'a [u8]),
@@ -95,7 +95,7 @@ fn insert<'f, 'a>(
     Ok(())
 }
 
-/// Puts the place at the name with this key, where no lesser place stands there yet. A name that is new costs one search.
+/// Stores the place for the name with this key, unless a lesser one is stored. A new name costs one search.
 fn insert_least<'a>(
     map: &mut BTreeMap<(u64, &'a [u8]), usize>,
     key: (u64, &'a [u8]),

@@ -14,7 +14,7 @@ use crate::names::Names;
 use rule_parser::Item;
 
 impl Faults {
-    /// Meets the fault of a name that is declared before.
+    /// Adds the fault of a name that was declared before.
     fn check_name<'a>(&mut self, names: &Names<'_, 'a>, item: &Item<'a>)
         ensures faults { first_of self.new ≡
             after (first_of self.old)
@@ -30,7 +30,7 @@ impl Faults {
         );
     }
 
-    /// Meets the faults of an item.
+    /// Adds the faults of an item.
     #[tactic(auto, using(crate::proofs::After::both_met, crate::proofs::After::nothing_met))]
     fn check_item<'a>(&mut self, names: &Names<'_, 'a>, item: &Item<'a>)
         ensures faults { first_of self.new ≡
@@ -47,7 +47,7 @@ impl Faults {
         }
     }
 
-    /// Meets the faults of all items.
+    /// Returns the first of the faults of all items.
     pub fn of(names: &Names) -> Faults
         ensures faults { first_of result ≡ first_fault (faults (items_of names.now.items.now)) }
         ensures names { NamesItsFault (items_of names.now.items.now) result.first }

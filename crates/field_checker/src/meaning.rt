@@ -1,4 +1,4 @@
-//! What items mean of which nothing is refused: their rules.
+//! The rules that items without a fault mean.
 
 ghost use Rattle.std.specs.Prelude.{◌≡◌, ◌<◌, ◌^◌, [], Some, IfOk, nat_abs, option_map};
 ghost use Rattle.std.specs.Option.{option_map_or};
@@ -69,8 +69,8 @@ fn term<'a>(names: &Names<'_, 'a>, comparison: &Comparison<'a>) -> Term
     watchpoint(field, packet, comparison)
 }
 
-/// The two conditions, in one box, with the names replaced by what they name. What waits for the second stands here, so that a
-/// comparison costs none of it.
+/// The two conditions, in one box, with the names replaced by what they name. It is a function of its own, so that a comparison
+/// needs no stack for its locals.
 #[cycle(conditions)]
 fn operands<'a>(
     alloc: Global,
@@ -121,7 +121,7 @@ fn condition<'a>(
     }
 }
 
-/// The most reports of each kind, none where they aren't written.
+/// The most reports of each kind; 0 where they aren't written.
 fn report(item: Option<ReportItem>) -> ReportMaxima
     requires { option_map_or report_faults (option_map report_of item) [] ≡ [] }
     ensures { result ≡ option_map_or meaning.report_of (option_map report_of item)
@@ -163,7 +163,7 @@ fn rule<'a>(alloc: Global, names: &Names<'_, 'a>, item: &RuleItem<'a>) -> Result
     })
 }
 
-/// The rules that items mean of which nothing is refused, in the text's order. It fails only for want of memory.
+/// The rules that items without a fault mean, in the text's order. The error is a lack of memory.
 pub(crate) fn rules(alloc: Global, names: &Names) -> Result<Vec<Rule>, AllocError>
     requires { faults (items_of names.now.items.now) ≡ [] }
     ensures { IfOk result

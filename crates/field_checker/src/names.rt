@@ -1,4 +1,4 @@
-//! The items of a file, with what their names name.
+//! The items of a file, and the declaration of each name.
 
 ghost use Rattle.std.specs.Prelude.{◌≡◌, IfOk, option_map};
 ghost use Rattle.std.specs.List.{list_any};
@@ -12,8 +12,8 @@ use crate::key::key;
 use rule_parser::{FieldItem, Item, Name, PacketItem};
 use std::alloc::{AllocError, Global};
 
-/// The items of a file, with an index of what they declare. A look-up compares the name with at most a number of others
-/// that is logarithmic in how many there are, whatever the names are.
+/// The items of a file, with an index of what they declare. The comparisons of a look-up are at most logarithmic in the number
+/// of names, whatever the names are.
 #[derive(Drop)]
 pub(crate) struct Names<'f, 'a> {
     pub items: &'f [Item<'a>],
@@ -22,7 +22,7 @@ pub(crate) struct Names<'f, 'a> {
 }
 
 impl<'f, 'a> Names<'f, 'a> {
-    /// Indexes the items. It fails only for want of memory.
+    /// Indexes the items. The error is a lack of memory.
     pub fn new(alloc: Global, items: &'f [Item<'a>]) -> Result<Names<'f, 'a>, AllocError>
         ensures { IfOk result (λ names. items_of names.items.now ≡ items_of items.now) }
     {

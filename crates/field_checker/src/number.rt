@@ -5,16 +5,16 @@ ghost use Rattle.field_checker.specs.Number.{least_of, most_of, number_text};
 
 use std::fmt;
 
-/// A number of a rule or a field, and from what to what it may be.
+/// A number of a rule or a field that has a range of its own.
 #[derive(Clone, Copy, Debug, PartialEq, Eq)]
 pub enum RuleNumber {
-    /// The failures in a row behind `fails`, 1 to 65,535.
+    /// The failures in a row after `fails`, 1 to 65,535.
     Fails,
     /// The command sequence, 1 to 65,535.
     Sequence,
     /// The event's number, 1,000 to 65,535.
     EventId,
-    /// The first number behind `report`, the most events for failures while passive: 0 to 255.
+    /// The first number after `report`, the most events for failures while passive: 0 to 255.
     ReportPassive,
     /// The second one, the most events for turns from pass to fail: 0 to 65,535.
     ReportPassToFail,

@@ -77,8 +77,8 @@ fn number_of_item(item: &Item, at: usize) -> Option<RuleNumber>
     None
 }
 
-/// Which number of the items is out of its range at this place, a number of bytes of the text: the one of which
-/// `CheckError::NumberRange` says the place. None where no number stands there that is out of its range.
+/// Which number of the items is out of its range at place `at`, the number of the text's bytes before it, as in
+/// `CheckError::NumberRange`. `None` where no number at this place is out of its range.
 pub fn number_at(file: &RuleFile, at: usize) -> Option<RuleNumber>
     ensures found { IfSome result
         (λ number. StandsOutside (items_of file.now.items.items) number at) }

@@ -27,7 +27,7 @@ fn is_reserved(mid: Number) -> bool
 }
 
 impl Faults {
-    /// Meets the faults of a packet's message id and length.
+    /// Adds the faults of a packet's message id and length.
     #[tactic(auto, using(crate::proofs::After::both_met, crate::proofs::After::nothing_met))]
     pub fn check_packet(&mut self, packet: &PacketItem)
         ensures faults { first_of self.new ≡

@@ -15,7 +15,7 @@ use crate::number::RuleNumber;
 use rule_parser::{Comparison, Expression, ReportItem, RuleItem};
 
 impl Faults {
-    /// Meets the faults of the maxima of events, where they are written.
+    /// Adds the faults of the maxima of events, if they are written.
     #[tactic(auto, using(crate::proofs::After::both_met, crate::proofs::After::nothing_met))]
     fn check_report(&mut self, report: Option<ReportItem>)
         ensures faults { first_of self.new ≡
@@ -32,7 +32,7 @@ impl Faults {
         }
     }
 
-    /// Meets the fault of a comparison: the field that it names, or else its number.
+    /// Adds the fault of a comparison: the field that it names, or else its number.
     fn check_comparison<'a>(&mut self, names: &Names<'_, 'a>, comparison: &Comparison<'a>)
         ensures faults { first_of self.new ≡
             after (first_of self.old)
@@ -50,7 +50,7 @@ impl Faults {
         }
     }
 
-    /// Meets the faults of a condition's comparisons. The recursion is as deep as the condition.
+    /// Adds the faults of a condition's comparisons. The recursion is as deep as the condition.
     #[tactic(auto, using(crate::proofs::After::both_met, crate::proofs::After::nothing_met))]
     fn check_condition<'a>(&mut self, names: &Names<'_, 'a>, condition: &Expression<'a>)
         ensures faults { first_of self.new ≡
@@ -69,7 +69,7 @@ impl Faults {
         }
     }
 
-    /// Meets the faults of a rule's numbers and condition.
+    /// Adds the faults of a rule's numbers and condition.
     #[tactic(auto, using(crate::proofs::After::both_met, crate::proofs::After::nothing_met))]
     pub fn check_rule<'a>(&mut self, names: &Names<'_, 'a>, rule: &RuleItem<'a>)
         ensures faults { first_of self.new ≡

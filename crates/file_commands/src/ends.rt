@@ -8,7 +8,7 @@ use stream_script::Front;
 use tool_faults::Fault;
 
 /// Returns the end of a stream in the file `name`, if `front` stands where record `n`, counted from 1, would begin.
-/// Errors: `Stream` with `BadRecord` for bytes that are no record, or with `Truncated` for a cut one.
+/// Errors: `Stream` with `BadRecord` for bytes that aren't a record, or with `Truncated` for a cut one.
 pub fn end_of_stream<'a>(name: &'a str, front: Front, n: u64) -> Result<(), Fault<'a>>
     ensures { result ≡ answer_where name.entry front n }
 {

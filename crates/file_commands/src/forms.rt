@@ -3,35 +3,47 @@
 use crate::listing;
 use crate::rows::{self, rows_of};
 use flight_tools_args::RowWords;
+use packet_listing::rules_of_texts;
+use scenarios::declared_in;
 use std::fs::Files;
 use std::io::Write;
-use tool_faults::Fault;
+use tool_faults::{Fault, rule_texts_of, texts_in};
 
-/// Lists the records of a stream as text, as a script if `whole`, or as rows. Errors if the stream ends early: `Early`
-/// for text, `Stream` with the place for rows.
+/// Lists the records of a stream as text, as a script if `whole`, or as rows; commands are in words, with the names of these
+/// rule texts. Errors if the stream ends early: `Early` for text, `Stream` with the place for rows.
 pub fn stream<'a, R: Files + AllocGlobal, W: Write>(
     rt: &R,
     file: &'a str,
+    rules: &[&'a str],
     whole: bool,
     form: RowWords<'a>,
     out: &mut W,
 ) -> Result<(), Fault<'a>> {
-    match rows_of(form)? {
-        Some(rows) => rows::records(rt, file, &rows, out),
-        None => listing::stream(rt, file, whole, out),
+    let rows = rows_of(form)?;
+    let bytes = texts_in(rt, rules)?;
+    let texts = rule_texts_of(rt.alloc(), rules, bytes.as_slice())?;
+    let declared = declared_in(rt.alloc(), texts.as_slice())?;
+    match rows {
+        Some(rows) => rows::records(rt, file, &rows, &declared, out),
+        None => listing::stream(rt, file, whole, &declared, out),
     }
 }
 
-/// Lists the packets of a file as text or as rows. Errors if bytes follow the last whole packet: `Early` for text,
+/// Lists the packets of a file as text, with the names of these rule texts, or as rows. Errors if bytes follow the last whole packet: `Early` for text,
 /// `Packets` with the place for rows.
 pub fn packets<'a, R: Files + AllocGlobal, W: Write>(
     rt: &R,
     file: &'a str,
+    rules: &[&'a str],
     form: RowWords<'a>,
     out: &mut W,
 ) -> Result<(), Fault<'a>> {
-    match rows_of(form)? {
+    let rows = rows_of(form)?;
+    let bytes = texts_in(rt, rules)?;
+    let texts = rule_texts_of(rt.alloc(), rules, bytes.as_slice())?;
+    let names = rules_of_texts(rt.alloc(), texts.as_slice())?;
+    match rows {
         Some(rows) => rows::packets(rt, file, &rows, out),
-        None => listing::packets(rt, file, out),
+        None => listing::packets(rt, file, names.as_slice(), out),
     }
 }

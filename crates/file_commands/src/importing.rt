@@ -36,7 +36,7 @@ fn number_in(word: &str, most: u32) -> Option<u32>
     }
 }
 
-/// The value of a numeric option, or `default` if it isn't given. Error: `Value` for a word that is no such number.
+/// The value of a numeric option, or `default` if it isn't given. Error: `Value` for any other word.
 fn number_of<'a>(
     option: &'a str,
     word: Option<&'a str>,
@@ -116,7 +116,6 @@ fn may_go_on(met: Met) -> bool {
 }
 
 /// The records that bring both halves of a rule text as the Limit Checker's tables, and start it and the scheduler.
-/// says them.
 fn start_of<'a>(alloc: Global, moment: Moment, text: u16) -> Result<Vec<u8>, Fault<'a>> {
     let Moment {
         seconds,

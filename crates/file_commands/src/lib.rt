@@ -7,6 +7,7 @@ mod exporting;
 mod forms;
 mod importing;
 mod listing;
+mod record_line;
 mod rows;
 
 pub use crate::exporting::export;

@@ -1,21 +1,20 @@
 //! The commands that list a file as text.
 
+use crate::record_line::record_lines;
 use analysis_listing::{LineChoice, list_actionpoints};
 use clap::Error;
-use packet_listing::list_whole;
+use packet_listing::{TextRules, list_named};
 use program_io::{Feed, Noting, feed_of};
+use scenarios::DeclaredItems;
 use std::alloc::Global;
 use std::cell::Cell;
 use std::fs::Files;
 use std::io::{Read, Write};
-use stream_script::{Front, front_of, write_listing_from, write_script};
+use stream_script::{Front, front_of, write_script};
 use table_listing::{ListingError, list_table};
 use tool_faults::{
     Fault, LONGEST_TABLE, judgement_fault, listing_result, output_fault, read, written_fault,
 };
-
-/// The largest number that a listing gives a record or a packet.
-const MOST_COUNTED: usize = usize::MAX / 2;
 
 /// Writes the help or the version to `out`. The error is that of the output.
 pub fn write_help<'a, W: Write>(text: &Error, out: &mut W) -> Result<(), Fault<'a>> {
@@ -91,27 +90,29 @@ pub fn whole_records(bytes: &[u8]) -> (usize, usize, Front) {
     (count, size, front_of(rest))
 }
 
-/// The text of records as a listing or as a script; `first` is the number of the first record.
+/// The text of records as a listing, with commands in words, or as a script; `first` is the number of the first record.
 fn text_of<'a>(
     alloc: Global,
     first: usize,
     records: &[u8],
     whole: bool,
+    declared: &DeclaredItems<'_>,
 ) -> Result<Vec<u8>, Fault<'a>> {
     let text = if whole {
         write_script(alloc, records)?
     } else {
-        write_listing_from(alloc, first.min(MOST_COUNTED), records)?
+        record_lines(alloc, first, records, declared)?
     };
     Ok(text)
 }
 
-/// Lists the records of a stream piece by piece, or writes them as a script if `whole`. Error: `Early` if the stream
-/// ends early; others are of files, output and memory.
+/// Lists the records of a stream piece by piece, with commands in words, or writes them as a script if `whole`. Error:
+/// `Early` if the stream ends early; others are of files, output and memory.
 pub fn stream<'a, R: Files + AllocGlobal, W: Write>(
     rt: &R,
     file: &'a str,
     whole: bool,
+    declared: &DeclaredItems<'_>,
     out: &mut W,
 ) -> Result<(), Fault<'a>> {
     let mut feed = feed_of(rt, file)?;
@@ -125,7 +126,7 @@ pub fn stream<'a, R: Files + AllocGlobal, W: Write>(
             .contents()
             .split_at_checked(listed_size)
             .map_or(&[][..], |it| it.0);
-        let text = text_of(rt.alloc(), first, records, whole)?;
+        let text = text_of(rt.alloc(), first, records, whole, declared)?;
         listing_result(out.write_all(text.as_slice()))?;
         if is_last {
             listing_result(out.flush())?;
@@ -142,20 +143,21 @@ fn ended_with<'a>(is_whole: bool) -> Result<(), Fault<'a>> {
     if is_whole { Ok(()) } else { Err(Fault::Early) }
 }
 
-/// Lists the packets of a file piece by piece. Error: `Early` if bytes follow the last whole packet; others are of
+/// Lists the packets of a file piece by piece, with the names of these rules. Error: `Early` if bytes follow the last whole packet; others are of
 /// files, output and memory.
 pub fn packets<'a, R: Files + AllocGlobal, W: Write>(
     rt: &R,
     file: &'a str,
+    rules: &[TextRules<'_>],
     out: &mut W,
 ) -> Result<(), Fault<'a>> {
     let mut feed = feed_of(rt, file)?;
     let mut number = 0u64;
     for _ in 0..u64::MAX {
         let is_more = feed.read_on()?;
-        let (count, size) = list_whole(feed.contents(), number, out).map_err(|error| output_fault(
-            error.kind(),
-        ))?;
+        let (count, size) = list_named(feed.contents(), number, &*rules, out).map_err(
+            |error| output_fault(error.kind()),
+        )?;
         number = count;
         feed.let_go(size);
         if !is_more {

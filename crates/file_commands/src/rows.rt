@@ -3,6 +3,7 @@
 ghost use Rattle.file_commands.specs.Taken.{IsTaken};
 
 use crate::ends::{end_of_packets, end_of_stream};
+use crate::record_line::record_line;
 use flight_tools_args::RowWords;
 use lc_model::packet::first_packet;
 use packet_listing::PacketLine;
@@ -10,6 +11,7 @@ use packet_rows::{
     Epoch, Form, PACKET_NAMES, RECORD_NAMES, RowError, write_names, write_packet, write_record,
 };
 use program_io::feed_of;
+use scenarios::DeclaredItems;
 use std::alloc::Global;
 use std::fs::Files;
 use std::io::Write;
@@ -83,13 +85,14 @@ fn write_packets<W: Write>(
     Ok((number, packets.len().saturating_sub(rest.len())))
 }
 
-/// Writes the rows of the whole records at the front, after `before` earlier ones. Returns the number of the last
+/// Writes the rows of the whole records at the front, with commands in words, after `before` earlier ones. Returns the number of the last
 /// one, and the bytes of all.
 fn write_records<W: Write>(
     alloc: Global,
     rows: &Rows,
     records: &[u8],
     before: u64,
+    declared: &DeclaredItems<'_>,
     out: &mut W,
 ) -> Written {
     let mut number = before;
@@ -100,7 +103,16 @@ fn write_records<W: Write>(
         };
         let (record, behind) = rest.split_at(size);
         number = number.saturating_add(1);
-        write_record(alloc, rows.form, rows.epoch, number, record, out)?;
+        let line = record_line(alloc, 1, record, declared)?;
+        write_record(
+            alloc,
+            rows.form,
+            rows.epoch,
+            number,
+            record,
+            line.as_slice(),
+            out,
+        )?;
         rest = behind;
     }
     Ok((number, records.len().saturating_sub(rest.len())))
@@ -142,6 +154,7 @@ pub fn records<'a, R: Files + AllocGlobal, W: Write>(
     rt: &R,
     file: &'a str,
     rows: &Rows,
+    declared: &DeclaredItems<'_>,
     out: &mut W,
 ) -> Result<(), Fault<'a>> {
     let mut feed = feed_of(rt, file)?;
@@ -154,6 +167,7 @@ pub fn records<'a, R: Files + AllocGlobal, W: Write>(
             rows,
             feed.contents(),
             number,
+            declared,
             out,
         ))?;
         number = count;

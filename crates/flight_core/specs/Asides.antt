@@ -27,7 +27,7 @@ module _ (m : Mission) where
   packets_by_bytes compiled entries = sent_from (as_bytes m.edition.layouts) m.schedule (first_world m.stock) (byte_meanings compiled) entries
 
   module _ (d : Devices) where
-    -- these packets were written, one behind the other, and these are the sequence requests among them
+    -- these packets were written, one after the other, and these are the sequence requests among them
     pub record WritesRequests (before : List ℕ) (packets requests : List (List ℕ)) : Type 0 where
       pub gains : d.sink_after.gained ≡ Some (before ++ concat packets)
       pub among : sequences_among packets ≡ requests

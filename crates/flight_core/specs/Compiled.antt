@@ -47,7 +47,7 @@ AreAllCompiled sources pairs = AllZip IsCompiled sources pairs
 
 -- ---- refusals
 
--- the answer where the text with this number has no compiled form
+-- the error if the text with this number has no compiled form
 abbrev pub refusal_for : ℕ → CompileError → RunError
 refusal_for number compiler.Memory = Memory
 refusal_for number error = Compile number error
@@ -63,13 +63,13 @@ pub record IsFirstRefused (sources : List (List ℕ)) (number : ℕ) (error : Co
   pub refused : IsRefused limits source why
   pub named : NamesTheNumberIn source error
 
--- the first text that does not compile, or want of memory
+-- the first text that does not compile, or lack of memory
 abbrev pub IsNotCompiled : List (List ℕ) → RunError → Type 0
 IsNotCompiled sources (Compile number error) = IsFirstRefused sources number error
 IsNotCompiled sources Memory = ⊤
 IsNotCompiled sources other = ⊥
 
--- of a number out of its range, the error names which number of the text that is
+-- for a number out of its range, the error names which number of the text that is
 abbrev pub NamesTheNumber : List (List ℕ) → RunError → Type 0
 NamesTheNumber sources (Compile number error) = (source : List ℕ) × (slice_get sources number ≡ Some source) × NamesTheNumberIn source error
 NamesTheNumber sources error = ⊤

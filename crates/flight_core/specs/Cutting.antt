@@ -36,7 +36,7 @@ abbrev pub EndsBadly : Type 0
 EndsBadly = (texts : ℕ) (come : List ℕ) (entries : List StreamEntry) (held more : List ℕ) →
     IsHandedOut texts come entries held → front all_kinds texts held ≡ NoRecord → records_of texts (come ++ more) ≡ (entries, Bad (length entries + 1))
 
--- where nothing follows, it ends behind a whole record
+-- where nothing follows, it ends after a whole record
 abbrev pub EndsWhole : Type 0
 EndsWhole = (texts : ℕ) (come : List ℕ) (entries : List StreamEntry) (held : List ℕ) →
     IsHandedOut texts come entries held → front all_kinds texts held ≡ EndOfStream → records_of texts come ≡ (entries, Whole)
@@ -69,7 +69,7 @@ abbrev pub after_call : Call → Held → Course
 after_call (Feed piece) held = record { come = taken_of held piece; entries = []; held = fed held piece }
 after_call Next held = record { come = []; entries = entry_in_front (front_of held); held = after_next held }
 
--- one behind the other
+-- one after the other
 abbrev pub joined : Course → Course → Course
 joined first others = record { come = first.come ++ others.come; entries = first.entries ++ others.entries; held = others.held }
 
@@ -90,6 +90,6 @@ pub record IsOfTheWhole (texts : ℕ) (course : Course) : Type 0 where
   pub of_texts : course.held.texts ≡ texts
   pub bad : course.held.is_bad ≡ true → (more : List ℕ) → records_of texts (course.come ++ more) ≡ (course.entries, Bad (length course.entries + 1))
 
--- so it is of all calls
+-- this holds for all calls
 abbrev pub EveryCutting : Type 0
 EveryCutting = (texts : ℕ) (calls : List Call) → IsOfTheWhole texts (course_of texts calls)

@@ -3,7 +3,7 @@ use Rattle.std.specs.Prelude.{ℕ, Option, Some, None}
 use Rattle.flight_core.specs.declared.error.RunError.{RunError}
 use Rattle.flight_core.specs.declared.error.RunError.TheVariants.{Compile, BadRecord, Truncated, Read, Write, ReadBound, Memory}
 
--- the number; want of memory has none, nor has a text's refusal, which is the compiler's
+-- the number; lack of memory has none, and a text's refusal has the compiler's
 abbrev pub error_code : RunError → Option ℕ
 error_code (Compile text error) = None
 error_code (BadRecord n) = Some 141

@@ -35,7 +35,7 @@ boxes_on it = it.host.seats
 abbrev pub fed_with : List ℕ → Feeding → Feeding
 fed_with piece it = record it { held = fed it.held piece }
 
--- so it is between two calls
+-- a host that is fed, between two calls
 pub record IsReady (it : Feeding) : Type 0 where
   pub between : IsBetween it.host
   pub texts : it.held.texts ≡ length it.files
@@ -48,7 +48,7 @@ pub record HasBegun (sources : List (List ℕ)) (stock : List Object) (it : Feed
   pub host : in_numbers it.host ≡ first_host (members_of stock)
   pub is_open : it.host.is_closed ≡ false
 
--- a host that is closed handles none: nothing changes, and nothing is written
+-- a host that is closed handles no record: nothing changes, and nothing is written
 pub record HandlesNone (old new : Feeding) (before now : Sink) (result : Result (Option ℕ) Halt) : Type 0 where
   pub answer : result ≡ Err (Unsent 0)
   pub host : new.host ≡ old.host

@@ -43,7 +43,7 @@ module _ (sources : List (List ℕ)) where
     pub first : IsRefused limits source why
 
   -- memory aside: a text is refused exactly where it is the first that does not fit, and for no other reason; then, and for
-  -- want of memory, nothing was read and nothing written
+  -- lack of memory, nothing was read and nothing written
   abbrev pub RefusesUnfitAlone : Devices → Ending → Type 0
   RefusesUnfitAlone d (Uncompiled number refusal) = IsFirstUnfit number refusal × IsUntouched d
   RefusesUnfitAlone d NoMemory = IsUntouched d

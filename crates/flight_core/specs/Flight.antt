@@ -19,7 +19,7 @@ use Rattle.flight_core.specs.declared.error.RunError.TheVariants as error
 use Rattle.flight_core.specs.Brought.{meanings_of}
 use Rattle.flight_core.specs.Ending.{ending_of}
 
--- how a run ends by this, behind so many records and bytes, of which so many last ones are still held
+-- how a run ends for this reason, after these numbers of records and bytes, of which the last `held` bytes are still held
 abbrev pub stopped_by : Halt → (records bytes held : ℕ) → RunError
 stopped_by halt.NoRecord records bytes held = error.BadRecord (records + 1)
 stopped_by halt.Fault records bytes held = error.Read

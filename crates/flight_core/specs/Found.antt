@@ -23,11 +23,11 @@ answer_of (Record entry) = answer.Entry (record { moment = entry.moment; content
 answer_of (Half moment name kind text) = answer.Entry (record { moment = moment; contents = stream.Half name.now kind text })
 answer_of (Bad number) = answer.Bad number
 
--- the answer where something was found
+-- the number or the record, where something was found
 abbrev pub answer_in : Option Found → Option Answer
 answer_in found = option_map answer_of found
 
--- a half is one of a text that there is, among so many
+-- a half is of a text that there is; this is the number of texts
 abbrev pub NamesText : ℕ → Found → Type 0
 NamesText texts (Half moment name kind text) = text < texts
 NamesText texts (Record entry) = ⊤

@@ -10,7 +10,7 @@ use Rattle.lc_model.specs.declared.device.DeviceFault.{DeviceFault}
 abbrev pub most_gathered : ℕ
 most_gathered = 65536
 
--- as a sink: what the device has, and behind it what is held
+-- as a sink: what the device has, and after it what is held
 abbrev pub with_held : Sink → List ℕ → Sink
 with_held device held = record { gained = append_known device.gained held; failed = device.failed }
 
@@ -22,7 +22,7 @@ none_held device = λ i. record { gained = none_behind device.gained i; failed =
     none_behind None = refl
     none_behind (Some xs) = ap Some (append-nil xs)
 
--- what came behind these bytes
+-- what came after these bytes
 abbrev pub behind : List ℕ → Option (List ℕ) → List ℕ
 behind first None = []
 behind first (Some bytes) = drop (length first) bytes
@@ -48,7 +48,7 @@ module _ (before after : Sink) (held left : List ℕ) where
     pub some_left : 0 < length left
     pub failed : after.failed ≡ true
 
-  -- by the answer
+  -- by the result
   abbrev pub Gives : Result (Unit {0}) DeviceFault → Type 0
   Gives (Ok none) = IsGiven
   Gives (Err fault) = IsStuck

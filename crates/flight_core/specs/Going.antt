@@ -38,7 +38,7 @@ module _ (meanings : FileMeanings (List ℕ)) (held after : Held) (old new : Hos
     pub gains : Appends before.gained now.gained part
     pub counted : total ≡ length part
 
-  -- a write failed, behind so many bytes of it
+  -- a write failed, after `sent` bytes of it
   pub record IsCutShort (sent : ℕ) : Type 0 where
     pub next : IsNext held after
     pub between : IsBetween new
@@ -55,13 +55,13 @@ module _ (meanings : FileMeanings (List ℕ)) (held after : Held) (old new : Hos
     pub host : new ≡ old
     pub idle : now ≡ before
 
-  -- what is held begins with what is none
+  -- what is held begins with what is no record
   pub record MeetsNone : Type 0 where
     pub front : front_of held ≡ NoRecord
     pub host : new ≡ old
     pub idle : now ≡ before
 
-  -- by the answer
+  -- by the result
   abbrev pub HandlesNext : Result (Option ℕ) Halt → Type 0
   HandlesNext (Ok (Some total)) = IsHandled total
   HandlesNext (Ok None) = NoneIsHeld
@@ -85,7 +85,7 @@ module _ (written : ℕ) (before after : Sink) (held left : List ℕ) where
     pub some : 0 < written
     pub stuck : IsStuck before after held left
 
-  -- by the answer
+  -- by the result
   abbrev pub Settles : Result (Unit {0}) Halt → Type 0
   Settles (Ok none) = IsSettled
   Settles (Err (halt.Unsent sent)) = IsHeldUp sent
@@ -134,7 +134,7 @@ module _ (most : ℕ) (held after : Held) (before now : Source) where
     pub same : now ≡ before
     pub bound : before.reads ≡ most
 
-  -- by the answer
+  -- by the result
   abbrev pub TakesPiece : Result Bool Halt → Type 0
   TakesPiece (Ok true) = Comes
   TakesPiece (Ok false) = IsOver
@@ -146,7 +146,7 @@ module _ (most : ℕ) (held after : Held) (before now : Source) where
 -- ---- and the output before it
 
 module _ (written most : ℕ) (records_held records_after : Held) (source source_after : Source) (before after : Sink) (held left : List ℕ) where
-  -- a read is made behind all that was written, which is with the device
+  -- a read is made after all that was written, which is with the device
   pub record IsReadBehind (result : Result Bool Halt) : Type 0 where
     pub settled : IsSettled written before after held left
     pub piece : TakesPiece most records_held records_after source source_after result
@@ -157,7 +157,7 @@ module _ (written most : ℕ) (records_held records_after : Held) (source source
     pub source_same : source_after ≡ source
     pub records_same : records_after ≡ records_held
 
-  -- by the answer
+  -- by the result
   abbrev pub Refills : Result Bool Halt → Type 0
   Refills (Err (halt.Unsent sent)) = IsUnread sent
   Refills (Err halt.NoRecord) = IsReadBehind (Err halt.NoRecord)

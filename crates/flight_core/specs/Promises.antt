@@ -24,7 +24,7 @@ pub record PromisesOfProfile (m : Mission) (d : Devices) (ending : Ending) : Typ
   pub fixed_tables : WritesWithFixedTables m d ending
   -- whatever fails: over the bytes that were taken, what the texts call for, or the first bytes of it
   pub whatever_fails : FollowsTexts m d ending
-  -- a failed read or write is answered where one failed, and nowhere else, with how many bytes the writer took
+  -- a failed read or write is reported where one failed, and nowhere else, with how many bytes the writer took
   pub failures : TellsFailures m.most_reads d ending
   -- commands to event services, to the counter and to other applications can't touch the sequence requests: with others,
   -- or with none, these are the same
@@ -35,15 +35,17 @@ pub record PromisesOfProfile (m : Mission) (d : Devices) (ending : Ending) : Typ
 -- what a run promises with these objects in stock, whatever they are, and where the stock is of this profile
 pub record Promises (OfProfile : Type 0) (AreInStock : List Member → Type 0) (m : Mission) (d : Devices) (result : Result Report RunError) : Type 0 where
   pub profile : OfProfile → PromisesOfProfile m d (ending_of result)
-  -- memory aside, the first text is refused that says no rules, or too many or too long ones, for the first reason that there
-  -- is, and none for how many operands of a condition wait. Then, and for want of memory, nothing was read and nothing written
+  -- memory aside, the refused text is the first one that says no rules, or too many or too long ones, with the first reason
+  -- that applies; none is refused for how many operands of a condition wait. Then, and for lack of memory, nothing was read
+  -- and nothing written
   pub refuses : RefusesUnfitAlone m.sources d (ending_of result)
-  -- of a number of that text that is out of its range: which one it is
+  -- for a number of that text that is out of its range: which number it is
   pub named : IfErr result (NamesTheNumber m.sources)
-  -- each record was one step of a host that began with this stock, whatever the applications are, and each answer is given for its reason alone: a failed read or
-  -- write, no record or a cut one, and the bound of reads only where that is so, with the numbers that are so
+  -- each record was one step of a host that began with this stock, whatever the applications are, and each result is given for
+  -- its reason alone: a failed read or write, no record or a cut one, and the bound of reads are reported only where they
+  -- occurred, with true numbers
   pub reasons : AnswersForItsReason AreInStock m d (ending_of result)
-  -- however it ends: at most so many reads were made
+  -- however it ends: at most this many reads were made
   pub bounded : d.source_after.reads ≤ m.most_reads
 
 -- whoever runs a stream as `IsRun` says promises all that

@@ -3,8 +3,8 @@ use Rattle.std.specs.Prelude.{ℕ, ◌+◌, ◌-◌, min, Bool, true, false, Lis
 use Rattle.lc_model.specs.Host.Stream.{Front, EndOfStream, Record, NoRecord, CutRecord, all_kinds, body_size, front, header_size}
 use Rattle.flight_core.specs.Answer.{Answer, Entry, Bad}
 
--- the bytes held; those of the record that was handed out last, until more comes; how many records were handed out, up to
--- 2^64 - 1; whether what comes next was found to be none; and how many rule texts there are
+-- the bytes held; those of the record that was handed out last, until more comes; how many records were handed out, up to 2^64
+-- - 1; whether what comes next was found to be no record; and how many rule texts there are
 pub record Held : Type 0 where
   pub bytes : List ℕ
   pub last : List ℕ
@@ -30,7 +30,7 @@ nothing_held texts = record { bytes = []; last = []; count = 0; is_bad = false; 
 
 -- ---- what comes
 
--- what is taken of a piece: as much as there is room for, and behind what is no record nothing
+-- what is taken of a piece: as much as there is room for, and after what is no record nothing
 abbrev pub taken_of : Held → List ℕ → List ℕ
 taken_of held piece = if held.is_bad then [] else take (most_held - length held.bytes) piece
 
@@ -52,7 +52,7 @@ first_record bytes = take (header_size + body_size bytes) bytes
 abbrev pub next_number : Held → ℕ
 next_number held = min (held.count + 1) most_counted
 
--- what is answered by what stands in front
+-- what is returned for what stands in front
 abbrev pub answer_by : Held → Front → Option Answer
 answer_by held (Record entry rest) = Some (Entry entry)
 answer_by held NoRecord = Some (Bad (next_number held))
@@ -66,11 +66,11 @@ after_by held NoRecord = record held { is_bad = true }
 after_by held EndOfStream = held
 after_by held CutRecord = held
 
--- what comes next, where a whole record is held or what is none
+-- what comes next, where a whole record is held or what is no record
 abbrev pub next_answer : Held → Option Answer
 next_answer held = answer_by held (front_of held)
 
--- what is held behind it
+-- what is held after it
 abbrev pub after_next : Held → Held
 after_next held = after_by held (front_of held)
 

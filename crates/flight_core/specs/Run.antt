@@ -1,4 +1,4 @@
--- What a run answers and leaves.
+-- What a run returns and leaves.
 use Rattle.std.specs.Prelude.{◌≡◌, ◌≢◌, ℕ, List, map, Result, Err, ⊤}
 use Rattle.std.specs.List.{AllByRecursion, concat}
 use Rattle.std.specs.Borrow.{Bor}
@@ -44,7 +44,7 @@ mission_of texts schedule stock most = record {
 abbrev pub IsOfProfile : Schedule → List Object → Type 0
 IsOfProfile schedule stock = AllByRecursion (IsSpare (as_bytes layouts) schedule) (members_of stock)
 
--- none is an object of which nothing is said
+-- none is an object of an unknown kind
 abbrev pub AreOfProfile : List Object → Type 0
 AreOfProfile stock = AllByRecursion (λ (member : Member). member.state ≢ Other) (members_of stock)
 
@@ -58,13 +58,13 @@ abbrev pub EndsSo : List TablePair → List Member → ℕ → ℕ → Devices �
 EndsSo pairs members texts most d result = (output : List StreamEntry → List ℕ) → IsOutputFrom pairs members texts output →
     IsOutcome (records_of texts) output most d (ending_of result)
 
--- whatever is in stock, a run whose texts are compiled refuses none, and for want of memory nothing was read
+-- whatever is in stock, a run whose texts are compiled refuses no text, and for lack of memory nothing was read
 abbrev pub RefusesNone : Devices → Result Report RunError → Type 0
 RefusesNone d (Err (Compile text refusal)) = ⊥
 RefusesNone d (Err Memory) = IsUntouched d
 RefusesNone d other = ⊤
 
--- how a run ends whose texts are compiled: for want of memory nothing was read
+-- how a run ends whose texts are compiled: for lack of memory nothing was read
 abbrev pub RunsSo : List TablePair → List Member → ℕ → ℕ → Devices → Result Report RunError → Type 0
 RunsSo pairs members texts most d (Err Memory) = IsUntouched d
 RunsSo pairs members texts most d result = EndsSo pairs members texts most d result

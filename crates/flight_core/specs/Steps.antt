@@ -1,4 +1,4 @@
--- What a run is whatever is in stock: each record is one step of the host, and each answer is given for its reason alone.
+-- What a run is whatever is in stock: each record is one step of the host, and each result is given for its reason alone.
 use Rattle.std.specs.Prelude.{◌≡◌, ◌⊎◌, ℕ, List, [], ◌∷◌, ◌++◌, length, take, Some, ⊤}
 use Rattle.std.specs.List.{concat}
 use Rattle.std.specs.Io.KnownBytes.{Consumes}
@@ -31,7 +31,7 @@ pub record IsOneStep (meanings : FileMeanings (List ℕ)) (entry : StreamEntry) 
   pub between : IsBetween new
   pub exact : AreKnownIn (party_of (input_by given.body)) old → in_numbers new ≡ host_after on_board given.moment (in_numbers old) (input_by given.body)
 
--- the same if a write failed: the first so many of these bytes were written, and the host stopped at that write
+-- the same if a write failed: the first `sent` of these bytes were written, and the host stopped at that write
 pub record IsCutStep (meanings : FileMeanings (List ℕ)) (entry : StreamEntry) (sent : ℕ) (old new : Hosted) (part : List ℕ) : Type 0 where
   pub given : Given
   pub moment : given.moment ≡ entry.moment

@@ -2,7 +2,7 @@
 use Rattle.std.specs.Prelude.{ℕ, ◌+◌, ◌≤◌, List, []}
 use Rattle.flight_core.specs.Records.{most_held}
 
--- what is held, and behind it what went last
+-- what is held, and what went last before it
 pub record Shown : Type 0 where
   pub last : List ℕ
   pub held : List ℕ
@@ -11,7 +11,7 @@ pub record Shown : Type 0 where
 abbrev pub empty_window : Shown
 empty_window = record { last = []; held = [] }
 
--- what went last begins here and what is held there, in so many bytes of a buffer with so much room
+-- what went last begins at `last` and what is held at `start`; `size` bytes of the buffer are used, of `capacity`
 pub record IsWindow (last start size capacity : ℕ) : Type 0 where
   pub ordered : last ≤ start
   pub inside : start ≤ size

@@ -19,7 +19,7 @@ fn file(pair: &TablePair, kind: Kind) -> &[u8]
     }
 }
 
-/// The record that was found, with the compiled file in the place of a half; none where what was found is no record.
+/// The record that was found, with the compiled file in the place of a half; `None` if what was found is no record.
 #[inline(always)]
 pub(crate) fn record_of<'a>(found: Found<'a>, pairs: &'a [TablePair]) -> Option<Record<'a>>
     requires named { IsShortNamed found }

@@ -7,7 +7,7 @@ use crate::error::RunError;
 use rpn_compiler::{CompileError, TablePair, compile};
 use std::alloc::Global;
 
-/// The answer where the text with this number has no compiled form.
+/// The error if the text with this number does not compile.
 fn refusal(text: usize, error: CompileError) -> RunError
     ensures { result ≡ refusal_for text error }
 {

@@ -23,8 +23,7 @@ pub enum RunError {
     /// A rule text does not compile; nothing was read.
     #[error("text {text}: {error}")]
     Compile { text: usize, error: CompileError },
-    /// What stands in a record's place is none: another kind, a length that does not fit, another half, or a text that is not
-    /// there.
+    /// Record `n` is not a record: another kind, a length that does not fit, another half, or a text that is not there.
     #[error("record {n} is none")]
     BadRecord { n: u64 },
     /// The stream ends inside a record.
@@ -33,10 +32,10 @@ pub enum RunError {
     /// A read failed. The output of the records before it stands.
     #[error("a read failed")]
     Read,
-    /// A write failed, after the writer had taken so many bytes of the run.
+    /// A write failed, after the writer had taken `sent` bytes of the run.
     #[error("a write failed behind {sent} bytes")]
     Write { sent: u128 },
-    /// As many reads were made as may be, and the stream has not ended.
+    /// The run made as many reads as it may, and the stream has not ended.
     #[error("the stream has not ended after as many reads as may be made")]
     ReadBound,
     /// Out of memory; nothing was read.
@@ -53,8 +52,8 @@ impl From<AllocError> for RunError {
 }
 
 impl RunError {
-    /// The number of what ended the run, 141 to 145. Want of memory has none, nor has a text's refusal, which is the
-    /// compiler's.
+    /// Returns the number of what ended the run, 141 to 145, or `None` for `Memory`, and for a text's refusal, which has the
+    /// compiler's number.
     pub fn code(self) -> Option<u8>
         ensures { result ≡ error_code self }
     {

@@ -27,8 +27,8 @@ pub struct FedHost<B: App = Box<dyn App>> {
 }
 
 impl<B: App> FedHost<B> {
-    /// Compiles the rule texts, and makes a host with these applications in stock, to which nothing has come. It takes all the
-    /// memory there will ever be. Condition: none of them holds a seat.
+    /// Compiles the rule texts, and creates a host with these applications in stock and nothing of a stream. It allocates all
+    /// memory that it ever needs. Condition: none of the applications holds a seat.
     ///
     /// Errors: `Compile` with the first text that does not compile, numbered from 0, and `Memory`.
     pub fn new(alloc: Global, texts: &[&[u8]], stock: Vec<B>) -> Result<FedHost<B>, RunError>
@@ -50,8 +50,8 @@ impl<B: App> FedHost<B> {
         }
     }
 
-    /// Takes a piece of the stream behind what is held, as much of it as leaves at most 73,739 bytes held, which are a longest
-    /// record and a piece of 8,192 bytes; and answers how much. Behind what is no record it takes nothing.
+    /// Takes a piece of the stream, and returns how many of its bytes it took: as many as leave at most 73,739 bytes held,
+    /// which are a longest record and a piece of 8,192 bytes. After what is no record it takes nothing.
     pub fn feed(&mut self, piece: &[u8]) -> usize
         requires ready { IsReady (feeding_of B.meaning self.old) }
         ensures ready { IsReady (feeding_of B.meaning self.new) }
@@ -63,11 +63,10 @@ impl<B: App> FedHost<B> {
         self.records.feed(piece)
     }
 
-    /// Handles the next record, where a whole one is held, and answers how many bytes it led to, which are written; none where
-    /// no whole record is held. Where a write fails the host is closed, and handles none from then on.
-    ///
-    /// Errors: `NoRecord`, where what comes next is none, now and at each further call; `Unsent` with the bytes that were
-    /// written before a write failed, and with 0 where the host was closed before.
+    /// Handles the next record, if a whole one is held, writes what it leads to, and returns the number of these bytes; `None`
+    /// if no whole record is held. If a write fails, the host is closed, and handles no record from then on.
+    /// Errors: `NoRecord` if what comes next is no record, now and at each further call; `Unsent` with the bytes that were
+    /// written before a write failed, and with 0 if the host was closed before.
     pub fn handle<W: ByteSink>(&mut self, writer: &mut W) -> Result<Option<u64>, Halt>
         requires ready { IsReady (feeding_of B.meaning self.old) }
         ensures ready { IsReady (feeding_of B.meaning self.new) }
@@ -100,14 +99,14 @@ impl<B: App> FedHost<B> {
         self.records.held()
     }
 
-    /// The host, as it stands behind the records so far.
+    /// The host, as it is after the records so far.
     pub fn host(&self) -> &Host<B>
         ensures { shown B.meaning result.now ≡ (feeding_of B.meaning self.now).host }
     {
         &self.host
     }
 
-    /// All that run retire, and all applications are dropped.
+    /// Retires all applications that run, and drops all applications.
     pub fn close(self)
         requires { IsReady (feeding_of B.meaning self) }
     {

@@ -22,7 +22,7 @@ use host_refinement::{goes_on, records_of_bytes_are_fine, writes_are_the_steps};
 use lc_model::{ByteSink, ByteSource};
 use rpn_compiler::TablePair;
 
-/// How a run ends by this, behind the records of the report, where so many bytes of their output are still held.
+/// The error of a run that halts so, after the records of the report, while `held` bytes of their output are still held.
 fn run_error(halt: Halt, report: Report, held: usize) -> RunError
     requires records { report.records + 1 < 2 ^ 64 }
     requires bytes { report.bytes + 2 ^ 64 < 2 ^ 128 }
@@ -40,8 +40,8 @@ fn run_error(halt: Halt, report: Report, held: usize) -> RunError
     }
 }
 
-/// Handles all records of the source: all whole ones of a piece before the next read. Before each read, and before the answer,
-/// all output is with the device behind the sink.
+/// Handles all records of the source: all whole ones of a piece before the next read. Before each read, and before the call
+/// returns, the device behind the sink has all output.
 pub(crate) fn handle_all<R: ByteSource, T: ByteSink, O: Outlet<T>, B: App>(
     records: &mut Records,
     room: &mut [u8],
@@ -73,7 +73,7 @@ pub(crate) fn handle_all<R: ByteSource, T: ByteSink, O: Outlet<T>, B: App>(
     ensures begun { RunHasBegun result }
     ensures bounded { (R.source reader.new).reads ≤ most }
 {
-    // For the proof: what is written for one record more comes behind all else; a stream of bytes brings files of bytes; what
+    // For the proof: what is written for one record more comes after all else; a stream of bytes brings files of bytes; what
     // is written is what the steps write.
     goes_on();
     records_of_bytes_are_fine();
@@ -101,7 +101,7 @@ pub(crate) fn handle_all<R: ByteSource, T: ByteSink, O: Outlet<T>, B: App>(
     }
 }
 
-/// How a run ends with its stream, behind the records of the report.
+/// How a run ends at the end of its stream, after the records of the report.
 fn result_at_end(records: &Records, report: Report) -> Result<Report, RunError>
     requires records { report.records + 1 < 2 ^ 64 }
     ensures so { result ≡ ended_by records.now.bytes report }

@@ -12,7 +12,7 @@ use crate::front::Shape;
 use lc_model::stream::{HEADER, NAME, moment_of};
 use lc_model::{Body, Kind, Moment, Record, name_in};
 
-/// The next record of a stream, or the number of what is none. Bytes and names lie where they came in.
+/// The next record of a stream, or the number of what is no record. Bytes and names are lent from where they lie.
 #[derive(Clone, Copy, Debug, PartialEq, Eq)]
 pub enum Found<'a> {
     /// A packet, a tick or a file, with its moment.
@@ -25,8 +25,8 @@ pub enum Found<'a> {
         kind: Kind,
         text: usize,
     },
-    /// Record `n` is none: another kind, a length that doesn't fit, another half, or a text that isn't there. Records count from
-    /// 1, and `n` stops at 2^64 - 1.
+    /// Record `n` is not a record: another kind, a length that doesn't fit, another half, or a text that isn't there. Records
+    /// count from 1, and `n` stops at 2^64 - 1.
     Bad {
         n: u64,
     },

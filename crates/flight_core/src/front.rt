@@ -26,11 +26,11 @@ pub(crate) enum Front {
     Part,
     /// No record, whatever follows.
     NoRecord,
-    /// A whole record of so many bytes.
+    /// A whole record of `size` bytes.
     Record { shape: Shape, size: usize },
 }
 
-/// The half that a body names, where there is such a half, and a text of this number among so many.
+/// The half that a body names, if there is such a half and a text with this number; `texts` is the number of texts.
 #[inline(never)]
 fn half(texts: usize, body: &[u8]) -> Option<Shape>
     requires { length body.now ≡ HALF }
@@ -57,7 +57,7 @@ fn half(texts: usize, body: &[u8]) -> Option<Shape>
     }
 }
 
-/// What a record of this kind brings by its body, where there are so many texts.
+/// What a record of this kind brings by its body; `texts` is the number of texts.
 #[inline(always)]
 fn shape_of(texts: usize, kind: u8, body: &[u8]) -> Option<Shape>
     requires { fits_body all_kinds kind (length body.now) ≡ true }
@@ -73,7 +73,7 @@ fn shape_of(texts: usize, kind: u8, body: &[u8]) -> Option<Shape>
     }
 }
 
-/// What stands at the front of the bytes, where there are so many texts.
+/// What stands at the front of the bytes; `texts` is the number of texts.
 #[inline(always)]
 pub(crate) fn front_of(texts: usize, bytes: &[u8]) -> Front
     ensures { IsFront texts bytes.now result }

@@ -35,7 +35,7 @@ pub(crate) struct Gathered<W: ByteSink, S: Outset> {
 }
 
 impl<W: ByteSink, S: Outset> Gathered<W, S> {
-    /// Nothing is held. Conditions: the buffer is empty, with room for a piece.
+    /// Creates it with nothing held. Conditions: the buffer is empty, with room for a piece.
     pub fn new(device: W, held: Vec<u8>) -> Gathered<W, S>
         requires empty { held.items ≡ [] }
         requires room { MOST_GATHERED ≤ vec_capacity held }
@@ -50,7 +50,7 @@ impl<W: ByteSink, S: Outset> Gathered<W, S> {
         }
     }
 
-    /// The device comes back. What is held goes.
+    /// Returns the device, and drops what is held.
     pub fn into_device(self) -> W
         ensures { result ≡ self.device }
     {

@@ -51,9 +51,9 @@ fn run_with_buffer<R: ByteSource, W: ByteSink, S: Outset, B: App>(
     (answer, out.into_device())
 }
 
-/// Runs as `run` does, with few writes to the device, which comes back: output is held until it fills 65,536 bytes. Before each
-/// read of the stream, and before the answer, all output is with the device; where it fails, nothing is read any more, and
-/// `Write` has the bytes of the run that the device took. Each byte is given once.
+/// Runs as `run` does, with few writes to the device, which is returned: output is held until it fills 65,536 bytes. Before
+/// each read of the stream, and before the call returns, the device has all output. If the device fails, nothing is read any
+/// more, and `Write` has the bytes of the run that the device took. Each byte is given once.
 ///
 /// Conditions: nothing in stock holds a seat; nothing was read or failed yet.
 ///

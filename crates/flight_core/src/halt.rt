@@ -3,12 +3,12 @@
 /// Why a run goes no further.
 #[derive(Clone, Copy, Debug, PartialEq, Eq)]
 pub enum Halt {
-    /// What stands next is no record.
+    /// What comes next is no record.
     NoRecord,
     /// A read failed.
     Fault,
-    /// As many reads were made as may be.
+    /// The run made as many reads as it may.
     Bound,
-    /// A write failed, after so many bytes that the record leads to.
+    /// A write failed, after this many bytes of those that the record leads to.
     Unsent(u64),
 }

@@ -15,7 +15,7 @@ use app_host::{App, Host};
 use lc_model::ByteSink;
 use rpn_compiler::TablePair;
 
-/// Handles the next record, where a whole one is held, and answers how many bytes were written.
+/// Handles the next record, where a whole one is held, and returns how many bytes were written.
 #[inline(always)]
 pub(crate) fn handle_next<W: ByteSink, B: App>(
     records: &mut Records,

@@ -22,7 +22,7 @@ pub fn the_rest_says_the_end()
     ensures cut { EndsCut }
 {}
 
-/// So it is over every list of calls.
+/// The same holds for every list of calls.
 pub fn every_cutting_has_the_records_of_the_whole()
     ensures { EveryCutting }
 {}

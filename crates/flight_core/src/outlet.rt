@@ -23,7 +23,7 @@ pub(crate) trait Outlet<T: ByteSink> {
     fn held_in(out: &T) -> usize
         ensures { result ≡ length (held out.now) };
 
-    // As a sink it shows what the device has, and behind it what is held.
+    // As a sink it shows what the device has, and after it what is held.
     ghost shows: { (out : T) → T.sink out ≡ with_held (device out) (held out) };
     // Nothing is held, or the device still begins with what it had.
     ghost grows: { (out : T) (had : Option (List ℕ)) → Had had →

@@ -26,8 +26,8 @@ fn are_bytes(bytes: &[u8])
     }
 }
 
-/// Reads a piece of a stream, and holds it behind what is held. Answers whether one came: none does at the end. Condition: no
-/// longest record is held.
+/// Reads a piece of a stream, and appends it to what is held. Returns whether one came: none does at the end. Condition: fewer
+/// bytes than a longest record are held.
 pub(crate) fn take_piece<R: ByteSource>(
     records: &mut Records,
     room: &mut [u8],
@@ -60,8 +60,8 @@ pub(crate) fn take_piece<R: ByteSource>(
     }
 }
 
-/// Takes the next piece, behind all that was written so far, which is so many bytes: first the device is given what is held of
-/// it. A device that fails ends the run, and nothing is read.
+/// Takes the next piece. First the device is given what is held of the output so far, which is `written` bytes in all. A
+/// device that fails ends the run, and nothing is read.
 #[inline(never)]
 pub(crate) fn refill<R: ByteSource, T: ByteSink, O: Outlet<T>>(
     records: &mut Records,

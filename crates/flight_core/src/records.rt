@@ -17,9 +17,9 @@ use std::marker::Model;
 
 /// The records of a stream, whatever the pieces in which it comes.
 ///
-/// A piece is taken to the end of what is held, and each record is judged and handed out where it lies. The time of all
-/// calls is a constant for each byte and each call. Contracts see what is held (`Held`): its bytes, how many records were
-/// handed out, whether what comes next was found to be none, how many rule texts there are, and what was handed out last.
+/// A piece is appended to what is held, and each record is judged and handed out where it lies. The time of all calls is a
+/// constant for each byte and each call. Contracts see what is held (`Held`): its bytes, how many records were handed out,
+/// whether what comes next was found to be no record, how many rule texts there are, and what was handed out last.
 #[derive(Drop)]
 pub struct Records {
     window: Window,
@@ -44,8 +44,8 @@ impl Model for Records {
 }
 
 impl Records {
-    /// Nothing held of a stream, in which there may be halves of so many rule texts, numbered from 0. It takes all the
-    /// memory there will ever be; out of memory is the only error.
+    /// Creates it with nothing held, for a stream with halves of `texts` rule texts, numbered from 0. It allocates all memory
+    /// that it ever needs; out of memory is the only error.
     pub fn new(alloc: Global, texts: usize) -> Result<Records, AllocError>
         ensures { IfOk result (λ records. records ≡ nothing_held texts) }
     {
@@ -57,8 +57,8 @@ impl Records {
         })
     }
 
-    /// Takes a piece of the stream behind what is held, as much of it as leaves at most 73,739 bytes held, which are a longest
-    /// record and a piece of 8,192 bytes; and answers how much. Behind what is no record it takes nothing.
+    /// Takes a piece of the stream, and returns how many of its bytes it took: as many as leave at most 73,739 bytes held,
+    /// which are a longest record and a piece of 8,192 bytes. After what is no record it takes nothing.
     pub fn feed(&mut self, piece: &[u8]) -> usize
         ensures taken { result ≡ length (taken_of self.old piece.now) }
         ensures fed { self.new ≡ fed self.old piece.now }
@@ -69,7 +69,7 @@ impl Records {
     {
         let room = MOST_HELD - self.window.contents().len();
         if self.is_bad {
-            // Nothing comes, and none is lent from here on.
+            // Nothing is taken, and no record is lent from here on.
             self.window.add(&[]);
             return 0;
         }
@@ -78,8 +78,8 @@ impl Records {
         taken
     }
 
-    /// Takes off the record at the front and lends it from where it lies; or answers that what stands there is no record, now
-    /// and at each further call. None where no whole record is held, and what is held may yet become one.
+    /// Takes the record at the front and lends it from where it lies; or reports that what stands there is no record, now and
+    /// at each further call. `None` if no whole record is held, and what is held may yet become one.
     #[inline(always)]
     pub fn next(&mut self) -> Option<Found<'_>>
         ensures found { answer_in result ≡ next_answer self.old }

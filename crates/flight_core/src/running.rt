@@ -30,7 +30,7 @@ use schedules::Schedule;
 use std::alloc::Global;
 use std::mem::size_of_val;
 
-/// Whether the type fits in memory, as any does of which there is a value.
+/// Whether the type fits in memory: each type that has a value does.
 fn fits_in_memory<T>(none: &Option<T>) -> bool
     ensures { result ≡ true → FitsInMemory T.row }
 {
@@ -75,7 +75,8 @@ fn run_compiled<R: ByteSource, T: ByteSink, O: Outlet<T>, B: App>(
         (O.device out.new)) result }
     ensures bounded { (R.source reader.new).reads ≤ reads }
 {
-    // Always so, and known where it is compiled. It tells the proof that a host fits in memory, whatever its applications are.
+    // Always true, and known at compile time. From it the proof knows that a host fits in memory, whatever its applications
+    // are.
     if !host_fits::<B>() {
         return Err(RunError::Memory);
     }
@@ -99,7 +100,7 @@ fn run_compiled<R: ByteSource, T: ByteSink, O: Outlet<T>, B: App>(
     }
 }
 
-/// Runs as `run` does, with at most so many reads, 2^32 at most.
+/// Runs as `run` does, with at most this many reads, up to 2^32.
 pub fn run_within<R: ByteSource, W: ByteSink, B: App>(
     alloc: Global,
     texts: &[&[u8]],
@@ -171,9 +172,9 @@ pub(crate) fn run_texts<R: ByteSource, T: ByteSink, O: Outlet<T>, B: App>(
 
 /// Runs rule texts over a stream of records, and writes what the host's applications send.
 ///
-/// All texts are compiled first. All memory is taken before anything is read. The stream is read in pieces of up to 8,192
-/// bytes, and all whole records of a piece are handled before the next read; what a record leads to is written behind each
-/// call of an application and behind each event of `HOST`. The host is closed before the answer. At most 2^32 reads are made;
+/// All texts are compiled first. All memory is allocated before anything is read. The stream is read in pieces of up to 8,192
+/// bytes, and all whole records of a piece are handled before the next read; what a record leads to is written after each call
+/// of an application and after each event of `HOST`. The host is closed before the call returns. At most 2^32 reads are made;
 /// a read or a write that fails is not tried again. What was written before a fault stands.
 ///
 /// Conditions: nothing in stock holds a seat; nothing was read or failed yet.

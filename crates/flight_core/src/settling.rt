@@ -6,7 +6,7 @@ use crate::halt::Halt;
 use crate::outlet::Outlet;
 use lc_model::{ByteSink, DeviceFault};
 
-/// Gives the device what is held of the output so far, which is so many bytes: of none nothing is held.
+/// Gives the device what is held of the output so far, which is `written` bytes in all; if that is 0, nothing is held.
 pub(crate) fn settle<T: ByteSink, O: Outlet<T>>(out: &mut T, written: u128) -> Result<(), Halt>
     ensures { Settles written (O.device out.old) (O.device out.new) (O.held out.old)
         (O.held out.new) result }
@@ -20,8 +20,8 @@ pub(crate) fn settle<T: ByteSink, O: Outlet<T>>(out: &mut T, written: u128) -> R
     }
 }
 
-/// For which reason a run goes no further that meets this one: behind a record that is none all output is given first, and a
-/// device that fails then is the reason. One that has failed is not asked again.
+/// The reason for which a run ends that meets this one: after what is no record all output is given first, and if the device
+/// fails then, that is the reason. A device that has failed is not asked again.
 pub(crate) fn final_reason<T: ByteSink, O: Outlet<T>>(
     halt: Halt,
     out: &mut T,

@@ -13,7 +13,7 @@ pub(crate) const MOST_HELD: usize = 73_739;
 /// went at the front since the last move, so that moving costs a constant time a byte.
 const ROOM: usize = 2 * MOST_HELD;
 
-/// What is held, and behind it what went last. Contracts see both as lists.
+/// What is held, and what went last. Contracts see both as lists.
 #[derive(Drop)]
 pub(crate) struct Window {
     room: Vec<u8>,
@@ -39,7 +39,7 @@ impl Model for Window {
     ghost invariant = { λ w. IsWindow w.last w.start (vec_len w.room) (vec_capacity w.room) };
 }
 
-/// The first bytes go, so many, and the others move to the front.
+/// Removes the first `count` bytes, and moves the others to the front.
 #[cold]
 #[inline(never)]
 pub(crate) fn drop_front(bytes: &mut Vec<u8>, count: usize)
@@ -81,7 +81,7 @@ impl Window {
         &self.room[self.last..self.start]
     }
 
-    /// The first bytes held go, so many.
+    /// Takes the first `size` bytes of what is held.
     #[inline(always)]
     pub fn take(&mut self, size: usize)
         requires { size ≤ length self.old.held }
@@ -92,7 +92,7 @@ impl Window {
         self.start += size;
     }
 
-    /// Bytes come, for which there is room.
+    /// Appends bytes, for which there is room.
     pub fn add(&mut self, bytes: &[u8])
         requires { length self.old.held + length bytes.now ≤ MOST_HELD }
         ensures { self.new ≡ record { last = []; held = self.old.held ++ bytes.now } }

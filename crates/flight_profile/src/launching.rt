@@ -12,9 +12,9 @@ use lc_model::{ByteSink, ByteSource};
 use schedules::Schedule;
 use std::alloc::Global;
 
-/// Runs rule texts over a stream of records, as `flight_core::run_gathered` does, with four Limit Checkers, two schedulers with
-/// this schedule and two counters in stock: before each read of the stream, and before the answer, all output is with the
-/// device, which comes back. All memory is taken before anything is read.
+/// Runs rule texts over a stream of records, as `flight_core::run_gathered` does, with four Limit Checkers, two schedulers
+/// with this schedule and two counters in stock. Before each read of the stream, and before the call returns, the device has
+/// all output; the device is returned. All memory is allocated before anything is read.
 ///
 /// Conditions: nothing was read or failed yet.
 ///

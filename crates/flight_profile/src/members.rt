@@ -9,8 +9,11 @@ use tick_scheduler::Scheduler;
 /// An application of this profile.
 #[derive(Drop)]
 pub enum Member {
+    /// The application `LC`.
     Checker(LimitChecker),
+    /// The application `SCH`.
     Scheduler(Scheduler),
+    /// The application `COUNTER`.
     Counter(Counter),
 }
 

@@ -19,8 +19,8 @@ use schedules::Schedule;
 use std::alloc::{AllocError, Global};
 use tick_scheduler::Scheduler;
 
-/// One spare more, under this name. Conditions: that is its name, it holds no seat, and it is of this profile with this
-/// schedule; and so are those that are there. Out of memory is the only error.
+/// Adds a spare under this name. Conditions: that is its name, it holds no seat, and it is of this profile with this schedule;
+/// and so are those that are there. Out of memory is the only error.
 pub fn add<B: App>(
     stock: &mut Vec<B>,
     schedule: &Schedule,
@@ -44,7 +44,7 @@ pub fn add<B: App>(
     Ok(())
 }
 
-/// One Limit Checker more. Conditions and error as `add` has them.
+/// Adds a Limit Checker. Conditions and error are those of `add`.
 #[inline(never)]
 fn add_checker(
     alloc: Global,

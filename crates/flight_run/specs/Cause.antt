@@ -14,7 +14,7 @@ use Rattle.program_io.specs.declared.arguments.ArgumentsError.TheVariants as arg
 use Rattle.program_io.specs.declared.error.FileError.{FileError}
 use Rattle.program_io.specs.declared.error.FileError.TheVariants as file
 
--- want of memory is one fault, wherever it arose, and a run that stops at a rule text is stopped by the text
+-- lack of memory is one fault, wherever it arose, and a run that stops at a rule text is stopped by the text
 abbrev pub fault_of_words : WordsError → Fault
 fault_of_words words.Memory = Memory
 fault_of_words error = Words error

@@ -1,4 +1,4 @@
--- What the program does between its files and its answer: a run, and what is said of it. This project's own.
+-- What the program does between its files and its exit: a run, and what is printed of it. This project's own.
 use Rattle.std.specs.Prelude.{◌≡◌, ⊤, Result, Ok, Err}
 use Rattle.lc_model.specs.Host.Outcome.{Devices}
 use Rattle.lc_model.specs.Host.Promise.{Mission}
@@ -16,7 +16,7 @@ abbrev pub outcome_of : Result Report RunError → Result Done Fault
 outcome_of (Ok report) = Ok (Flown report)
 outcome_of (Err error) = Err (fault_of_run error)
 
--- a run of this mission over these devices keeps all promises of `run`, and this is what the program makes of its answer
+-- a run of this mission over these devices keeps all promises of `run`, and this is what the program makes of its result
 pub record Flies (m : Mission) (d : Devices) (outcome : Result Done Fault) : Type 0 where
   pub answer : Result Report RunError
   pub promises : Promises ⊤ (AreOwn m.schedule) m d answer

@@ -35,7 +35,7 @@ refused code Whole = codes "refused: " ++ decimal code
 refused code (At at) = codes "refused: " ++ (decimal code ++ (codes " at " ++ decimal at))
 refused code (Rule rule) = codes "refused: " ++ (decimal code ++ (codes " rule " ++ decimal rule))
 
--- one that is none is want of memory
+-- `None` stands for lack of memory
 abbrev pub text_line : Option TextRefusal → List ℕ
 text_line None = no_memory
 text_line (Some why) = refused (code_of why) (place_in (Some why))

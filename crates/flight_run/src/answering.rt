@@ -1,4 +1,4 @@
-//! What the process answers.
+//! The result and the exit status of the process.
 
 ghost use Rattle.std.specs.Prelude.{◌≡◌};
 ghost use Rattle.flight_run.specs.Answer.{IsSaid, status_by};
@@ -7,7 +7,7 @@ use crate::fault::Fault;
 use program_io::STANDARD_OUTPUT;
 use std::io;
 
-/// What was done is said, or standard output can't be used.
+/// The result of printing what was done: a fault if standard output can't be used.
 pub fn print_result(printed: io::Result<()>) -> Result<(), Fault<'static>>
     ensures { IsSaid printed result }
 {
@@ -17,7 +17,7 @@ pub fn print_result(printed: io::Result<()>) -> Result<(), Fault<'static>>
     }
 }
 
-/// The exit status: 0 where there is no fault.
+/// The exit status: 0 if there is no fault.
 pub fn status_by(answer: &Result<(), Fault<'_>>) -> u8
     ensures { result ≡ status_by answer.now }
 {

@@ -10,7 +10,8 @@ use program_io::{Disk, check_apart, read_text, write_file};
 use rpn_compiler::compile;
 use std::alloc::Global;
 
-/// Compiles the rule text of a file into two table files, that of watchpoints first. None of the three is another.
+/// Compiles the rule text of a file into two table files, that of watchpoints first. A file that is another of the three is a
+/// fault.
 pub fn compile_files<'a, D: Disk>(
     alloc: Global,
     disk: &mut D,

@@ -7,10 +7,10 @@ use lc_model::mids;
 use lc_model::packet::{first_packet, message_id};
 use std::fmt::{self, Display, Formatter, Write};
 
-/// What was done, with what is said of it.
+/// What was done. Its `Display` is what the program prints on standard output.
 #[derive(Drop)]
 pub enum Done {
-    /// The stored run, with the packets that it wrote, one behind the other.
+    /// The stored run, with the packets that it wrote, one after the other.
     Stored(Vec<u8>),
     /// A rule text was compiled into two files.
     Compiled { watchpoints: u16, rules: u16 },
@@ -18,7 +18,7 @@ pub enum Done {
     Flown(Report),
 }
 
-/// A packet in hexadecimal on a line.
+/// Writes a packet in hexadecimal on a line.
 fn say_packet<W: Write>(packet: &[u8], f: &mut Formatter<W>) -> fmt::Result {
     for byte in packet {
         write!(f, "{byte:02x}")?;
@@ -26,7 +26,7 @@ fn say_packet<W: Write>(packet: &[u8], f: &mut Formatter<W>) -> fmt::Result {
     writeln!(f)
 }
 
-/// Each sequence request among packets, on a line each.
+/// Writes each sequence request among packets, on a line each.
 fn say_requests<W: Write>(packets: &[u8], f: &mut Formatter<W>) -> fmt::Result {
     let mut rest = packets;
     for _ in 0..packets.len() {

@@ -25,7 +25,7 @@ pub enum Fault<'a> {
     File(&'a str),
     /// A run was stopped.
     Run(RunError),
-    /// No memory.
+    /// Out of memory.
     Memory,
 }
 

@@ -26,7 +26,7 @@ use std::fs::Files;
 use std::io::{Eprint, Print};
 use std::process::ExitCode;
 
-/// Does what the words say, the program's name first, and answers the exit status. What was done is said on standard output;
+/// Does what the words say, the program's name first, and returns the exit status. It prints what was done on standard output;
 /// what ends the program with another status than 0, in a line on standard error.
 pub fn main_on<R: Files + Print + Eprint + AllocGlobal>(rt: &R, words: &[&str]) -> u8 {
     let mut shell = Shell::new(rt);
@@ -57,7 +57,7 @@ fn obey<'a, D: Disk>(alloc: Global, disk: &mut D, words: &'a [&'a str]) -> Resul
     }
 }
 
-/// Says on standard error what the fault is, where there is one, and answers the status.
+/// Prints the fault on standard error, if there is one, and returns the status.
 fn tell<R: Eprint>(rt: &R, answer: &Result<(), Fault<'_>>) -> u8
     ensures { result ≡ status_by answer.now }
 {
@@ -67,7 +67,7 @@ fn tell<R: Eprint>(rt: &R, answer: &Result<(), Fault<'_>>) -> u8
     status_by(answer)
 }
 
-/// Does what the words of the command line say, and answers the exit status.
+/// Does what the words of the command line say, and returns the exit status.
 fn main(rt: HostRuntime) -> ExitCode {
     let own = match arguments_of(&rt) {
         Ok(own) => own,

@@ -9,7 +9,7 @@ use rpn_compiler::CompileError;
 use rule_lexer::LexError;
 use rule_parser::ParseError;
 
-/// What a refusal of a rule text is of.
+/// The part of a rule text that a refusal is about.
 #[derive(Clone, Copy)]
 pub enum RefusalPlace {
     /// The whole text.

@@ -36,7 +36,7 @@ fn schedule_in<'a, D: Disk>(
     Ok(schedule)
 }
 
-/// The same texts, lent.
+/// Lends the texts as slices.
 fn slices_of<'a>(alloc: Global, texts: &'a [Vec<u8>]) -> Result<Vec<&'a [u8]>, AllocError>
     ensures { IfOk result
         (λ slices. map (λ slice. slice.now) slices.items ≡ map (λ text. text.items) texts.now) }
@@ -48,9 +48,9 @@ fn slices_of<'a>(alloc: Global, texts: &'a [Vec<u8>]) -> Result<Vec<&'a [u8]>, A
     Ok(slices)
 }
 
-/// All that the program does between its files and its answer, over any reader and any device, which comes back: the host runs
-/// with four Limit Checkers, two schedulers and two counters in stock. What is answered is said by its `Display`, and ends the
-/// program with its status. Conditions: nothing was read or failed yet.
+/// All that the program does between its files and its exit, over any reader and any device, which is returned: the host runs
+/// with four Limit Checkers, two schedulers and two counters in stock. The program prints the result by its `Display`, and
+/// exits with its status. Conditions: nothing was read or failed yet.
 pub fn run_devices<'a, R: ByteSource, W: ByteSink + Drop>(
     alloc: Global,
     texts: &[&[u8]],
@@ -73,9 +73,8 @@ pub fn run_devices<'a, R: ByteSource, W: ByteSink + Drop>(
     }
 }
 
-/// The files of rule texts, a schedule and a stream are opened in this order: the schedule, the texts, the stream, and what is
-/// written, which is none of them. Then the host runs, from the stream's file to the output's, each of whose bytes is given to
-/// the device once.
+/// Opens the files in this order: the schedule, the rule texts, the stream, and the output, which must be none of the others.
+/// Then the host runs from the stream's file to the output's; each byte of the output is given to the device once.
 pub fn run_files<'a, D: Disk>(
     alloc: Global,
     disk: &mut D,

@@ -10,7 +10,7 @@ use Rattle.flight_run_args.specs.declared.command_line.Plan.TheVariants.{Stored,
 abbrev pub file : Text → Rule
 file name = record (new_rule name) { required = true }
 
--- a file that has to be named, behind an option of that name
+-- a file that has to be named, after an option of that name
 abbrev pub option : Text → Rule
 option name = record (file name) { long = Some name }
 
@@ -27,7 +27,7 @@ run_command = with_rule (with_rule (with_rule (with_rule (new_app (codes "run"))
 abbrev pub command_line : App
 command_line = with_subcommand (with_subcommand (new_app (codes "flight_run")) compile_command.top) run_command.top
 
--- the command that these words give, with what stands behind it
+-- the command that these words give, with the words after it
 abbrev pub given : List Text → Option (Text × List Row)
 given words = subcommand_of command_line words
 
@@ -65,7 +65,7 @@ abbrev pub run_words : List Text
 run_words = codes "flight_run" ∷ codes "run" ∷ codes "--schedule" ∷ codes "schedule.txt" ∷ codes "--stream" ∷ codes "bus.stream" ∷ codes "--out" ∷ codes "packets"
     ∷ codes "rules.txt" ∷ codes "other.txt" ∷ []
 
--- options behind the files, and with `=`
+-- options after the files, and with `=`
 abbrev pub run_words_otherwise : List Text
 run_words_otherwise = codes "flight_run" ∷ codes "run" ∷ codes "rules.txt" ∷ codes "other.txt" ∷ codes "--out=packets" ∷ codes "--stream=bus.stream"
     ∷ codes "--schedule=schedule.txt" ∷ []

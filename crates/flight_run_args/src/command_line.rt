@@ -32,10 +32,10 @@ pub enum Plan<'a> {
     },
 }
 
-/// Why words are no plan.
+/// Why the words give no plan.
 #[derive(Clone, Copy, Debug, PartialEq, Eq, Error)]
 pub enum WordsError {
-    /// Neither command with its words; a request for help is refused, too.
+    /// The words are neither command with its files, or they ask for help.
     #[error("usage: flight_run [compile RULES WDT ADT or run --schedule S --stream IN --out OUT RULES..]")]
     Usage,
     /// No memory for the words.
@@ -51,7 +51,7 @@ impl From<AllocError> for WordsError {
     }
 }
 
-/// What is wrong with the words, or that there was no memory.
+/// `Memory` where there was no memory, and `Usage` for any other error of `clap`.
 fn refusal(error: Error) -> WordsError
     ensures { result ≡ Usage → kind_of error ≡ OutOfMemory → ⊥ }
 {
@@ -69,7 +69,7 @@ fn file_word<'a>(alloc: Global, name: &'a str) -> Arg<'a>
     Arg::new(alloc, name).required(true)
 }
 
-/// The word of a file that has to be named, behind an option of that name.
+/// The word of a file that has to be named, after an option of that name.
 fn option_word<'a>(alloc: Global, name: &'a str) -> Arg<'a>
     ensures rule { rule_of result ≡ option name.entry.now }
     ensures local { result.global ≡ false }
@@ -106,8 +106,8 @@ fn all_words<'a>(alloc: Global) -> Result<Command<'a>, AllocError>
         .subcommand(run)
 }
 
-/// Reads the words of a command line, the program's name first. Without words, or with the name alone, that is the stored run.
-/// Options stand anywhere among the files, as `--name value` or `--name=value`, each once; `--` ends them.
+/// Reads the words of a command line, the program's name first. Without words, or with the name alone, the plan is the stored
+/// run. Options stand anywhere among the files, as `--name value` or `--name=value`, each once; `--` ends them.
 ///
 /// Errors: `Usage`, where the words are neither command, or ask for help; `Memory`.
 pub fn read_words<'a>(alloc: Global, words: &'a [&'a str]) -> Result<Plan<'a>, WordsError>
@@ -145,7 +145,7 @@ fn file_of<'a>(found: &ArgMatches<'a>, name: &str) -> Result<&'a str, WordsError
     ensures some { IfOk result
         (λ word. first_of name.now (rows_of (found_of found.now)) ≡ Some word.now) }
     ensures none { OnErr result (first_of name.now (rows_of (found_of found.now)) ≡ None) }
-    // It takes no memory, so that it isn't refused for want of it.
+    // It allocates nothing, so it can't fail for lack of memory.
     ensures judged { IfErr result (λ error. error ≡ Usage) }
 {
     found.get_str(name).ok_or(WordsError::Usage)

@@ -1,5 +1,5 @@
-//! The second program: what a flight team looks at. Tables, streams, packets and runs as text, streams from scripts, and runs as
-//! they come.
+//! The second program, for a flight team: lists tables, streams, packets and runs as text, writes streams from scripts, and runs streams
+//! as they come.
 #![tactic(auto)]
 
 use program_io::{arguments_of, lend_words};
@@ -8,7 +8,7 @@ use std::process::ExitCode;
 use tool_commands::{main_on, tell};
 use tool_faults::Fault;
 
-/// Does what the words of the command line say, and answers the exit status.
+/// Does what the words of the command line say, and returns the exit status.
 fn main(rt: HostRuntime) -> ExitCode {
     let own = match arguments_of(&rt) {
         Ok(own) => own,

@@ -58,7 +58,7 @@ abbrev pub HoldsForm : List Row → RowWords → Type 0
 HoldsForm rows how = IsFlag (codes "csv") rows how.csv × IsFlag (codes "json") rows how.json
     × (first_of (codes "epoch") rows ≡ option_map (λ word. word.now) how.epoch)
 
--- these are all words of an option; there are none where it isn't given
+-- these are all words of an option; none if it isn't given
 abbrev pub HoldsWords : Text → List Row → List (Bor (List ℕ)) → Type 0
 HoldsWords id rows words = unwrap_or (all_of id rows) [] ≡ map (λ word. word.now) words
 
@@ -67,10 +67,11 @@ abbrev pub HoldsRows : Text × List Row → CommandPlan → Type 0
 HoldsRows found (Said error) = ⊥
 HoldsRows found (Table file watchpoints) = (found.0 ≡ codes "table")
     × (first_of (codes "FILE") found.1 ≡ Some file.now) × (first_of (codes "watchpoints") found.1 ≡ option_map (λ word. word.now) watchpoints)
-HoldsRows found (Stream file whole how) = (found.0 ≡ codes "stream")
-    × (first_of (codes "FILE") found.1 ≡ Some file.now) × IsFlag (codes "whole") found.1 whole × HoldsForm found.1 how
-HoldsRows found (Packets file how) = (found.0 ≡ codes "packets")
-    × (first_of (codes "FILE") found.1 ≡ Some file.now) × HoldsForm found.1 how
+HoldsRows found (Stream file rules whole how) = (found.0 ≡ codes "stream")
+    × (first_of (codes "FILE") found.1 ≡ Some file.now) × HoldsWords (codes "rules") found.1 rules.items
+    × IsFlag (codes "whole") found.1 whole × HoldsForm found.1 how
+HoldsRows found (Packets file rules how) = (found.0 ≡ codes "packets")
+    × (first_of (codes "FILE") found.1 ≡ Some file.now) × HoldsWords (codes "rules") found.1 rules.items × HoldsForm found.1 how
 HoldsRows found (Scenario script stream rules) = (found.0 ≡ codes "scenario")
     × (first_of (codes "SCRIPT") found.1 ≡ Some script.now) × (first_of (codes "STREAM") found.1 ≡ Some stream.now)
     × (first_of (codes "rules") found.1 ≡ option_map (λ word. word.now) rules)

@@ -1,36 +1,36 @@
-//! The commands and their words, as `clap` takes them and its help lists them.
+//! The commands and their words, as `clap` reads them and its help lists them.
 
 use clap::{Arg, ArgAction, Command};
 use lc_model::VERSION;
 use std::alloc::{AllocError, Global};
 
-/// What a command takes beside its files.
+/// The options and words of a command besides its files.
 #[derive(Clone, Copy)]
 enum More {
     Nothing,
-    /// The file with the watchpoints of a table of actionpoints.
+    /// The file with the watchpoints for a table of actionpoints.
     Watchpoints,
-    /// The rule text in whose words a script is.
+    /// The rule text whose names a script uses.
     Named,
-    /// Whether rows are wanted.
+    /// The form of rows.
     Rows,
-    /// Whether a script is wanted, or rows.
+    /// A script, or the form of rows.
     Whole,
-    /// Archives and a stream, and how they are imported.
+    /// Archives and a stream, and the options of an import.
     Imported,
-    /// Rule texts, one at least.
+    /// Rule texts, at least one.
     Rules,
     /// Rule texts, and whether a warning is a fault.
     Tried,
     /// Rule texts, and the instant of second 0.
     Dated,
-    /// Rule texts, and how they are checked.
+    /// Rule texts, and the options of a check.
     Checked,
     /// Further rule texts, which a stream may bring.
     Further,
 }
 
-/// A command: its word, what it does, the files that have to be named, with what each is, and what more it takes.
+/// A command: its word, its help, its required files with the help of each, and its other words.
 struct CommandEntry {
     word: &'static str,
     about: &'static str,
@@ -126,19 +126,19 @@ const ROWS: [CommandEntry; 11] = [
     },
 ];
 
-/// A file that has to be named.
+/// A required file.
 fn file_word<'a>(alloc: Global, name: &'a str, help: &'a str) -> Arg<'a> {
     Arg::new(alloc, name).required(true).help(help)
 }
 
-/// Rule texts, one at least.
+/// Rule texts, at least one.
 fn rule_words<'a>(alloc: Global) -> Arg<'a> {
     file_word(alloc, "RULES", "The rule texts, numbered from 0")
         .action(ArgAction::Append)
         .num_args(1..)
 }
 
-/// Further rule texts, behind an option.
+/// Further rule texts after an option.
 fn further_words<'a>(alloc: Global) -> Arg<'a> {
     option_word(
         alloc,
@@ -150,7 +150,17 @@ fn further_words<'a>(alloc: Global) -> Arg<'a> {
     .num_args(1..)
 }
 
-/// A file that may be named behind an option.
+/// Rule texts whose names a listing uses, each after the option.
+fn naming_words<'a>(alloc: Global) -> Arg<'a> {
+    option_word(
+        alloc,
+        "rules",
+        "A rule text whose names stand for numbers; may be given several times, for the texts 0, 1 and so on",
+    )
+    .action(ArgAction::Append)
+}
+
+/// An optional file after an option.
 fn option_word<'a>(alloc: Global, name: &'a str, help: &'a str) -> Arg<'a> {
     Arg::new(alloc, name).long(name).help(help)
 }
@@ -163,7 +173,7 @@ fn flag_word<'a>(alloc: Global, name: &'a str, help: &'a str) -> Arg<'a> {
         .help(help)
 }
 
-/// An import with its choices.
+/// An import with the options that choose packets.
 fn with_choices<'a>(alloc: Global, command: Command<'a>) -> Result<Command<'a>, AllocError> {
     command
         .arg(flag_word(
@@ -184,7 +194,7 @@ fn with_choices<'a>(alloc: Global, command: Command<'a>) -> Result<Command<'a>, 
         ))
 }
 
-/// An import with what it knows of time.
+/// An import with the options of times.
 fn with_times<'a>(alloc: Global, command: Command<'a>) -> Result<Command<'a>, AllocError> {
     command
         .arg(option_word(
@@ -223,15 +233,16 @@ fn epoch_word<'a>(alloc: Global) -> Arg<'a> {
     )
 }
 
-/// A listing with its rows.
+/// A listing with the texts whose names it uses, and its rows.
 fn with_rows<'a>(alloc: Global, command: Command<'a>) -> Result<Command<'a>, AllocError> {
     command
+        .arg(naming_words(alloc))?
         .arg(flag_word(alloc, "csv", "Writes comma-separated values"))?
         .arg(flag_word(alloc, "json", "Writes one JSON object a line"))?
         .arg(epoch_word(alloc))
 }
 
-/// Whether a warning is a fault.
+/// The option that makes a warning a fault.
 fn strict_word<'a>(alloc: Global) -> Arg<'a> {
     flag_word(
         alloc,
@@ -240,7 +251,7 @@ fn strict_word<'a>(alloc: Global) -> Arg<'a> {
     )
 }
 
-/// A check with how it is made.
+/// A check with its options.
 fn with_checks<'a>(alloc: Global, command: Command<'a>) -> Result<Command<'a>, AllocError> {
     command
         .arg(option_word(
@@ -269,7 +280,7 @@ fn archive_words<'a>(alloc: Global) -> Arg<'a> {
     .num_args(2..)
 }
 
-/// A command with what more it takes.
+/// A command with its other words.
 fn with_more<'a>(
     alloc: Global,
     command: Command<'a>,

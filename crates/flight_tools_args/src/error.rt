@@ -1,4 +1,4 @@
-//! Why words are no plan.
+//! The errors of reading a command line.
 
 ghost use Rattle.std.specs.Prelude.{◌≡◌};
 ghost use Rattle.flight_tools_args.specs.declared.error.WordsError.TheVariants.{Memory};
@@ -6,12 +6,12 @@ ghost use Rattle.flight_tools_args.specs.declared.error.WordsError.TheVariants.{
 use clap::Error;
 use std::alloc::{AllocError, AllocFailed};
 
-/// Why the words of a command line are no plan.
+/// Why the words of a command line are refused.
 #[derive(Debug, Drop)]
 pub enum WordsError {
-    /// What `clap` says of words that are no command.
+    /// The words aren't a command; the message is `clap`'s.
     Refused(Error),
-    /// No memory.
+    /// There is no memory.
     Memory,
 }
 

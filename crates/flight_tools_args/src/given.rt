@@ -9,7 +9,7 @@ use crate::plan::{CommandPlan, ImportWords, RowWords};
 use clap::ArgMatches;
 use std::alloc::{AllocError, Global};
 
-/// The plan of the command that was found, where no word of it is missing.
+/// The plan of the command that `clap` found; `None` if a word of it is missing. The only error is a lack of memory.
 pub fn given_plan<'a>(
     alloc: Global,
     matches: &ArgMatches<'a>,
@@ -37,8 +37,8 @@ fn plan_by<'a>(
 {
     match kind {
         CommandKind::Table => Ok(table_plan(found)),
-        CommandKind::Stream => Ok(stream_plan(found)),
-        CommandKind::Packets => Ok(packets_plan(found)),
+        CommandKind::Stream => stream_plan(alloc, found),
+        CommandKind::Packets => packets_plan(alloc, found),
         CommandKind::Scenario => Ok(scenario_plan(found)),
         CommandKind::Import => import_plan(alloc, found),
         CommandKind::Export => Ok(export_plan(found)),
@@ -58,7 +58,7 @@ fn file_of<'a>(found: &ArgMatches<'a>, name: &str) -> Option<&'a str>
     found.get_str(name)
 }
 
-/// The file of an option, where it is given.
+/// The value of an option, if it is given.
 fn option_value<'a>(found: &ArgMatches<'a>, name: &str) -> Option<&'a str>
     ensures { first_of name.now (rows_of (found_of found.now)) ≡
         option_map (λ word. word.now) result }
@@ -94,7 +94,7 @@ fn table_plan<'a>(found: &ArgMatches<'a>) -> Option<CommandPlan<'a>>
     })
 }
 
-/// Whether rows are wanted.
+/// The form of rows.
 fn row_words<'a>(found: &ArgMatches<'a>) -> RowWords<'a>
     ensures { HoldsForm (rows_of (found_of found.now)) result }
 {
@@ -105,23 +105,65 @@ fn row_words<'a>(found: &ArgMatches<'a>) -> RowWords<'a>
     }
 }
 
-fn stream_plan<'a>(found: &ArgMatches<'a>) -> Option<CommandPlan<'a>>
+/// All words of an option that may be given several times; none where it isn't given.
+fn option_values<'a>(
+    alloc: Global,
+    found: &ArgMatches<'a>,
+    name: &str,
+) -> Result<Vec<&'a str>, AllocError>
+    ensures { IfOk result (λ words. HoldsWords name.now (rows_of (found_of found.now)) words.items) }
+{
+    match found.get_strs(name) {
+        Some(words) => Ok(Vec::from_slice(alloc, words)?),
+        None => Ok(Vec::new(alloc)),
+    }
+}
+
+/// The plan of a stream that is listed with the names of these rule texts.
+fn stream_of<'a>(found: &ArgMatches<'a>, rules: Vec<&'a str>) -> Option<CommandPlan<'a>>
+    requires { HoldsWords (codes "rules") (rows_of (found_of found.now)) rules.items }
     ensures { IfSome result (HoldsRows (codes "stream", rows_of (found_of found.now))) }
 {
     Some(CommandPlan::Stream {
         file: file_of(found, "FILE")?,
+        rules,
         whole: flag(found, "whole"),
         rows: row_words(found),
     })
 }
 
-fn packets_plan<'a>(found: &ArgMatches<'a>) -> Option<CommandPlan<'a>>
+fn stream_plan<'a>(
+    alloc: Global,
+    found: &ArgMatches<'a>,
+) -> Result<Option<CommandPlan<'a>>, AllocError>
+    ensures { IfOk result (λ plan. IfSome plan
+        (HoldsRows (codes "stream", rows_of (found_of found.now)))) }
+{
+    let rules = option_values(alloc, found, "rules")?;
+    Ok(stream_of(found, rules))
+}
+
+/// The plan of packets that are listed with the names of these rule texts.
+fn packets_of<'a>(found: &ArgMatches<'a>, rules: Vec<&'a str>) -> Option<CommandPlan<'a>>
+    requires { HoldsWords (codes "rules") (rows_of (found_of found.now)) rules.items }
     ensures { IfSome result (HoldsRows (codes "packets", rows_of (found_of found.now))) }
 {
     Some(CommandPlan::Packets {
         file: file_of(found, "FILE")?,
+        rules,
         rows: row_words(found),
     })
+}
+
+fn packets_plan<'a>(
+    alloc: Global,
+    found: &ArgMatches<'a>,
+) -> Result<Option<CommandPlan<'a>>, AllocError>
+    ensures { IfOk result (λ plan. IfSome plan
+        (HoldsRows (codes "packets", rows_of (found_of found.now)))) }
+{
+    let rules = option_values(alloc, found, "rules")?;
+    Ok(packets_of(found, rules))
 }
 
 fn scenario_plan<'a>(found: &ArgMatches<'a>) -> Option<CommandPlan<'a>>
@@ -134,7 +176,7 @@ fn scenario_plan<'a>(found: &ArgMatches<'a>) -> Option<CommandPlan<'a>>
     })
 }
 
-/// How archives are imported.
+/// The options of an import.
 fn import_words<'a>(found: &ArgMatches<'a>) -> ImportWords<'a>
     ensures { HoldsImport (rows_of (found_of found.now)) result }
 {
@@ -244,17 +286,6 @@ fn check_plan<'a>(
     }
 }
 
-/// The further rule texts; none where the option isn't given.
-fn further_of<'a>(alloc: Global, found: &ArgMatches<'a>) -> Result<Vec<&'a str>, AllocError>
-    ensures { IfOk result (λ texts. HoldsWords (codes "with") (rows_of (found_of found.now))
-        texts.items) }
-{
-    match found.get_strs("with") {
-        Some(texts) => Ok(Vec::from_slice(alloc, texts)?),
-        None => Ok(Vec::new(alloc)),
-    }
-}
-
 /// The plan of a comparison with these further rule texts.
 fn compare_of<'a>(found: &ArgMatches<'a>, further: Vec<&'a str>) -> Option<CommandPlan<'a>>
     requires { HoldsWords (codes "with") (rows_of (found_of found.now)) further.items }
@@ -276,11 +307,11 @@ fn compare_plan<'a>(
     ensures { IfOk result (λ plan. IfSome plan
         (HoldsRows (codes "compare", rows_of (found_of found.now)))) }
 {
-    let further = further_of(alloc, found)?;
+    let further = option_values(alloc, found, "with")?;
     Ok(compare_of(found, further))
 }
 
-/// The plan of a script that is tried with these rule texts.
+/// The plan of trying a script with these rule texts.
 fn try_of<'a>(found: &ArgMatches<'a>, rules: Vec<&'a str>) -> Option<CommandPlan<'a>>
     requires { all_of (codes "RULES") (rows_of (found_of found.now)) ≡
         Some (map (λ word. word.now) rules.items) }
@@ -308,7 +339,7 @@ fn try_plan<'a>(
     }
 }
 
-/// The plan of a run of these rule texts, as it comes.
+/// The plan of a live run of these rule texts.
 fn live_of<'a>(found: &ArgMatches<'a>, rules: Vec<&'a str>) -> Option<CommandPlan<'a>>
     requires { all_of (codes "RULES") (rows_of (found_of found.now)) ≡
         Some (map (λ word. word.now) rules.items) }

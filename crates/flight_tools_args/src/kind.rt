@@ -1,21 +1,32 @@
-//! Which command a word is.
+//! The commands by their words.
 
 ghost use Rattle.std.specs.Prelude.{◌≡◌, IfSome};
 ghost use Rattle.flight_tools_args.specs.Words.{word_of};
 
-/// A command.
+/// A command of `flight_tools` (docs/TOOLS.md).
 #[derive(Clone, Copy)]
 pub enum CommandKind {
+    /// `table`.
     Table,
+    /// `stream`.
     Stream,
+    /// `packets`.
     Packets,
+    /// `scenario`.
     Scenario,
+    /// `import`.
     Import,
+    /// `export`.
     Export,
+    /// `report`.
     Report,
+    /// `check`.
     Check,
+    /// `compare`.
     Compare,
+    /// `try`.
     Try,
+    /// `live`.
     Live,
 }
 
@@ -31,7 +42,7 @@ fn of_files(word: &str) -> Option<CommandKind>
     }
 }
 
-/// The command with this word that makes a stream or takes one apart.
+/// The command with this word that creates or exports a stream.
 fn of_streams(word: &str) -> Option<CommandKind>
     ensures { IfSome result (λ kind. word_of kind ≡ word.now) }
 {
@@ -43,7 +54,7 @@ fn of_streams(word: &str) -> Option<CommandKind>
     }
 }
 
-/// The command with this word that judges rules, or makes runs of them.
+/// The command with this word that judges rules or runs them.
 fn of_rules(word: &str) -> Option<CommandKind>
     ensures { IfSome result (λ kind. word_of kind ≡ word.now) }
 {
@@ -57,7 +68,7 @@ fn of_rules(word: &str) -> Option<CommandKind>
     }
 }
 
-/// The command with this word.
+/// The command with this word; `None` if there is none.
 pub fn kind_of(word: &str) -> Option<CommandKind>
     ensures { IfSome result (λ kind. word_of kind ≡ word.now) }
 {

@@ -1,4 +1,4 @@
-//! The words of a command line (this project's own), read by `clap`: which command is asked for, over which files, and how.
+//! Reads the words of a command line with `clap` (this project's own): the command, its files and its options.
 #![tactic(auto)]
 
 ghost use Rattle.std.specs.Prelude.{◌≡◌};
@@ -19,7 +19,7 @@ use clap::error::ErrorKind;
 use clap::{ArgMatches, Error};
 use std::alloc::{AllocError, Global};
 
-/// What is to be done where `clap` finds no command: help and the version are asked for, and other words are at fault.
+/// The plan if `clap` finds no command: to print the help or the version. Other words are refused.
 fn without_command<'a>(error: Error) -> Result<CommandPlan<'a>, WordsError>
     ensures { result ≡ answer_by (kind_of error) error }
 {
@@ -30,7 +30,7 @@ fn without_command<'a>(error: Error) -> Result<CommandPlan<'a>, WordsError>
     }
 }
 
-/// What `clap` says where a word of a command isn't there, which it refuses before.
+/// The error for a missing word of a command. `clap` refuses such words itself, so this isn't reached.
 fn missing_word(alloc: Global) -> Result<Error, AllocError> {
     all_words(alloc)?.error(ErrorKind::MissingRequiredArgument, "a word is missing")
 }
@@ -43,7 +43,7 @@ fn plan_of<'a>(alloc: Global, found: &ArgMatches<'a>) -> Result<CommandPlan<'a>,
     }
 }
 
-/// What `clap` finds in the words, or what it says of them.
+/// The command that `clap` finds in the words, or its error.
 fn found_in<'a>(
     alloc: Global,
     words: &'a [&'a str],
@@ -53,7 +53,7 @@ fn found_in<'a>(
 
 /// Reads the words of a command line, the program's name first. An option stands anywhere among the files; `--` ends them.
 ///
-/// Errors: `Refused` with what `clap` says of words that are none of the commands; `Memory`.
+/// Errors: `Refused` with the message of `clap` for words that aren't a command; `Memory`.
 pub fn read_words<'a>(alloc: Global, words: &'a [&'a str]) -> Result<CommandPlan<'a>, WordsError> {
     match found_in(alloc, words)? {
         Ok(found) => plan_of(alloc, &found),

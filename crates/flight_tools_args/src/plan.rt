@@ -1,45 +1,48 @@
-//! What the program is to do, as its words say it.
+//! The plan of a command line.
 
 use clap::Error;
 
-/// What the program is to do.
+/// The command to run, with its files and options (docs/TOOLS.md).
 #[derive(Drop)]
 pub enum CommandPlan<'a> {
-    /// `--help`, `help COMMAND` or `--version`: what `clap` says.
+    /// `--help`, `help COMMAND` or `--version`: prints the text of `clap`.
     Said(Error),
-    /// `table [--watchpoints WDT] FILE`: a table file as text, and what can be said of its actionpoints before any packet comes.
+    /// `table [--watchpoints WDT] FILE`: lists a table file as text, with the analysis of its actionpoints.
     Table {
         file: &'a str,
         watchpoints: Option<&'a str>,
     },
-    /// `stream [--whole] [ROWS] FILE`: the records of a stream as text, as a script that says all of them, or as rows.
+    /// `stream [--rules RULES].. [--whole] [ROWS] FILE`: lists the records of a stream as text, as a whole script, or as rows, with the
+    /// names of these rule texts.
     Stream {
         file: &'a str,
+        rules: Vec<&'a str>,
         whole: bool,
         rows: RowWords<'a>,
     },
-    /// `packets [ROWS] FILE`: the packets that a run wrote, as text or as rows.
+    /// `packets [--rules RULES].. [ROWS] FILE`: lists the packets that a run wrote, as text or as rows, with the names of these rule texts.
     Packets {
         file: &'a str,
+        rules: Vec<&'a str>,
         rows: RowWords<'a>,
     },
-    /// `scenario [--rules RULES] SCRIPT STREAM`: a script is made into a stream.
+    /// `scenario [--rules RULES] SCRIPT STREAM`: writes the stream of a script.
     Scenario {
         script: &'a str,
         stream: &'a str,
         rules: Option<&'a str>,
     },
-    /// `import [OPTIONS] RAW.. STREAM`: archives of space packets are made into a stream.
+    /// `import [OPTIONS] RAW.. STREAM`: imports archives of space packets to a stream.
     Import {
         files: Vec<&'a str>,
         how: ImportWords<'a>,
     },
-    /// `export STREAM RAW`: the packets of a stream, one behind the other.
+    /// `export STREAM RAW`: writes the packets of a stream, one after the other.
     Export {
         stream: &'a str,
         raw: &'a str,
     },
-    /// `report [--epoch INSTANT] SCHEDULE STREAM PAGE RULES..`: a run as a page.
+    /// `report [--epoch INSTANT] SCHEDULE STREAM PAGE RULES..`: writes a run as a page.
     Report {
         schedule: &'a str,
         stream: &'a str,
@@ -47,8 +50,7 @@ pub enum CommandPlan<'a> {
         rules: Vec<&'a str>,
         epoch: Option<&'a str>,
     },
-    /// `check [--schedule S] [--all] [--strict] [--json] RULES..`: what is wrong with rules, or can be said of them before any packet
-    /// comes.
+    /// `check [--schedule S] [--all] [--strict] [--json] RULES..`: reports the faults and warnings of rule texts.
     Check {
         schedule: Option<&'a str>,
         rules: Vec<&'a str>,
@@ -56,8 +58,8 @@ pub enum CommandPlan<'a> {
         strict: bool,
         json: bool,
     },
-    /// `compare SCHEDULE STREAM OLD NEW [--with TEXTS..]`: what comes of one of two rule texts alone, over a stream that may bring
-    /// further ones.
+    /// `compare SCHEDULE STREAM OLD NEW [--with TEXTS..]`: lists what only one of two rule texts leads to, over a stream that may bring
+    /// further texts.
     Compare {
         schedule: &'a str,
         stream: &'a str,
@@ -65,47 +67,47 @@ pub enum CommandPlan<'a> {
         new: &'a str,
         further: Vec<&'a str>,
     },
-    /// `try [--strict] SCRIPT SCHEDULE RULES..`: a run of a script, and whether what it expects comes.
+    /// `try [--strict] SCRIPT SCHEDULE RULES..`: runs a script, and reports whether its expectations are met.
     Try {
         script: &'a str,
         schedule: &'a str,
         rules: Vec<&'a str>,
         strict: bool,
     },
-    /// `live SCHEDULE RULES..`: a run over a stream as it comes, from standard input to standard output.
+    /// `live SCHEDULE RULES..`: runs a stream as it comes, from standard input to standard output.
     Live {
         schedule: &'a str,
         rules: Vec<&'a str>,
     },
 }
 
-/// Whether rows are wanted, as the words say it: `--csv` or `--json`, and `--epoch INSTANT`.
+/// The form of rows: `--csv` or `--json`, and `--epoch INSTANT`. Neither form means text.
 #[derive(Clone, Copy)]
 pub struct RowWords<'a> {
-    /// Comma-separated values.
+    /// `--csv`: comma-separated values.
     pub csv: bool,
-    /// An object a line.
+    /// `--json`: one JSON object per line.
     pub json: bool,
-    /// The instant of second 0.
+    /// The instant of second 0, as written.
     pub epoch: Option<&'a str>,
 }
 
-/// How archives are imported, as the words say it.
+/// The options of an import, as written.
 #[derive(Clone, Copy)]
 pub struct ImportWords<'a> {
-    /// A marker stands before each packet.
+    /// Whether a marker is before each packet.
     pub marked: bool,
-    /// Idle packets become records, too.
+    /// Whether idle packets become records.
     pub keep_idle: bool,
-    /// Packets with a fault become records, too.
+    /// Whether packets with a fault become records.
     pub keep_faulty: bool,
-    /// Message ids, parted by commas: these alone.
+    /// The only message ids that become records, separated by commas.
     pub only: Option<&'a str>,
-    /// The byte at which a packet's time stands.
+    /// The byte at which a packet's time begins, counted from 0.
     pub time_at: Option<&'a str>,
-    /// The seconds that are taken from each time.
+    /// The seconds that are subtracted from each time.
     pub epoch: Option<&'a str>,
-    /// The seconds from packet to packet, where they have no time.
+    /// The seconds from packet to packet, if packets have no times.
     pub step: Option<&'a str>,
     /// The seconds from tick to tick.
     pub tick: Option<&'a str>,

@@ -30,7 +30,7 @@ module _ {Image : Type 0} (images : Interpretation Image) where
   StartsGoWith = (moment : Moment) (state : AppState) (services : ServicesNow Image) → MayStart state →
       IfSome (next_start images moment state services) (λ (called : Called Image). GoesWith images called.state called.services)
 
-  -- and so does one that had a packet
+  -- and so does one that has handled a packet
   abbrev pub PacketsKeep : Type 0
   PacketsKeep = (moment : Moment) (state : AppState) (packet : List ℕ) (services : ServicesNow Image) → GoesWith images state services →
       IfSome (next_on_packet images moment state packet services) (λ (called : Called Image). GoesWith images called.state called.services)
@@ -61,7 +61,7 @@ module _ {Image : Type 0} (images : Interpretation Image) where
   CopiesServe = (packet : List ℕ) (own : LcOwn) (services : ServicesNow Image) → LcGoesWith images own services →
       next_lc_packet images packet own (lc_with own services) ≡ lc_packet by_counts images packet (lc_with own services)
 
-  -- so it is of every call
+  -- the same for every call
   abbrev pub PublishesFew : Type 0
   PublishesFew = (moment : Moment) (state : AppState) (packet : List ℕ) (services : ServicesNow Image) → GoesWith images state services →
       IfSome (next_on_packet images moment state packet services) (λ (called : Called Image). IsPublication packet called.published)

@@ -1,4 +1,4 @@
--- What commands to tables do to what is held under names.
+-- What commands to tables change under each name.
 use Rattle.std.specs.Prelude.{◌≡◌, ◌⊎◌, List, ℕ, map, Ok, IfOk}
 use Rattle.std.specs.List.{AllByRecursion}
 use Rattle.lc_model.specs.Name.{Name}
@@ -17,14 +17,14 @@ use Rattle.lc_model.specs.Services.Tables.{Table, TableService, IsTableService, 
 abbrev pub HasKnownForm : Table → Type 0
 HasKnownForm table = (form_of table ≡ wdt_form) ⊎ (form_of table ≡ adt_form)
 
--- a command that moves a waiting image does to what is held under names what the host in numbers says
+-- a command that moves a waiting image changes what a name has as the host in numbers says
 abbrev pub MovesByName : Type 0
 MovesByName = (move : Move) (name : Name) (service : TableService) (services : ServicesNow (List ℕ)) → IsTableService service →
     services.slots ≡ slot_among service.places →
     managed_now (as_bytes layouts) (Manage move name) services
     ≡ (table_commanded (Manage move name) service >>= (λ after. Ok (record services { slots = slot_among after.places })))
 
--- and so does a load, where all tables are the Limit Checker's
+-- the same for a load, where all tables are the Limit Checker's
 abbrev pub LoadsByName : Type 0
 LoadsByName = (file : Name) (service : TableService) (services : ServicesNow (List ℕ)) → IsTableService service →
     AllByRecursion (λ (tables : List Table). AllByRecursion HasKnownForm tables) service.places →

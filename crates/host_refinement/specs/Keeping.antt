@@ -72,7 +72,7 @@ executive_by stock seats states subscriptions queues services = record {
 abbrev pub state_of : {State : Type 0} → Application State → Option State
 state_of {State} app = option_map (λ (r : Running State). r.state) app.running
 
--- what there is besides logs and sent packets: files, what runs, and how many spares there are
+-- a world but for its logs and sent packets: files, what runs, and how many spares there are
 pub record Standing (Image : Type 0) : Type 0 where
   pub files : List (Name × FileMeaning Image)
   pub lc : Option (Lc Image)
@@ -128,7 +128,7 @@ module _ {Image : Type 0} (images : Interpretation Image) (schedule : Schedule) 
   slots_in None name = None
   slots_in (Some lc) name = option_map (λ kind. slot_now kind lc) (kind_named name)
 
-  -- the numbers of what stands, with this effort, these senders and sequence counts
+  -- the numbers of the files and of what runs, with this effort, these senders and sequence counts
   abbrev pub numbers_by : Effort → Standing Image → (Name → Option EventState) → (ℕ → ℕ) → Numbers Image
   numbers_by effort s events counts = record {
     lc = option_map (lc_now images) s.lc;

@@ -1,4 +1,4 @@
--- The law of the host in numbers: it begins as the world does, each record keeps it so, and the same packets are written.
+-- The law of the host in numbers: it agrees with the world at the start and after each record, and writes the same packets.
 use Rattle.std.specs.Prelude.{◌≡◌, [], ◌∷◌, ◌++◌, ⊤, ℕ, ◌<◌, ◌≤◌, ◌^◌, List, length, map, IsTrue, None, IfSome, IfOk}
 use Rattle.std.specs.List.{AllByRecursion, concat}
 use Rattle.lc_model.specs.declared.record.Moment.{Moment}
@@ -51,19 +51,19 @@ abbrev pub IsShort : Schedule → Type 0
 IsShort schedule = AllByRecursion (λ (entries : List ScheduleEntry). length entries ≤ most_entries) schedule
 
 module _ {Image : Type 0} (images : Interpretation Image) (IsFine : Image → Type 0) (schedule : Schedule) where
-  -- both end together, with the same packets written
+  -- both agree after a step, and the same packets are written
   pub record SameStep (s : Written Image) (t : Sent Image) : Type 0 where
     pub keeps : KeepsTo images schedule t.0 s.0
     pub whole : IsWhole images IsFine t.0
     pub packets : s.1 ≡ t.1
 
-  -- a record keeps it so
+  -- each record keeps them together
   abbrev pub EachRecordKeeps : Type 0
   EachRecordKeeps = (moment : Moment) (w : World Image) (e : Executive Image) (input : Input Image) →
       IsShort schedule → KeepsTo images schedule w e → IsWhole images IsFine w → IsFineInput images IsFine input →
       SameStep (step_by images moment e input) (handled images schedule moment input w)
 
-  -- so it begins
+  -- they agree at the start
   abbrev pub BeginsSo : Type 0
   BeginsSo = (stock : List Member) → AllByRecursion (IsSpare images schedule) stock →
       let names : List Name = map (λ (member : Member). member.called) stock in
@@ -100,7 +100,7 @@ module _ {Image : Type 0} (images : Interpretation Image) where
     pub executive : executive_after e meanings (entries ++ entry ∷ [])
         ≡ (step_by images entry.moment (executive_after e meanings entries) (input_of meanings entry.contents)).0
 
-  -- so it is of every run
+  -- the same for every run
   abbrev pub RunsGoOn : Type 0
   RunsGoOn = (e : Executive Image) (meanings : FileMeanings Image) (entries : List StreamEntry) (entry : StreamEntry) → GoesOn e meanings entries entry
 
@@ -117,7 +117,7 @@ TermsAreTelemetry layouts = (wdt : List ℕ) → AreBytes wdt → IsSound layout
 
 -- ---- what a stream brings
 
--- a file of bytes, or the half of one of so many texts
+-- a file of bytes, or the half of one of this many texts
 abbrev pub IsBrought : ℕ → Contents → Type 0
 IsBrought texts (File name bytes) = AreBytes bytes
 IsBrought texts (Half name kind text) = text < texts
@@ -127,7 +127,7 @@ IsBrought texts other = ⊤
 abbrev pub AreBrought : ℕ → List StreamEntry → Type 0
 AreBrought texts entries = AllByRecursion (λ (entry : StreamEntry). IsBrought texts entry.contents) entries
 
--- so do the records of a stream of bytes
+-- the same for the records of a stream of bytes
 abbrev pub StreamsBring : Type 0
 StreamsBring = (texts : ℕ) (stream : List ℕ) → AreBytes stream → AreBrought texts (records_of texts stream).0
 

@@ -32,12 +32,12 @@ module _ {Image : Type 0} (images : Interpretation Image) where
     pub executive : (host_step images moment room host input).0.executive ≡ (step_by images moment host.executive input).0
     pub stays_open : (host_step images moment room host input).0.is_closed ≡ false
 
-  -- one whose writer takes the first bytes of it only, as many as it has room for
+  -- a host whose writer takes only the first bytes of it, as many as it has room for
   pub record TakesTheFirst (moment : Moment) (room : ℕ) (host : Host Image) (input : Input Image) (sent : ℕ) : Type 0 where
     pub all_the_room : sent ≡ room
     pub fewer : sent < length (concat (step_by images moment host.executive input).1)
 
-  -- by what it answers
+  -- by what the step returns
   abbrev pub TakesAsAnswered : Moment → ℕ → Host Image → Input Image → Option ℕ → Type 0
   TakesAsAnswered moment room host input None = TakesAll moment room host input
   TakesAsAnswered moment room host input (Some sent) = TakesTheFirst moment room host input sent

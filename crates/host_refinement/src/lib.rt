@@ -1,5 +1,5 @@
-//! The host in numbers keeps to the world, and over whole runs writes what is called for. Each function does nothing: it is a
-//! law. `app_host` and `flight_core` call those that their proofs need; those that say *to read* nobody calls.
+//! The host in numbers keeps to the world, and over whole runs writes what the rule texts call for. Each function does
+//! nothing: it is a law. `app_host` and `flight_core` call those that their proofs need; nothing calls those marked *to read*.
 #![tactic(auto)]
 
 ghost use Rattle.std.specs.Prelude.{List, ℕ};
@@ -16,7 +16,7 @@ ghost use Rattle.host_refinement.specs.Statements.{AreBytes, BeginsSo, EachRecor
 
 use lc_model::laws::table_services::table_services_go_by_names;
 
-/// With nothing running and the same stock, both begin alike.
+/// With nothing running and the same stock, the host in numbers and the world agree at the start.
 pub fn begins_as_the_world()
     ensures { (layouts : List Layout) (schedule : Schedule) →
         BeginsSo (as_bytes layouts) AreBytes schedule }
@@ -28,7 +28,7 @@ pub fn keeps_to_the_world()
         EachRecordKeeps (as_bytes layouts) AreBytes schedule }
 {}
 
-/// Part by part, what each record keeps. To read.
+/// What each record keeps, part by part. To read.
 pub fn each_part_is_kept()
     // The stored files, the registered tables with their slots, the senders of events with their types and filters, and each
     // message id's sequence count are the world's.
@@ -41,7 +41,7 @@ pub fn each_part_is_kept()
     ensures counts { (layouts : List Layout) (schedule : Schedule) →
         IsKept (as_bytes layouts) schedule AreBytes (HoldsCounts (as_bytes layouts) schedule) }
 
-    // An application has one seat where it runs, and none else; its object has the state that its lists come to.
+    // An application that runs has one seat, and any other none; its object has the state that its lists come to.
     ensures seats { (layouts : List Layout) (schedule : Schedule) →
         IsKept (as_bytes layouts) schedule AreBytes (RunsOnOneSeat (as_bytes layouts) schedule) }
     ensures states { (layouts : List Layout) (schedule : Schedule) →
@@ -54,18 +54,18 @@ pub fn each_part_is_kept()
         IsKept (as_bytes layouts) schedule AreBytes (PipesAreEmpty (as_bytes layouts) schedule) }
 {}
 
-/// Over whole runs it writes exactly what is called for. To read.
+/// Over whole runs the host in numbers writes exactly what the world sends. To read.
 pub fn writes_what_is_called_for()
     ensures { (layouts : List Layout) (schedule : Schedule) →
         WritesWhatIsCalledFor (as_bytes layouts) AreBytes schedule }
 {}
 
-/// What it writes for one record more comes behind all else.
+/// What the host in numbers writes for one record more comes after all else.
 pub fn goes_on()
     ensures { (layouts : List Layout) → RunsGoOn (as_bytes layouts) }
 {}
 
-/// A stream of bytes brings files of bytes and halves of its texts, and these are what the laws ask of records.
+/// A stream of bytes brings files of bytes and halves of its texts, and these meet the laws' premises on records.
 pub fn records_of_bytes_are_fine()
     ensures brought { StreamsBring }
     ensures fine { RecordsAreFine }
@@ -76,8 +76,8 @@ pub fn schedules_fit()
     ensures { SchedulesFit }
 {}
 
-/// Over a mission it writes exactly what the promise of `run` calls for: by the bytes of files, by the rule texts, and by one
-/// text whose tables stay.
+/// Over a mission the host in numbers writes exactly what the promise of `run` says: by the bytes of files, by the rule texts,
+/// and by one text whose tables stay.
 pub fn writes_a_mission()
     ensures bytes { (m : Mission) → WritesByBytes m }
     ensures texts { (m : Mission) → WritesByTexts m }
@@ -86,11 +86,11 @@ pub fn writes_a_mission()
 
 /// What an application's object means goes with the services of the host, from its start on.
 pub fn calls_go_with_services()
-    // An object that starts goes with the services that it leaves, and so does one that has a packet.
+    // After its start an object goes with the services, and so it does after each packet.
     ensures start { (layouts : List Layout) → StartsGoWith (as_bytes layouts) }
     ensures packet { (layouts : List Layout) → PacketsKeep (as_bytes layouts) }
 
-    // Calls of other applications keep it, and so do commands to services, stored files and what is sent.
+    // Calls of other applications keep this, and so do commands to services, stored files and what is sent.
     ensures others { (layouts : List Layout) → CallsKeepOthers (as_bytes layouts) }
     ensures host { (layouts : List Layout) → TheHostKeeps (as_bytes layouts) }
 
@@ -107,21 +107,21 @@ pub fn seats_go_with_services()
         SeatsGoWith (as_bytes layouts) AreBytes schedule }
 {}
 
-/// What one call asks to be written has 65,536 bytes at most. To read.
+/// One call asks to write at most 65,536 bytes. To read.
 pub fn calls_write_little()
     ensures start { (layouts : List Layout) → StartsWriteLittle (as_bytes layouts) }
     ensures packet { (layouts : List Layout) → WritesLittle (as_bytes layouts) }
 {}
 
 /// Write by write a host does what its step does, with at most 520 calls of `on_packet`; and where a write fails, what was
-/// written is the front of what the record leads to.
+/// written is the first part of what the record leads to.
 pub fn writes_are_the_steps()
     ensures packets { (layouts : List Layout) → WritesAreTheSteps (as_bytes layouts) }
     ensures calls { (layouts : List Layout) → CallsAreBounded (as_bytes layouts) }
     ensures taken { (layouts : List Layout) → OpenHostsTake (as_bytes layouts) }
 {}
 
-/// What every step keeps, whatever comes: the stored files are at most eight, each under a name of its own; no two seats have
+/// What every step keeps, for any input: the stored files are at most eight, each under a name of its own; no two seats have
 /// objects of one name; and a pipe is subscribed to what its object's state says, so that no other call can change that. To read.
 pub fn steps_keep_their_order()
     ensures files { (layouts : List Layout) → FilesStayAMap (as_bytes layouts) }

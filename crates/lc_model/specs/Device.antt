@@ -1,23 +1,23 @@
--- Sources and sinks: what they tell, what a read takes, and what a write adds. This project's own, in the words of Rust's
--- standard library for readers and writers: where bytes are known they stay known.
+-- Sources and sinks: what is known of them, what a read takes, and what a write adds. This project's own, in the words of
+-- Rust's standard library for readers and writers: where bytes are known they stay known.
 use Rattle.std.specs.Prelude.{◌≡◌, ℕ, ◌+◌, ◌-◌, ◌^◌, ◌<◌, ◌≤◌, Bool, true, min, List, length, take, Option}
 use Rattle.std.specs.Io.KnownBytes.{Appends, Consumes, IsAtEnd, Keeps}
 
 -- a source: the bytes that are left, or unknown; all reads so far, those that failed among them, up to 2 ^ 64 - 1; whether a
--- read has answered a fault
+-- read has returned a fault
 pub record Source : Type 0 where
   pub rest : Option (List ℕ)
   pub reads : ℕ
   pub failed : Bool
 
--- a sink: the bytes that were taken, or unknown; whether a write has answered a fault
+-- a sink: the bytes that were taken, or unknown; whether a write has returned a fault
 pub record Sink : Type 0 where
   pub gained : Option (List ℕ)
   pub failed : Bool
 
 -- ---- one call
 
--- one call more, of at most 2 ^ 64 - 1 that are counted
+-- one call more; the count stops at 2 ^ 64 - 1
 abbrev pub one_call_more : ℕ → ℕ
 one_call_more calls = min (calls + 1) (2 ^ 64 - 1)
 
@@ -46,7 +46,7 @@ pub record WriteFails (before now : Sink) : Type 0 where
 
 -- ---- all bytes
 
--- of these bytes the sink took the first, this many, and then failed
+-- the sink took this many of the bytes, the first ones, and then failed
 pub record IsCutShort (before now : Sink) (bytes : List ℕ) (sent : ℕ) : Type 0 where
   pub fewer : sent < length bytes
   pub gains : Appends before.gained now.gained (take sent bytes)

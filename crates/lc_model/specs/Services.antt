@@ -1,4 +1,4 @@
--- The services of the host, as lists: what each of their calls answers and changes.
+-- The services of the host, as lists: what each of their calls returns and changes.
 pub mod Bus
 pub mod Events
 pub mod EventCalls

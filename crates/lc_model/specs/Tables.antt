@@ -1,4 +1,4 @@
--- The tables of a rule text: equations, images, files, and what is asked of them.
+-- The tables of a rule text: equations, images, files, and their faults and meaning.
 pub mod Equation
 pub mod Compiling
 pub mod Lowering

@@ -15,7 +15,7 @@ pub const ALL_RULES: u16 = 0xFFFF;
 /// The function code of a sample request.
 const SAMPLE: u8 = 0;
 
-/// The bytes of a sample request: headers, first and last rule, whether the watchpoints age, and two that don't count.
+/// The bytes of a sample request: headers, first and last rule, whether the watchpoints age, and two that are ignored.
 const SAMPLE_SIZE: usize = 16;
 
 /// Why a command is refused.
@@ -27,7 +27,7 @@ pub enum CommandRefusal {
     /// The payload has another length than the command's.
     #[error("the payload has another length than the command's")]
     WrongLength,
-    /// The command names no rules that there may be.
+    /// The rules are neither all (0xFFFF twice) nor a range of a table's entries.
     #[error("the command names no rules that there may be")]
     BadIndex,
 }
@@ -52,6 +52,7 @@ pub struct SampleRequest {
     pub first: u16,
     /// The last rule, or 0xFFFF for all rules.
     pub last: u16,
+    /// Whether all watchpoints age by one after the sample.
     pub ages: bool,
 }
 
@@ -71,7 +72,7 @@ fn is_range(first: u16, last: u16) -> bool
     first == ALL_RULES && last == ALL_RULES || first <= last && usize::from(last) < TABLE_ENTRIES
 }
 
-/// The sample request in a command: code 0, then first and last rule, an age flag and two bytes that don't count. The
+/// The sample request in a command: code 0, then first and last rule, an age flag and two bytes that are ignored. The
 /// rules are all (0xFFFF twice) or a range below 176. Refusals are tried in the order of their numbers.
 pub fn sample_request(command: &[u8]) -> Result<SampleRequest, CommandRefusal>
     requires { command_header_size ≤ length command.now }

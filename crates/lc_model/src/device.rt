@@ -1,4 +1,4 @@
-//! Where a run's bytes come from and go to: sources, sinks, and their four implementers, none with memory of its own.
+//! Where a run's bytes come from and go to: sources, sinks, and their four implementers, none of which allocates.
 
 pub mod limited;
 pub mod pieces;
@@ -16,13 +16,13 @@ use thiserror::Error;
 #[error("the device failed")]
 pub struct DeviceFault;
 
-/// What gives bytes, in pieces of its own choice.
+/// A source of bytes, which chooses how many it gives at each read.
 pub trait ByteSource {
     // The bytes that are left, where they are known; the reads so far; and whether one failed.
     ghost source: { Self → Source };
 
-    /// Reads at least one byte into the front of the buffer and answers how many; 0 is the end of the source. A fault
-    /// moves no byte.
+    /// Reads bytes into the front of the buffer and returns how many: at least one, or 0 at the end of the source. A
+    /// fault moves no byte.
     fn read(&mut self, buffer: &mut [u8]) -> Result<usize, DeviceFault>
         requires { 0 < length buffer.old }
         ensures read { IfOk result
@@ -34,17 +34,17 @@ pub trait ByteSource {
     fn reads(&self) -> u64
         ensures { result ≡ (source self.now).reads };
 
-    /// Whether a read has answered a fault.
+    /// Whether a read has returned a fault.
     fn failed(&self) -> bool
         ensures { result ≡ (source self.now).failed };
 }
 
-/// What takes bytes, as many at a time as it likes.
+/// A sink for bytes, which chooses how many it takes at each write.
 pub trait ByteSink {
     // The bytes that were taken, where they are known; and whether a write failed.
     ghost sink: { Self → Sink };
 
-    /// Takes at least one of the bytes, the first ones, and answers how many. A sink that can take none answers a fault,
+    /// Takes the first of the bytes, at least one, and returns how many. A sink that can take none returns a fault,
     /// which moves no byte.
     fn write(&mut self, bytes: &[u8]) -> Result<usize, DeviceFault>
         requires { 0 < length bytes.now }
@@ -52,7 +52,7 @@ pub trait ByteSink {
             (λ count. WritesSome (sink self.old) (sink self.new) count bytes.now) }
         ensures fault { OnErr result (WriteFails (sink self.old) (sink self.new)) };
 
-    /// Whether a write has answered a fault.
+    /// Whether a write has returned a fault.
     fn failed(&self) -> bool
         ensures { result ≡ (sink self.now).failed };
 }

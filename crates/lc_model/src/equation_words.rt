@@ -1,4 +1,4 @@
-//! The words of an equation that are no watchpoint's number (this project's own).
+//! The words of an equation that are operators or its end (this project's own). Any other word is a watchpoint's number.
 
 /// Both operands.
 pub const AND: u16 = 0xFF01;
@@ -6,7 +6,7 @@ pub const AND: u16 = 0xFF01;
 /// At least one operand.
 pub const OR: u16 = 0xFF02;
 
-/// One operand alone.
+/// Exactly one operand.
 pub const XOR: u16 = 0xFF03;
 
 /// The opposite of the operand.

@@ -116,8 +116,8 @@ pub fn stream_fault(bytes: &[u8]) -> Option<u8>
     None
 }
 
-/// The first of packets that stand one behind the other, and what stands behind it; none where the bytes are no whole packet. Of
-/// its header the length alone is read.
+/// The first of packets that follow one another, and the bytes after it; `None` where the bytes don't begin with a whole
+/// packet. Of its header only the length is read.
 pub fn first_packet(packets: &[u8]) -> Option<(&[u8], &[u8])>
     ensures whole { is_some result ≡ (nat_le primary_header_size (length packets.now) &&
         nat_le (number.u16_at packets.now 4 + length_offset) (length packets.now)) }
@@ -133,7 +133,7 @@ pub fn first_packet(packets: &[u8]) -> Option<(&[u8], &[u8])>
 
 // ---- writing
 
-/// The sequence count behind this one.
+/// The sequence count after this one; 0 after 16,383.
 pub fn next_count(count: u16) -> u16
     requires { count < COUNT_END }
     ensures next { result ≡ (count + 1) % COUNT_END }

@@ -40,8 +40,8 @@ pub fn body_size(bytes: &[u8]) -> usize
     u32_at(bytes, 7) as usize
 }
 
-/// Whether a record of this kind may have a body of so many bytes: 1, a packet, any to 65,536; 2, a tick, none; 3, a file, a name
-/// and more, to 65,536; 4, a half of a rule text, 43.
+/// Whether a record of this kind may have a body of this many bytes: 1, a packet, up to 65,536; 2, a tick, 0; 3, a file, 40 to
+/// 65,536; 4, a half of a rule text, 43.
 pub fn fits_body(kind: u8, size: usize) -> bool
     ensures exact { result ≡ fits_body all_kinds kind size }
     ensures longest { result ≡ true → size ≤ max_body }

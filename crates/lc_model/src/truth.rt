@@ -3,10 +3,12 @@
 ghost use Rattle.std.specs.Prelude.{◌≡◌};
 ghost use Rattle.lc_model.specs.Truth.{truth_and, truth_or, truth_xor, truth_not};
 
-/// What a watchpoint or a condition is found to be.
+/// The result of a watchpoint or a condition.
 #[derive(Clone, Copy, Debug, Default, PartialEq, Eq)]
 pub enum Truth {
+    /// The comparison or condition holds.
     True,
+    /// It does not hold.
     False,
     /// Too long without a packet, or none yet.
     #[default]

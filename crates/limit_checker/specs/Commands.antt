@@ -31,7 +31,7 @@ abbrev pub refusal_number : Refused → ℕ
 refusal_number (Unread refusal) = command.refusal_number refusal
 refusal_number (Unobeyed refusal) = states.refusal_number refusal
 
--- an answer without a value, with the refusal's number
+-- a result without a value, with the refusal's number
 abbrev pub answered : Result (Unit {0}) Refused → Result (Unit {0}) Refusal
 answered (Ok done) = Ok tt
 answered (Err refusal) = Err (refusal_number refusal ∷ [])

@@ -1,5 +1,5 @@
--- The parts of a housekeeping request: the verdict on the image of a table, the pair that is adopted, and what is told. From the
--- cFS Limit Checker user's guide, table validation and adoption; the order of the steps is this project's own.
+-- The parts of a housekeeping request: the verdict on the image of a table, the pair that is adopted, and what is sent. From
+-- the cFS Limit Checker user's guide, table validation and adoption; the order of the steps is this project's own.
 use Rattle.std.specs.Prelude.{◌≡◌, ℕ, Bool, List, [], ◌∷◌, ◌++◌, map, if◌then◌else◌, Option, Some, None, is_some, IfSome, IsSomeAnd}
 use Rattle.lc_model.specs.declared.kind.Kind.{Kind}
 use Rattle.lc_model.specs.declared.kind.Kind.TheVariants.{Wdt, Adt}

@@ -27,7 +27,7 @@ sizes [] = 0
 sizes (request ∷ requests) = size_of request + sizes requests
 
 -- of a request for a sequence with the rule's own event, of what became of both tables and their adoption, and of the
--- housekeeping behind it
+-- housekeeping after it
 abbrev pub largest_request : ℕ
 largest_request = sequence_request_size + event_packet_size
 

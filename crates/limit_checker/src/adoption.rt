@@ -1,4 +1,5 @@
-//! The tables in force change where a pair of images is activated that belong together (cFS Limit Checker user's guide, tables).
+//! Adoption: tables come into force when an image is activated and belongs together with that of the other table (cFS Limit
+//! Checker user's guide, tables).
 
 ghost use Rattle.std.specs.Prelude.{◌≡◌, ◌||◌, IfSome, IsTrue, is_some, if◌then◌else◌, option_map};
 ghost use Rattle.lc_model.specs.declared.kind.Kind.TheVariants.{Wdt, Adt};
@@ -84,8 +85,8 @@ pub(crate) fn belong_together(wdt: &ValidImage<'_>, adt: &ValidImage<'_>) -> boo
         && preamble::watchpoint_count(wdt.image()) == preamble::watchpoint_count(adt.image())
 }
 
-/// The pair that is to be adopted, if there is one: for each table the image that it would have, where an activated one waits at
-/// one of them, and both belong together.
+/// The pair that is to be adopted, if there is one: the activated image of each table, or else its active one. At least one of
+/// them is activated, and both belong together.
 fn pair_to_adopt<'a>(
     tables: &'a Tables,
     wdt: Slot,
@@ -125,9 +126,9 @@ fn take_activated(tables: &mut Tables, slot: Slot)
     }
 }
 
-/// Adopts the pair of images that is activated at a seat, if there is one that belongs together, and answers whether there is:
-/// the engine has these tables, without any history, what waits activated is taken, and the pipe hears the message ids of
-/// requests and of the new watchpoints alone.
+/// Adopts the pair of images of a seat (`pair_to_adopt`), and returns whether there is one: the engine has these tables,
+/// without any history, what waits activated is taken, and the pipe hears the message ids of requests and of the new
+/// watchpoints alone.
 pub(crate) fn adopt(engine: &mut Engine, services: &mut Services, seat: Seat) -> bool
     requires { MayRenew seat engine.old services.old }
     ensures answer { result ≡ is_some (pair_at seat services.old.tables) }

@@ -1,5 +1,5 @@
-//! The parts of the application, and how they answer packets (cFS Limit Checker user's guide), over the services that applications
-//! share.
+//! The parts of the application, and how they handle packets (cFS Limit Checker user's guide), over the services that
+//! applications share.
 
 ghost use Rattle.std.specs.Prelude.{◌≡◌, ◌+◌, ◌≤◌, true, [], ◌∷◌, length, map, None, IfOk, IfSome};
 ghost use Rattle.lc_model.specs.Events.Outgoing.{housekeeping_size};
@@ -38,8 +38,8 @@ pub(crate) struct Application {
 }
 
 impl Application {
-    /// An active Limit Checker without tables, on no seat. It takes all the memory there will ever be; out of memory is the only
-    /// error.
+    /// Creates an active Limit Checker without tables, on no seat. It allocates all memory that it ever needs; out of memory
+    /// is the only error.
     pub(crate) fn new(alloc: Global) -> Result<Application, AllocError>
         ensures own { IfOk result (λ lc. lc.engine ≡ without_tables) }
         ensures seat { IfOk result (λ lc. lc.seat ≡ None) }
@@ -89,7 +89,7 @@ impl Application {
         ensures answers { Answers self.old.seat self.old.engine self.new.engine packet.now
             services.old services.new }
     {
-        // For the proof: each call of the services keeps the rules of the interface, and what is told adds up from call to
+        // For the proof: each call of the services keeps the rules of the interface, and what is sent adds up from call to
         // call.
         seats_are_kept_by_the_rules();
         telling_goes_on();
@@ -123,7 +123,7 @@ impl Application {
         }
     }
 
-    /// How the Limit Checker and its rules stand is told (message id 0x08A7). Condition: room for the packet's 192 bytes.
+    /// Sends housekeeping: the mode, and the state and result of each rule (message id 0x08A7). Condition: room for 192 bytes.
     pub(crate) fn tell_standing(&self, services: &mut Services)
         requires sends { MaySend self.now.seat services.old }
         requires room { length services.old.outgoing + housekeeping_size ≤ outgoing_room }
@@ -137,8 +137,7 @@ impl Application {
         services.send_housekeeping(self.engine.mode(), standings.as_slice());
     }
 
-    /// The seat is given back, with the pipe, the sender of events and the tables that are there. Condition: nothing waits to be
-    /// written.
+    /// Gives the seat back, with its pipe, sender of events and tables. Condition: nothing waits to be written.
     pub(crate) fn leave(&mut self, services: &mut Services)
         requires home { IsHome self.old.seat self.old.engine services.old }
         requires idle { services.old.outgoing ≡ [] }

@@ -28,7 +28,7 @@ impl Model for AskedList {
 }
 
 impl AskedList {
-    /// Nothing. It takes all the memory there will ever be; out of memory is the only error.
+    /// Creates it empty. It allocates all memory that it ever needs; out of memory is the only error.
     pub(crate) fn new(alloc: Global) -> Result<AskedList, AllocError>
         ensures { IfOk result (λ asked. asked ≡ []) }
     {
@@ -43,7 +43,7 @@ impl AskedList {
         self.items.as_slice()
     }
 
-    /// Samples the rules that a request takes: what they ask for, in order, is what is there afterwards.
+    /// Samples the rules that a request names; afterwards the items are what they ask for, in order.
     pub(crate) fn sample(&mut self, engine: &mut Engine, request: &SampleRequest)
         ensures after { engine.new ≡ after_sample request.now engine.old }
         ensures asked { requests_in engine.old.rules self.new ≡

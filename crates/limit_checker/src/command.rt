@@ -44,7 +44,7 @@ impl Refused {
 }
 
 /// The command of a packet: code 0 without a payload, and codes 2, 3 and 4 with one of four bytes. Errors, the first that
-/// stands: `UnknownFunction`, `WrongLength`.
+/// holds: `UnknownFunction`, `WrongLength`.
 fn read(packet: &[u8]) -> Result<Command, CommandRefusal>
     requires { command_header_size ≤ length packet.now }
     ensures { read_of result ≡ lc_command (function_code packet.now) (payload packet.now) }

@@ -1,4 +1,4 @@
-//! Which packet is answered how (cFS Limit Checker user's guide: commands, housekeeping, samples, telemetry; the message ids are
+//! How each packet is handled (cFS Limit Checker user's guide: commands, housekeeping, samples, telemetry; the message ids are
 //! this project's own).
 
 ghost use Rattle.std.specs.Prelude.{◌≡◌};
@@ -12,7 +12,7 @@ use lc_model::mids;
 use lc_model::packet::message_id;
 
 impl Application {
-    /// A packet is answered by its message id: a command (0x18A4), a housekeeping request (0x18A5), a sample request (0x18A6), or
+    /// Handles a packet by its message id: a command (0x18A4), a housekeeping request (0x18A5), a sample request (0x18A6), or
     /// telemetry (0x0800 to 0x0FFF). Any other changes nothing.
     pub(crate) fn answer(&mut self, services: &mut Services, packet: &[u8])
         requires home { IsHome self.old.seat self.old.engine services.old }
@@ -21,7 +21,7 @@ impl Application {
         ensures answers { Answers self.old.seat self.old.engine self.new.engine packet.now
             services.old services.new }
     {
-        // For the proof: each call of the services keeps the rules of the interface, and what is told adds up from call to
+        // For the proof: each call of the services keeps the rules of the interface, and what is sent adds up from call to
         // call.
         seats_are_kept_by_the_rules();
         telling_goes_on();

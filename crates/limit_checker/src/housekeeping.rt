@@ -35,11 +35,11 @@ const HEADERS: usize = 8;
 pub(crate) struct Renewal {
     wdt: Verdict,
     adt: Verdict,
-    /// A pair of activated images is in force.
+    /// A pair of tables came into force, with an activated image in it.
     adopted: bool,
 }
 
-/// Whether a packet is a housekeeping request: code 0, without a payload. Errors, the first that stands: `UnknownFunction`,
+/// Whether a packet is a housekeeping request: code 0, without a payload. Errors, the first that holds: `UnknownFunction`,
 /// `WrongLength`.
 fn check_request(packet: &[u8]) -> Result<(), CommandRefusal>
     requires { command_header_size ≤ length packet.now }
@@ -54,8 +54,8 @@ fn check_request(packet: &[u8]) -> Result<(), CommandRefusal>
     Ok(())
 }
 
-/// Validates the images that a seat's owner is asked about, those of watchpoints first, and then adopts the pair that is
-/// activated, if there is one that belongs together.
+/// Validates the images that a seat's owner is asked about, those of watchpoints first, and then adopts the pair with an
+/// activated image, if there is one that belongs together.
 fn renew(engine: &mut Engine, services: &mut Services, seat: Seat) -> Renewal
     requires { MayRenew seat engine.old services.old }
     ensures { Renews seat engine.old engine.new services.old services.new result }
@@ -66,14 +66,14 @@ fn renew(engine: &mut Engine, services: &mut Services, seat: Seat) -> Renewal
     Renewal { wdt, adt, adopted }
 }
 
-/// That new tables are in force is told: event 2.
+/// Reports that new tables are in force: event 2.
 fn tell_adoption(adopted: bool, from: &Option<Seat>, services: &mut Services)
     requires sends { MaySend from.now services.old }
     requires room { length services.old.outgoing + event_packet_size ≤ outgoing_room }
     ensures told { Tells from.now lc_name (adoption_requests adopted) services.old services.new }
     ensures size { length services.new.outgoing ≤ length services.old.outgoing + event_packet_size }
 {
-    // For the proof: each call of the services keeps the rules of the interface, and what is told adds up from call to call.
+    // For the proof: each call of the services keeps the rules of the interface, and what is sent adds up from call to call.
     seats_are_kept_by_the_rules();
     telling_goes_on();
     if adopted {
@@ -82,14 +82,14 @@ fn tell_adoption(adopted: bool, from: &Option<Seat>, services: &mut Services)
     }
 }
 
-/// What became of the tables is told: events 10, 11 and 2.
+/// Reports what became of the tables: events 10, 11 and 2.
 fn tell_renewal(renewal: &Renewal, from: &Option<Seat>, services: &mut Services)
     requires sends { MaySend from.now services.old }
     requires room { length services.old.outgoing + largest_renewal ≤ outgoing_room }
     ensures told { Tells from.now lc_name (renewal_requests renewal.now) services.old services.new }
     ensures size { length services.new.outgoing ≤ length services.old.outgoing + largest_renewal }
 {
-    // For the proof: what is told adds up from call to call.
+    // For the proof: what is sent adds up from call to call.
     telling_goes_on();
     tell_verdict(Kind::Wdt, renewal.wdt, from, services);
     tell_verdict(Kind::Adt, renewal.adt, from, services);
@@ -97,8 +97,7 @@ fn tell_renewal(renewal: &Renewal, from: &Option<Seat>, services: &mut Services)
 }
 
 impl Application {
-    /// What became of the tables is told, and then how the Limit Checker and its rules stand: events 10, 11 and 2, and message id
-    /// 0x08A7.
+    /// Reports what became of the tables, and then the mode and the rules: events 10, 11 and 2, and message id 0x08A7.
     fn report(&self, renewal: &Renewal, services: &mut Services)
         requires sends { MaySend self.now.seat services.old }
         requires room { length services.old.outgoing + largest_report ≤ outgoing_room }
@@ -108,14 +107,15 @@ impl Application {
         ensures size { length services.new.outgoing ≤
             length services.old.outgoing + largest_report }
     {
-        // For the proof: what is told adds up from call to call.
+        // For the proof: what is sent adds up from call to call.
         telling_goes_on();
         tell_renewal(renewal, &self.seat, services);
         self.tell_standing(services);
     }
 
-    /// A housekeeping request (message id 0x18A5) is answered: what waits to be validated is, and what is activated and belongs
-    /// together is adopted; events 10, 11 and 2, and then housekeeping (message id 0x08A7). One that is refused: event 9.
+    /// Handles a housekeeping request (message id 0x18A5): validates the images for which that was asked, adopts a pair with
+    /// an activated image that belongs together, and reports this (events 10, 11 and 2) and then housekeeping (message id
+    /// 0x08A7). A refused request: event 9.
     pub(crate) fn housekeeping(&mut self, services: &mut Services, packet: &[u8])
         requires home { IsHome self.old.seat self.old.engine services.old }
         requires given { MayHave self.old.seat packet.now services.old }

@@ -18,14 +18,14 @@ use app_host::sending::telling_goes_on;
 use lc_model::{EventKind, Seat};
 use limit_engine::{Asked, Engine, Failure, Reactions, RuleEvent, Turn};
 
-/// The turn of a rule, if there is one, is told: event 5 or 6.
+/// Reports the turn of a rule, if there is one: event 5 or 6.
 fn tell_turn(rule: u16, turn: Option<Turn>, from: &Option<Seat>, services: &mut Services)
     requires sends { MaySend from.now services.old }
     requires room { length services.old.outgoing + turn_size turn ≤ outgoing_room }
     ensures told { Tells from.now lc_name (turn_requests rule turn) services.old services.new }
     ensures size { length services.new.outgoing ≤ length services.old.outgoing + turn_size turn }
 {
-    // For the proof: each call of the services keeps the rules of the interface, and what is told adds up from call to call.
+    // For the proof: each call of the services keeps the rules of the interface, and what is sent adds up from call to call.
     seats_are_kept_by_the_rules();
     telling_goes_on();
     match turn {
@@ -41,7 +41,7 @@ fn tell_turn(rule: u16, turn: Option<Turn>, from: &Option<Seat>, services: &mut 
     }
 }
 
-/// A rule's sequence is requested, and then its own event is told, with so many failures in a row.
+/// Requests a rule's sequence, and then sends the rule's own event, with the number of its failures in a row.
 fn request(rule: u16, run: u16, event: &RuleEvent<'_>, from: &Option<Seat>, services: &mut Services)
     requires sends { MaySend from.now services.old }
     requires short { length event.now.text.now < rule_text_size }
@@ -51,7 +51,7 @@ fn request(rule: u16, run: u16, event: &RuleEvent<'_>, from: &Option<Seat>, serv
         services.new }
     ensures size { length services.new.outgoing ≤ length services.old.outgoing + largest_request }
 {
-    // For the proof: each call of the services keeps the rules of the interface, and what is told adds up from call to call.
+    // For the proof: each call of the services keeps the rules of the interface, and what is sent adds up from call to call.
     seats_are_kept_by_the_rules();
     telling_goes_on();
     services.request_sequence(event.sequence);
@@ -108,7 +108,7 @@ fn tell_reactions(
     ensures size { length services.new.outgoing ≤ length services.old.outgoing + reactions_size
         reactions }
 {
-    // For the proof: what is told adds up from call to call.
+    // For the proof: what is sent adds up from call to call.
     telling_goes_on();
     tell_turn(rule, reactions.turn, from, services);
     match reactions.failure {
@@ -129,7 +129,7 @@ fn tell_item(engine: &Engine, item: &Asked, from: &Option<Seat>, services: &mut 
         (requests_at (slice_get engine.now.rules item.now.rule) item.now) }
     ensures sends { MaySend from.now services.new }
 {
-    // For the proof: what is told adds up from call to call.
+    // For the proof: what is sent adds up from call to call.
     telling_goes_on();
     let index = usize::from(item.rule);
     if index < engine.rule_count() {
@@ -153,7 +153,7 @@ pub(crate) fn tell_all(
     ensures size { length services.new.outgoing ≤ length services.old.outgoing + sizes
         (requests_in engine.now.rules asked.now) }
 {
-    // For the proof: what is told adds up from call to call.
+    // For the proof: what is sent adds up from call to call.
     telling_goes_on();
     for item in asked {
         tell_item(engine, item, from, services);

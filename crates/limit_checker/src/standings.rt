@@ -1,4 +1,4 @@
-//! How the rules stand, as housekeeping tells it (cFS Limit Checker user's guide; the layout is this project's own).
+//! How the rules stand, as housekeeping reports it (cFS Limit Checker user's guide; the layout is this project's own).
 
 ghost use Rattle.std.specs.Prelude.{◌≡◌, ◌≤◌, length, map};
 ghost use Rattle.lc_model.specs.Codes.{table_entries};

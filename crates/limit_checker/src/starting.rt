@@ -107,7 +107,7 @@ fn register_both(tables: &mut Tables, seat: Seat)
         .unwrap();
 }
 
-/// Puts the default files' tables in force, if there is a pair of them, and answers whether there is. Condition: the seat has both
+/// Puts the default files' tables in force, if they are a pair, and returns whether they are. Condition: the seat has both
 /// tables, without images.
 fn begin(engine: &mut Engine, tables: &mut Tables, seat: Seat) -> bool
     requires { tables_at seat tables.old.places ≡ new_wdt ∷ new_adt ∷ [] }
@@ -125,8 +125,8 @@ fn begin(engine: &mut Engine, tables: &mut Tables, seat: Seat) -> bool
     true
 }
 
-/// The application takes a free seat: with a pipe, a sender of events and its two tables; with the default files' tables in force
-/// where these are a pair; and event 1 tells whether. Conditions: as for each application's start.
+/// The application takes a free seat: with a pipe, a sender of events and its two tables; with the default files' tables in
+/// force if they are a pair; event 1 reports whether they are. Conditions: as for each application's start.
 pub(crate) fn take_seat(engine: &mut Engine, seat: Seat, services: &mut Services)
     requires { MayBeStarted seat lc_name (held_by services.old) }
     ensures rules { IsStarted seat lc_name (held_by services.old) (held_by services.new) }

@@ -1,4 +1,4 @@
-//! Events that are told seldom.
+//! Events that are sent rarely.
 
 ghost use Rattle.std.specs.Prelude.{◌≡◌, ◌+◌, ◌≤◌, [], ◌∷◌, length, IfSome};
 ghost use Rattle.lc_model.specs.Events.Outgoing.{event_packet_size, longest_event_text};
@@ -10,8 +10,8 @@ ghost use Rattle.app_host.specs.Telling.{Tells};
 use app_host::Services;
 use lc_model::{EventKind, Seat};
 
-/// An event of the seat's application, as `Services::tell` asks for it, with the code of all that in one place: where packets
-/// follow one another that lead to an event each, `tell` is called where they are seen.
+/// Sends an event of the seat's application as `Services::tell` does, with the code for that in one place. Where many packets
+/// may each lead to an event, `Services::tell` is called directly.
 #[inline(never)]
 pub(crate) fn tell(
     services: &mut Services,

@@ -76,7 +76,7 @@ pub(crate) fn command_done(code: u8) -> EventText
     text
 }
 
-/// Event 9, of type error: why a command or a request was not, in at most two numbers.
+/// Event 9, of type error: why a command or a request was refused, in at most two numbers.
 pub(crate) fn command_refused(numbers: &[u16]) -> EventText
     requires { length numbers.now ≤ 2 }
     ensures { Event lc_name 9 Error result ≡ request.lc_command_refused numbers.now }
@@ -123,7 +123,7 @@ pub(crate) fn rule_failed(own: &[u8], point: u16, run: u16, sequence: u16) -> Ev
     text
 }
 
-/// What is said of a rule by its number.
+/// A text about the rule with this number.
 fn about_point(point: u16, what: &[u8]) -> EventText
     requires { length what.now ≤ name_size }
     ensures { result ≡ request.numbered (codes "actionpoint") (point ∷ []) ++ what.now }

@@ -23,11 +23,11 @@ use tbl_service::{Slot, Stage, Tables};
 /// What was found of the image of a table.
 #[derive(Clone, Copy, Debug, PartialEq, Eq)]
 pub(crate) enum Verdict {
-    /// Nobody asked.
+    /// No validation was asked for.
     Unasked,
     /// It has no fault.
     Sound,
-    /// It has this one.
+    /// It has this fault.
     Faulty(TableFault),
 }
 
@@ -41,7 +41,7 @@ fn number_of(kind: Kind) -> u16
     }
 }
 
-/// What is found of the image that the owner of a table is asked about.
+/// The verdict on the image that the owner of a table is asked about.
 fn verdict_on(tables: &Tables, slot: Slot, kind: Kind) -> Verdict
     requires { IsTrue (is_some (table_at slot tables.now.places)) }
     ensures { verdict_seen result ≡ option_map (fault_on_board kind)
@@ -56,7 +56,7 @@ fn verdict_on(tables: &Tables, slot: Slot, kind: Kind) -> Verdict
     }
 }
 
-/// Validates the image that the owner of a table is asked about, and sets the verdict. Where nobody asks nothing changes.
+/// Validates the image that the owner of a table is asked about, and sets the verdict. If it is not asked, nothing changes.
 pub(crate) fn judge(tables: &mut Tables, slot: Slot, kind: Kind) -> Verdict
     requires { IsTrue (is_some (table_at slot tables.old.places)) }
     ensures after { tables.new ≡ slot_changed (validation kind) slot tables.old }
@@ -71,7 +71,7 @@ pub(crate) fn judge(tables: &mut Tables, slot: Slot, kind: Kind) -> Verdict
     verdict
 }
 
-/// The verdict on a table's image, if there is one, is told: event 10 or 11.
+/// Reports the verdict on a table's image, if there is one: event 10 or 11.
 pub(crate) fn tell_verdict(
     kind: Kind,
     verdict: Verdict,
@@ -83,7 +83,7 @@ pub(crate) fn tell_verdict(
     ensures told { Tells from.now lc_name (requests_of kind verdict) services.old services.new }
     ensures size { length services.new.outgoing ≤ length services.old.outgoing + event_packet_size }
 {
-    // For the proof: each call of the services keeps the rules of the interface, and what is told adds up from call to call.
+    // For the proof: each call of the services keeps the rules of the interface, and what is sent adds up from call to call.
     seats_are_kept_by_the_rules();
     telling_goes_on();
     match verdict {

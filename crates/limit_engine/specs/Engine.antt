@@ -1,5 +1,5 @@
--- What the engine does, in its own numbers: the counting form of `lc_model`. From the cFS Limit Checker user's
--- guide, watchpoint and actionpoint results.
+-- The calls of the engine, in the counting form of `lc_model`. From the cFS Limit Checker user's guide, watchpoint and
+-- actionpoint results.
 use Rattle.std.specs.Prelude.{ℕ, Bool, ◌&&◌, not, List, [], map, if◌then◌else◌}
 use Rattle.lc_model.specs.declared.field.Term.{Term}
 use Rattle.lc_model.specs.declared.mode.LcMode.TheVariants.{Active}
@@ -13,7 +13,7 @@ use Rattle.lc_model.specs.Kept.Next.{by_counts}
 use Rattle.lc_model.specs.Kept.Call.{telemetry_effort}
 use Rattle.lc_model.specs.Kept.Effort.{no_effort, sampled_words}
 
--- active and without tables, and no effort yet
+-- active and without tables, with 0 steps and 0 probes
 abbrev pub without_tables : LcOwn
 without_tables = record { mode = Active; terms = []; rules = []; watch = []; points = []; effort = no_effort }
 
@@ -21,7 +21,7 @@ without_tables = record { mode = Active; terms = []; rules = []; watch = []; poi
 abbrev pub fresh_point : Actionpoint → Point Tally
 fresh_point rule = record { state = rule.mode; past = by_counts.unsampled }
 
--- with these watchpoints and rules in force: nothing is seen or sampled yet
+-- with these watchpoints and rules in force: no packet seen and no rule sampled yet
 abbrev pub with_tables : List Term → List Actionpoint → LcOwn → LcOwn
 with_tables terms rules own = record own { terms = terms; rules = rules; watch = by_counts.unseen terms; points = map fresh_point rules }
 
@@ -32,11 +32,11 @@ after_telemetry packet own = record own {
   effort = telemetry_effort own (message_id packet);
 }
 
--- some watchpoint finds no field in the packet
+-- whether the packet is too short for the field of a watchpoint of its message id; false if the Limit Checker is disabled
 abbrev pub tells_short : List ℕ → LcOwn → Bool
 tells_short packet own = not (is_disabled own.mode) && is_short own.terms packet
 
--- the points after a sample of the rules that a request takes, and what is requested
+-- the points after a sample of the rules that a request takes, and the requests and events
 abbrev pub points_sampled : SampleRequest → LcOwn → List (Point Tally) × List Request
 points_sampled request own =
     if is_disabled own.mode then (own.points, []) else sampled_points by_counts request own.terms own.mode own.watch 0 own.rules own.points
@@ -45,7 +45,7 @@ points_sampled request own =
 abbrev pub aged : LcOwn → LcOwn
 aged own = record own { watch = if is_disabled own.mode then own.watch else by_counts.aged own.terms own.watch }
 
--- with so many words evaluated
+-- with this number of words evaluated
 abbrev pub with_steps : ℕ → LcOwn → LcOwn
 with_steps steps own = record own { effort = record { steps = steps; probes = own.effort.probes } }
 
@@ -53,7 +53,7 @@ with_steps steps own = record own { effort = record { steps = steps; probes = ow
 abbrev pub words_sampled : SampleRequest → LcOwn → ℕ
 words_sampled request own = if is_disabled own.mode then 0 else sampled_words request 0 own.rules own.points
 
--- after a sample of the rules that a request takes: all watchpoints age where it is asked for
+-- after a sample of the rules that a request takes; then all watchpoints age, if the request says so
 abbrev pub after_sample : SampleRequest → LcOwn → LcOwn
 after_sample request own =
     let sampled : LcOwn = with_steps (words_sampled request own) (record own { points = (points_sampled request own).0 }) in

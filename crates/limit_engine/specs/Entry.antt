@@ -30,7 +30,7 @@ rule_with entry condition = record {
 abbrev pub words_of : List ℕ → RuleEntry → List ℕ
 words_of words entry = slice_range words entry.start entry.end
 
--- in place of the condition of words that spell none; a Limit Checker keeps no such words
+-- stands for the condition of words that spell none; the tables in force have no such words
 abbrev pub no_condition : Condition
 no_condition = Watch (record { kind = U8; mid = 0; offset = 0; mask = 0; stale = 0; op = Less; value = pos 0 })
 
@@ -38,15 +38,15 @@ no_condition = Watch (record { kind = U8; mid = 0; offset = 0; mask = 0; stale =
 abbrev pub condition_in : List Term → List ℕ → RuleEntry → Condition
 condition_in terms words entry = unwrap_or (spelled_condition terms (words_of words entry)) no_condition
 
--- the rule that the entry is
+-- the rule of an entry with the condition that its words spell
 abbrev pub rule_in : List Term → List ℕ → RuleEntry → Actionpoint
 rule_in terms words entry = rule_with entry (condition_in terms words entry)
 
--- by the watchpoints' results the condition that the entry's words spell has this truth
+-- the condition that the entry's words spell has this truth, by the watchpoints' results
 abbrev pub HasTruth : List Term → List ℕ → List WatchResult → RuleEntry → Truth → Type 0
 HasTruth terms words watch entry truth = option_map (truth_by (truth_in terms watch)) (spelled_condition terms (words_of words entry)) ≡ Some truth
 
--- the entry's words lie among the words, and can be run
+-- the entry's words are among the words, and are a sound equation
 pub record IsRunnable (terms : List Term) (words : List ℕ) (entry : RuleEntry) : Type 0 where
   pub from : entry.start ≤ entry.end
   pub to : entry.end ≤ length words

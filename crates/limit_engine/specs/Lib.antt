@@ -1,8 +1,8 @@
--- what the contract of the engine names, for what stands above: its steps, what a sample asks for, and refusals
+-- named by the engine's contracts, for the crates above: the effects of its calls, reactions to a sample, and refusals
 pub mod Reactions
 pub mod Engine
 pub mod States
--- what its own functions and invariants name
+-- named by its own functions and invariants
 pub mod Ids
 pub mod Bytes
 pub mod Ranges

@@ -1,5 +1,5 @@
--- Comparisons as ranges: the bits of a field whose sign is turned are ordered as its numbers are, so each comparison holds of
--- those in a range, or of all others. This project's own.
+-- Comparisons as ranges: the bits of a field with the sign bit inverted have the order of its numbers, so each comparison holds
+-- for the bits in a range, or for all others. This project's own.
 use Rattle.std.specs.Prelude.{ℕ, ◌+◌, ◌-◌, ◌^◌, ◌%◌, Bool, true, false, nat_le, if◌then◌else◌, ℤ, pos, negsuc}
 use Rattle.lc_model.specs.declared.field.FieldType.{FieldType}
 use Rattle.lc_model.specs.declared.field.CmpOp.{CmpOp}
@@ -7,7 +7,7 @@ use Rattle.lc_model.specs.declared.field.CmpOp.TheVariants.{Less, LessOrEqual, N
 use Rattle.lc_model.specs.Field.{sign_weight}
 use Rattle.limit_engine.specs.declared.field.Range.{Range}
 
--- a number of the type as bits whose sign is turned
+-- a number of the type as bits with the sign bit inverted
 abbrev pub ordered : FieldType → ℤ → ℕ
 ordered kind (pos n) = sign_weight kind + n
 ordered kind (negsuc n) = sign_weight kind - (n + 1)
@@ -25,11 +25,11 @@ range_to NotEqual end = record { low = end; span = 0; flip = true }
 abbrev pub range_of : FieldType → CmpOp → ℤ → Range
 range_of kind op value = range_to op (ordered kind value)
 
--- outside where it is turned
+-- whether a comparison holds, by whether the bits are in the range; the flag turns it
 abbrev pub turned : Bool → Bool → Bool
 turned true within = if within then false else true
 turned false within = within
 
--- whether the comparison holds of these bits
+-- whether the comparison holds for these bits
 abbrev pub holds_in : Range → ℕ → Bool
 holds_in range bits = turned range.flip (nat_le ((bits + (2 ^ 32 - range.low)) % 2 ^ 32) range.span)

@@ -1,4 +1,4 @@
--- What is requested by what a sample leads to.
+-- The requests and events of a sample's reactions.
 use Rattle.std.specs.Prelude.{ℕ, ◌+◌, ◌<◌, ◌≤◌, ⊤, IsTrue, Bool, ◌||◌, List, [], ◌∷◌, ◌++◌, flat_map, slice_get, Option, Some, None, is_some}
 use Rattle.lc_model.specs.Count.{capped}
 use Rattle.lc_model.specs.Rule.{Actionpoint}
@@ -16,31 +16,31 @@ turn_requests n None = []
 turn_requests n (Some ToFail) = turned_to_fail n ∷ []
 turn_requests n (Some ToPass) = turned_to_pass n ∷ []
 
--- what is requested where there were enough failures in a row
+-- the requests and events for enough failures in a row
 abbrev pub failure_requests : Actionpoint → ℕ → Option Failure → List Request
 failure_requests rule n None = []
 failure_requests rule n (Some (Requested run)) = Sequence rule.sequence ∷ rule_failed rule n (capped run) ∷ []
 failure_requests rule n (Some LcPassive) = failed_lc_passive n ∷ []
 failure_requests rule n (Some Passive) = failed_passive n ∷ []
 
--- all that the rule requests, in order
+-- all requests and events of the rule with this number, in order
 abbrev pub requests_of : Actionpoint → ℕ → Reactions → List Request
 requests_of rule n reactions = turn_requests n reactions.turn ++ failure_requests rule n reactions.failure
 
--- where there is such a rule
+-- the same for an item; none if there is no such rule
 abbrev pub requests_at : Option Actionpoint → Asked → List Request
 requests_at None asked = []
 requests_at (Some rule) asked = requests_of rule asked.rule asked.reactions
 
--- what several of these rules request, in order
+-- the requests and events of several of these rules, in order
 abbrev pub requests_in : List Actionpoint → List Asked → List Request
 requests_in rules asked = flat_map (λ (a : Asked). requests_at (slice_get rules a.rule) a) asked
 
--- a rule asks for something
+-- there is a reaction
 abbrev pub asks : Reactions → Bool
 asks reactions = is_some reactions.turn || is_some reactions.failure
 
--- items of rules from this number on and below that one, in order, one of each rule that asks for something
+-- the items are of ascending rules from `from` to before `below`, and each has a reaction
 abbrev pub AreInOrder : (from below : ℕ) → List Asked → Type 0
 AreInOrder from below [] = ⊤
 AreInOrder from below (a ∷ asked) = (from ≤ a.rule) × (a.rule < below) × IsTrue (asks a.reactions) × AreInOrder (a.rule + 1) below asked

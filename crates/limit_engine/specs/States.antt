@@ -1,4 +1,4 @@
--- What a command makes of the mode and of the rules' states, and why it is refused.
+-- The mode and the rules' states after a command, and its refusal.
 use Rattle.std.specs.Prelude.{ℕ, [], ◌∷◌, Result, Ok, Err}
 use Rattle.lc_model.specs.Refusal.{Refusal}
 use Rattle.limit_engine.specs.declared.states.StateRefusal.{StateRefusal}
@@ -10,17 +10,17 @@ refusal_number BadIndex = 153
 refusal_number BadMode = 154
 refusal_number NotSettable = 155
 
--- an answer without a value, with the refusal's number
+-- a call's result, with the number of its refusal
 abbrev pub answered : Result (Unit {0}) StateRefusal → Result (Unit {0}) Refusal
 answered (Ok done) = Ok tt
 answered (Err refusal) = Err (refusal_number refusal ∷ [])
 
--- whether there is an answer, or else the refusal
+-- the result without its value
 abbrev pub outcome : {A : Type 0} → Result A Refusal → Result (Unit {0}) Refusal
 outcome (Ok x) = Ok tt
 outcome (Err refusal) = Err refusal
 
--- the answer, and what there was before where it is refused
+-- the value, or the one before if the command is refused
 abbrev pub unless_refused : {A : Type 0} → Result A Refusal → A → A
 unless_refused (Ok x) before = x
 unless_refused (Err refusal) before = before

@@ -1,5 +1,5 @@
-//! Actionpoints: the entries of their table, what is counted of each, and what a sample leads to (cFS Limit Checker
-//! user's guide, actionpoint definitions, statistics and evaluation; what is counted is this project's own).
+//! Actionpoints: the entries of their table, the counts of each, and the reactions to a sample (cFS Limit Checker user's
+//! guide, actionpoint definitions, statistics and evaluation; the counts are this project's own).
 
 ghost use Rattle.std.specs.Prelude.{◌≡◌, ℕ, if◌then◌else◌};
 ghost use Rattle.lc_model.specs.Condition.{Condition};
@@ -19,7 +19,7 @@ use std::marker::Model;
 /// The most bytes of an event's text.
 pub(crate) const TEXT_LENGTH: usize = 31;
 
-/// A rule as it lies in the actionpoint table.
+/// A rule of the actionpoint table.
 #[derive(Debug, Drop)]
 pub(crate) struct RuleEntry {
     /// The state that the rule begins in.
@@ -32,24 +32,24 @@ pub(crate) struct RuleEntry {
     pub(crate) event_id: u16,
     pub(crate) text: ArrayVec<u8, TEXT_LENGTH>,
     pub(crate) report: ReportMaxima,
-    /// Where its words begin among the words of all rules.
+    /// The index of its first word among the words of all rules.
     pub(crate) start: usize,
-    /// Where they end, without EQUAL.
+    /// The index after its last word before EQUAL.
     pub(crate) end: usize,
 }
 
-/// The state of a rule, and what is counted of its samples, up to 65,535.
+/// The state of a rule, its last result, and its counts of samples, each up to 65,535.
 #[derive(Clone, Copy, Debug)]
 pub(crate) struct Point {
     state: ApMode,
     last: Option<ApResult>,
-    /// Failures in a row.
+    /// Failures in a row, up to the newest result.
     run: u16,
-    /// Failures directly after a pass.
+    /// Turns to fail: failures directly after a pass.
     to_fail: u16,
-    /// Passes directly after a failure.
+    /// Turns to pass: passes directly after a failure.
     to_pass: u16,
-    /// How often enough failures in a row met the passive state.
+    /// Samples of the passive rule with enough failures in a row.
     quiet: u16,
 }
 
@@ -81,7 +81,7 @@ impl Model for Point {
 }
 
 impl Point {
-    /// Not sampled yet.
+    /// The point of a rule that was not sampled yet.
     pub(crate) fn at_start(state: ApMode) -> Point
         ensures { result ≡ record { state = state; past = by_counts.unsampled } }
     {
@@ -108,7 +108,7 @@ impl Point {
         self.last
     }
 
-    /// How many of the newest results in a row are failures, up to 65,535.
+    /// The failures in a row, up to the newest result.
     pub(crate) fn run(&self) -> u16
         ensures { result ≡ self.now.past.run }
     {
@@ -148,7 +148,7 @@ impl Point {
         }
     }
 
-    /// Rules that are disabled or off are not sampled.
+    /// Whether the rule is sampled: it is active or passive.
     pub(crate) fn is_sampled(&self) -> bool
         ensures { result ≡ is_on self.now.state }
     {
@@ -158,9 +158,9 @@ impl Point {
         }
     }
 
-    /// Counts a sample, and answers what it leads to.
+    /// Counts a sample and returns its reactions. Enough failures in a row make an active rule passive.
     pub(crate) fn sample(&mut self, rule: &RuleEntry, mode: LcMode, outcome: ApResult) -> Reactions
-        // Whatever the rule's number and condition.
+        // For any number and condition of the rule.
         ensures point { (n : ℕ) (c : Condition) →
             self.new ≡ (point_with (rule_with rule.now c) n mode outcome self.old).0 }
         ensures requests { (n : ℕ) (c : Condition) →
@@ -189,14 +189,14 @@ impl Point {
         }
     }
 
-    /// No failure and no turn: most samples are so.
+    /// Whether neither this result nor the last one is a failure: the sample has no reaction. This is the usual case.
     fn counts_nothing(&self, fails: u16, outcome: ApResult) -> bool
         ensures { result ≡ is_quiet fails outcome self.now.past.last }
     {
         0 < fails && !is_same(ApResult::Fail, outcome) && !was(ApResult::Fail, self.last)
     }
 
-    /// The newest result, which is no failure.
+    /// Stores a result that is not a failure.
     fn note(&mut self, outcome: ApResult)
         ensures { self.new ≡ noted outcome self.old }
     {
@@ -204,7 +204,7 @@ impl Point {
         self.last = Some(outcome);
     }
 
-    /// The turn that is reported of the newest result, with the counts up to it.
+    /// The turn that the newest result makes, if its count is not above the rule's maximum of reports.
     fn turn(&self, rule: &RuleEntry, before: Option<ApResult>, outcome: ApResult) -> Option<Turn>
         ensures { (n : ℕ) (c : Condition) →
             turn_requests n result ≡ next_turn_reports (rule_with rule.now c) n before outcome
@@ -225,7 +225,7 @@ impl Point {
         None
     }
 
-    /// One sample more.
+    /// Counts a sample and stores its result.
     fn count(&mut self, fails: u16, outcome: ApResult)
         ensures state { self.new.state ≡ self.old.state }
         ensures past { self.new.past ≡ tally_after fails outcome self.old.state self.old.past }
@@ -243,8 +243,8 @@ impl Point {
         self.last = Some(outcome);
     }
 
-    /// Enough failures in a row: an active rule becomes passive, and requests its sequence where the Limit Checker is
-    /// active. Of a rule that is passive already so many reports are made as it says.
+    /// The reaction to enough failures in a row. An active rule becomes passive, and requests its sequence if the Limit Checker
+    /// is active. A rule that is already passive is reported up to the rule's maximum.
     fn fail(&mut self, rule: &RuleEntry, mode: LcMode) -> Option<Failure>
         ensures past { self.new.past ≡ self.old.past }
         ensures state { (n : ℕ) (c : Condition) →
@@ -275,7 +275,7 @@ impl Point {
     }
 }
 
-/// A rule whose condition is true fails, and one whose condition is false passes.
+/// The result of a rule by its condition's truth: true is a failure, false a pass.
 pub(crate) fn result_of_truth(truth: Truth) -> ApResult
     ensures { result ≡ result_of truth }
 {

@@ -1,4 +1,4 @@
-//! The engine: its tables, and what it keeps of telemetry and samples (cFS Limit Checker user's guide).
+//! The engine: its tables, the results of watchpoints, and the states and counts of rules (cFS Limit Checker user's guide).
 
 ghost use Rattle.std.specs.Prelude.{◌≡◌, ◌<◌, ◌≤◌, [], length, vec_capacity, option_map, slice_get, Some, IfOk};
 ghost use Rattle.lc_model.specs.Codes.{rule_text_size};
@@ -29,14 +29,14 @@ use std::alloc::{AllocError, Global};
 use std::marker::Model;
 use table_validator::ValidImage;
 
-/// The most words of all equations: those of a table of version 2 are the longest, with 32.
+/// The most words of all equations: 32 for each rule, as in a table of version 2.
 pub(crate) const TABLE_WORDS: usize = 32 * TABLE_ENTRIES;
 
 /// The engine of a Limit Checker, with the tables in force.
 ///
-/// Watchpoints lie in groups by message id, actionpoints and words in flat tables in the order of their image. All memory is
-/// taken by `new`. Contracts see what it is in numbers: its mode, watchpoints and rules, what each watchpoint was found to
-/// be, each rule's state and counts, and what it tells of its own work.
+/// Watchpoints are in groups by message id, actionpoints and words in flat tables in the order of their image. `new` takes all
+/// the memory. Contracts see its mode, watchpoints and rules, each watchpoint's last result, each rule's state and counts, and
+/// its effort: the words evaluated and the message ids compared last.
 #[derive(Debug, Drop)]
 pub struct Engine {
     mode: LcMode,
@@ -46,7 +46,7 @@ pub struct Engine {
     points: Vec<Point>,
     words: Vec<u16>,
     plan: Plan,
-    /// The words that the last sample evaluated, and the comparisons of the last packet's message id.
+    /// The words that the last sample evaluated, and the message ids that the last packet's was compared with.
     steps: usize,
     probes: usize,
 }
@@ -75,25 +75,31 @@ impl Model for Engine {
         s.plan.roots };
 }
 
-/// How a rule stands: its state, and its last result, if it was sampled.
+/// A rule's state and last result.
 #[derive(Clone, Copy, Debug, PartialEq, Eq)]
 pub struct Standing {
+    /// Active, passive, disabled, or off for good.
     pub state: ApMode,
+    /// None before the first sample since adoption.
     pub last: Option<ApResult>,
 }
 
-/// What a rule's own event says, and the sequence that the rule requests.
+/// A rule's own event, and the sequence that the rule requests.
 #[derive(Clone, Copy, Debug)]
 pub struct RuleEvent<'a> {
+    /// The number of the requested command sequence.
     pub sequence: u16,
+    /// The type of the event.
     pub kind: EventKind,
+    /// The event id.
     pub id: u16,
-    /// At most 31 bytes.
+    /// The event's text as the table has it, at most 31 bytes.
     pub text: &'a [u8],
 }
 
 impl Engine {
-    /// An active Limit Checker without tables. It takes all the memory there will ever be; out of memory is the only error.
+    /// Creates an active Limit Checker without tables. It takes all the memory that the engine ever needs; the only error is
+    /// out of memory.
     pub fn new(alloc: Global) -> Result<Engine, AllocError>
         ensures { IfOk result (λ lc. lc ≡ without_tables) }
     {
@@ -110,7 +116,7 @@ impl Engine {
         })
     }
 
-    /// As new: active, without tables, and without any effort.
+    /// Returns to the state after `new`: active, without tables, with 0 steps and 0 probes.
     pub fn reset(&mut self)
         ensures { self.new ≡ without_tables }
     {
@@ -125,9 +131,9 @@ impl Engine {
         self.probes = 0;
     }
 
-    /// Puts these tables in force: nothing seen, nothing sampled, each rule in its default state. The mode stays, and so does
-    /// what is told of the last sample and the last packet. Conditions: a table of watchpoints and one of actionpoints, of
-    /// either version, with equal hashes and equal counts of watchpoints. It takes no memory.
+    /// Puts these tables in force: no packet seen, no rule sampled, each rule in its default state. The mode, `steps` and
+    /// `probes` stay. The images are a table of watchpoints and one of actionpoints, of either version, with equal hashes and
+    /// equal numbers of watchpoints. It takes no memory.
     pub fn adopt(&mut self, wdt: &ValidImage<'_>, adt: &ValidImage<'_>)
         requires wdt { wdt.now.kind ≡ Wdt }
         requires adt { adt.now.kind ≡ Adt }
@@ -145,7 +151,7 @@ impl Engine {
         );
     }
 
-    /// How many rules there are: at most as many as a table has entries.
+    /// The number of rules in force, at most `TABLE_ENTRIES`.
     pub fn rule_count(&self) -> usize
         ensures count { result ≡ length self.now.rules }
         ensures points { result ≡ length self.now.points }
@@ -154,7 +160,7 @@ impl Engine {
         self.entries.len()
     }
 
-    /// The watchpoints in force, as their table numbers them: at most as many as a table has entries.
+    /// The watchpoints in force, in the order of their table: at most `TABLE_ENTRIES`.
     pub fn watchpoints(&self) -> &[Term]
         ensures watchpoints { result.now ≡ self.now.terms }
         ensures few { length result.now ≤ TABLE_ENTRIES }
@@ -169,7 +175,7 @@ impl Engine {
         self.mode
     }
 
-    /// The words that the last sample evaluated, EQUAL included: at most 32 of each of 176 rules.
+    /// The words that the last sample evaluated, EQUAL included: at most 32 for each of 176 rules.
     pub fn steps(&self) -> usize
         ensures steps { result ≡ self.now.effort.steps }
         ensures few { result ≤ most_steps }
@@ -177,8 +183,8 @@ impl Engine {
         self.steps
     }
 
-    /// The message ids that the last packet of telemetry was compared with, three-way: one for an id that is watched, at most
-    /// eight for any other.
+    /// How many watched message ids the last telemetry packet's id was compared with: 1 if its id is watched, at most 8 if not,
+    /// and 0 if the Limit Checker is disabled. A comparison says less, equal or greater.
     pub fn probes(&self) -> usize
         ensures probes { result ≡ self.now.effort.probes }
         ensures few { result ≤ most_probes }
@@ -186,7 +192,7 @@ impl Engine {
         self.probes
     }
 
-    /// What the event of the rule with this number says, and the rule's sequence.
+    /// The own event and the sequence of the rule with this number.
     pub fn rule_event(&self, index: usize) -> RuleEvent<'_>
         requires { index < length self.now.rules }
         ensures sequence { (rule : Actionpoint) → slice_get self.now.rules index ≡ Some rule →
@@ -208,7 +214,7 @@ impl Engine {
         }
     }
 
-    /// How the rule with this number stands.
+    /// The state and the last result of the rule with this number.
     pub fn standing(&self, index: usize) -> Standing
         requires { index < length self.now.points }
         ensures state { option_map (λ point. point.state) (slice_get self.now.points index) ≡
@@ -223,7 +229,7 @@ impl Engine {
         }
     }
 
-    /// How many of the newest results in a row of the rule with this number are failures, up to 65,535.
+    /// The failures in a row, up to the newest result, of the rule with this number: at most 65,535.
     pub fn fails_in_a_row(&self, index: usize) -> u16
         requires { index < length self.now.points }
         ensures { option_map (λ point. point.past.run) (slice_get self.now.points index) ≡
@@ -232,8 +238,8 @@ impl Engine {
         self.points[index].run()
     }
 
-    /// A packet of telemetry: all watchpoints of its message id are found anew. Answers whether the field of one of them is
-    /// not in the packet. A disabled Limit Checker sees nothing.
+    /// Compares all watchpoints of the packet's message id. Returns whether the packet is too short for one of their fields. A
+    /// disabled Limit Checker compares nothing and returns false.
     pub fn telemetry(&mut self, packet: &[u8]) -> bool
         ensures after { self.new ≡ after_telemetry packet.now self.old }
         ensures short { result ≡ tells_short packet.now self.old }
@@ -247,10 +253,9 @@ impl Engine {
         watchpoint::see_group(found.group, self.watch.as_mut_slice(), packet)
     }
 
-    /// Samples the rules that the request takes, in order, those that are disabled or off aside; then, where it is asked for,
-    /// all watchpoints age. What the rules ask for is put into `asked`, which is empty and has room for one item of each rule: in
-    /// order, an item for each rule that asks for something, and none else.
-    /// A disabled Limit Checker samples and ages nothing.
+    /// Samples the active and passive rules that the request takes, in order; then ages all watchpoints, if the request says so.
+    /// Each rule that leads to a request or an event adds one item to `asked`, in the order of the rules. `asked` is empty
+    /// before, with room for `TABLE_ENTRIES` items. A disabled Limit Checker samples and ages nothing.
     pub fn sample(&mut self, request: &SampleRequest, asked: &mut Vec<Asked>)
         requires none { asked.old.items ≡ [] }
         requires room { TABLE_ENTRIES ≤ vec_capacity asked.old }
@@ -278,7 +283,7 @@ impl Engine {
         }
     }
 
-    /// Sets the mode of the Limit Checker: active (1), passive (2) or disabled (3).
+    /// Sets the mode of the Limit Checker: active (1), passive (2) or disabled (3). Any other number is `BadMode`.
     pub fn set_mode(&mut self, number: u16) -> Result<(), StateRefusal>
         ensures answer { answered result ≡ outcome (found (mode_numbered number) no_such_state) }
         ensures mode { self.new ≡
@@ -294,8 +299,8 @@ impl Engine {
         Ok(())
     }
 
-    /// Sets the state of the rule with this number, or of all rules (0xFFFF): active (1), passive (2) or disabled (3). What
-    /// was counted stays. A rule that is off for good stays so; where it is named itself, that is refused.
+    /// Sets the state of the rule with this number, or of all rules (0xFFFF): active (1), passive (2) or disabled (3). Counts
+    /// stay. A rule that is off for good stays so: a command for that rule alone is refused, one for all rules passes it over.
     pub fn set_state(&mut self, index: u16, number: u16) -> Result<(), StateRefusal>
         ensures answer { answered result ≡ outcome (states_set index number self.old.points) }
         ensures points { self.new ≡
@@ -307,7 +312,7 @@ impl Engine {
         states::set_state(self.points.as_mut_slice(), index, number)
     }
 
-    /// Turns the rule with this number off for good. It has to be disabled.
+    /// Turns the rule with this number off for good. A rule that is not disabled is refused with `NotSettable`.
     pub fn turn_permanently_off(&mut self, index: u16) -> Result<(), StateRefusal>
         ensures answer { answered result ≡
             outcome (one_set index turned_permanently_off self.old.points) }

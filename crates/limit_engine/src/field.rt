@@ -9,7 +9,7 @@ ghost use Rattle.limit_engine.specs.Ranges.{ordered, range_of, holds_in};
 use byteorder::{BigEndian, ByteOrder};
 use lc_model::{CmpOp, FieldType};
 
-/// Four bytes as a number, the high one first.
+/// Four bytes as a big-endian number.
 pub(crate) fn four_bytes(bytes: &[u8]) -> u32
     requires { length bytes.now ≡ 4 }
     ensures { result ≡ from_be_bytes w32 bytes.now }
@@ -17,14 +17,14 @@ pub(crate) fn four_bytes(bytes: &[u8]) -> u32
     BigEndian::read_u32(bytes)
 }
 
-/// Whether the field is the low end of four bytes, the high one first, that end where it does and lie in a packet that has it.
+/// Whether the field can be read as the low end of four big-endian bytes: it is big-endian and ends at byte 4 of the packet or later.
 pub(crate) fn is_by_four(kind: FieldType, need: usize) -> bool
     ensures { result ≡ is_by_four kind need }
 {
     !kind.is_little() && 4 <= need
 }
 
-/// The bits of a number of the type, the sign's turned, so that they are ordered as the numbers are.
+/// The bits of a number of the type with the sign bit inverted: as unsigned numbers they have the order of the numbers.
 fn order_key(kind: FieldType, value: i64) -> u32
     requires { IsTrue (is_in_type kind value) }
     ensures { result ≡ ordered kind value }
@@ -32,12 +32,13 @@ fn order_key(kind: FieldType, value: i64) -> u32
     (i64::from(kind.sign_weight()) + value) as u32
 }
 
-/// The bits with which the comparison holds, or those with which it doesn't: from the low end on, so many more.
+/// The range `low` to `low + span` of a field's bits in which a comparison holds, or outside which it holds. The sign bit is
+/// inverted.
 #[derive(Clone, Copy, Debug)]
 pub(crate) struct Range {
     pub(crate) low: u32,
     pub(crate) span: u32,
-    /// It holds outside.
+    /// The comparison holds outside the range.
     pub(crate) flip: bool,
 }
 
@@ -60,7 +61,7 @@ impl Range {
         Range { low, span, flip }
     }
 
-    /// Whether the comparison holds of bits whose sign is turned.
+    /// Whether the comparison holds for these bits, with the sign bit inverted.
     pub(crate) fn holds(&self, bits: u32) -> bool
         ensures { result ≡ holds_in self.now bits }
     {

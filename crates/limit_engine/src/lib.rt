@@ -1,5 +1,5 @@
-//! The engine of the Limit Checker (cFS Limit Checker user's guide): it watches packets of telemetry, ages what it has seen,
-//! samples the rules of the tables in force, and says what they ask for. It sends nothing.
+//! The engine of the Limit Checker (cFS Limit Checker user's guide): it compares packets of telemetry, ages the results, samples
+//! the rules of the tables in force, and returns their requests and events. It sends nothing.
 #![tactic(auto)]
 
 mod actionpoint;

@@ -1,7 +1,7 @@
-//! What a sampled rule leads to (cFS Limit Checker user's guide; what is counted, the maxima and the order of request and
-//! events are this project's own).
+//! The reactions to a sampled rule (cFS Limit Checker user's guide; the counts, the maxima and the order of request and events
+//! are this project's own).
 
-/// A turn that is reported.
+/// A turn that is reported with an event of `LC`.
 #[derive(Clone, Copy, Debug, PartialEq, Eq)]
 pub enum Turn {
     /// A failure directly after a pass: event 5.
@@ -10,27 +10,31 @@ pub enum Turn {
     ToPass,
 }
 
-/// What enough failures in a row lead to.
+/// The reaction to enough failures in a row.
 #[derive(Clone, Copy, Debug, PartialEq, Eq)]
 pub enum Failure {
-    /// The rule's sequence is requested, and then its own event, with so many failures in a row.
+    /// The sequence request, and then the rule's own event with this number of failures in a row, up to 65,535.
     Requested(u16),
-    /// The rule was active, and the Limit Checker passive: event 3.
+    /// Event 3: the rule was active, and the Limit Checker is passive.
     LcPassive,
-    /// The rule was passive: event 4.
+    /// Event 4: the rule was already passive.
     Passive,
 }
 
-/// What a sample of one rule leads to, the turn first: at most three requests.
+/// The reactions to a sample of one rule: at most three packets, those of the turn first.
 #[derive(Clone, Copy, Debug, PartialEq, Eq)]
 pub struct Reactions {
+    /// The reported turn, if any.
     pub turn: Option<Turn>,
+    /// The reaction to enough failures in a row, if any.
     pub failure: Option<Failure>,
 }
 
 /// The reactions of the rule with this number.
 #[derive(Clone, Copy, Debug, PartialEq, Eq)]
 pub struct Asked {
+    /// The number of the rule, from 0.
     pub rule: u16,
+    /// At least one of the two is there, in what a sample lists.
     pub reactions: Reactions,
 }

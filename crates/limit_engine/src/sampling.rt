@@ -1,4 +1,4 @@
-//! A sample of rules: each is evaluated in order, counted, and what it leads to is noted (cFS Limit Checker user's guide,
+//! A sample of rules, in order: each result is counted, and its requests and events are listed (cFS Limit Checker user's guide,
 //! actionpoint evaluation).
 
 ghost use Rattle.std.specs.Prelude.{◌≡◌, ◌+◌, ◌*◌, ◌≤◌, ℕ, List, [], ◌++◌, ◌<◌, length, map, slice_get, Some, vec_len, vec_capacity};
@@ -18,7 +18,7 @@ use crate::plan::Plan;
 use crate::reaction::{Asked, Reactions};
 use lc_model::{LcMode, SampleRequest, TABLE_ENTRIES, Truth};
 
-/// Samples a rule whose condition was found to be this.
+/// Samples a rule whose condition has this truth.
 fn sample_rule(entry: &RuleEntry, truth: Truth, mode: LcMode, point: &mut Point) -> Reactions
     ensures point { (terms : List Term) (words : List ℕ) (watch : List ResultIn) (n : ℕ) →
         HasTruth terms words watch entry.now truth
@@ -33,7 +33,7 @@ fn sample_rule(entry: &RuleEntry, truth: Truth, mode: LcMode, point: &mut Point)
     point.sample(entry, mode, result_of_truth(truth))
 }
 
-/// Notes what a rule leads to, if it leads to something.
+/// Adds a rule's reactions to the list, if it has any.
 fn note(asked: &mut Vec<Asked>, rule: u16, reactions: Reactions)
     requires { vec_len asked.old < vec_capacity asked.old }
     ensures requests { (rules : List Actionpoint) (this : Actionpoint) →
@@ -50,8 +50,8 @@ fn note(asked: &mut Vec<Asked>, rule: u16, reactions: Reactions)
     }
 }
 
-/// Samples the rules that the request takes, those that are disabled or off aside, in order, by what the plan found. Answers
-/// how many words that evaluated, EQUAL included.
+/// Samples the active and passive rules that the request takes, in order, by the truths of the evaluated plan. Returns the
+/// number of words of their equations, EQUAL included.
 pub(crate) fn sample_rules(
     request: &SampleRequest,
     mode: LcMode,

@@ -9,13 +9,13 @@ use crate::actionpoint::Point;
 use lc_model::{ALL_RULES, ApMode};
 use thiserror::Error;
 
-/// Why a mode or a state is not set.
+/// Why a command did not set a mode or a state.
 #[derive(Clone, Copy, Debug, PartialEq, Eq, Error)]
 pub enum StateRefusal {
     /// No rule has the number.
     #[error("no rule has the number")]
     BadIndex,
-    /// No mode or no state that may be set has the number.
+    /// The number is not that of a mode or state that a command may set, 1 to 3.
     #[error("no mode or no state that may be set has the number")]
     BadMode,
     /// The rule's state does not allow the change.
@@ -24,7 +24,7 @@ pub enum StateRefusal {
 }
 
 impl StateRefusal {
-    /// The number of the refusal, 153 to 155.
+    /// The number of the refusal, 153 to 155, for the event of the refused command.
     pub fn code(self) -> u8
         ensures { result ≡ refusal_number self }
     {
@@ -36,7 +36,7 @@ impl StateRefusal {
     }
 }
 
-/// All rules that are not off for good take the state.
+/// Sets the state of all rules that are not off for good.
 fn set_all(points: &mut [Point], state: ApMode)
     ensures { points.new ≡ all_set state points.old }
 {
@@ -45,7 +45,7 @@ fn set_all(points: &mut [Point], state: ApMode)
     }
 }
 
-/// The rule with this number takes the state with this number, unless it is off for good.
+/// Sets the state of one rule, unless it is off for good. `number` is the state's.
 fn set_one(points: &mut [Point], index: u16, number: u16) -> Result<(), StateRefusal>
     ensures answer { answered result ≡ outcome (one_set index (settable number) points.old) }
     ensures points { points.new ≡ unless_refused (one_set index (settable number) points.old)
@@ -65,7 +65,7 @@ fn set_one(points: &mut [Point], index: u16, number: u16) -> Result<(), StateRef
     Ok(())
 }
 
-/// The rule with this number, or all rules (0xFFFF), take the state with this number.
+/// Sets the state of the rule with this number, or of all rules (0xFFFF). `number` is the state's.
 pub(crate) fn set_state(points: &mut [Point], index: u16, number: u16) -> Result<(), StateRefusal>
     ensures answer { answered result ≡ outcome (states_set index number points.old) }
     ensures points { points.new ≡ unless_refused (states_set index number points.old) points.old }
@@ -80,7 +80,7 @@ pub(crate) fn set_state(points: &mut [Point], index: u16, number: u16) -> Result
     Ok(())
 }
 
-/// The rule with this number, which is disabled, is off for good from now on.
+/// Turns the rule with this number, which has to be disabled, off for good.
 pub(crate) fn turn_permanently_off(points: &mut [Point], index: u16) -> Result<(), StateRefusal>
     ensures answer { answered result ≡ outcome (one_set index turned_permanently_off points.old) }
     ensures points { points.new ≡ unless_refused (one_set index turned_permanently_off points.old)

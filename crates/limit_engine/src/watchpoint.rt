@@ -1,4 +1,4 @@
-//! Watchpoints: what each was found to be, and how that ages (cFS Limit Checker user's guide, watchpoint results).
+//! Watchpoints: the last result of each, and how it ages (cFS Limit Checker user's guide, watchpoint results).
 
 ghost use Rattle.std.specs.Prelude.{◌≡◌, ◌<◌, ◌≤◌, length, map, fold, All, IsTrue};
 ghost use Rattle.std.specs.List.{list_any};
@@ -10,7 +10,7 @@ use crate::field::{self, Range};
 use lc_model::{FieldType, Term, Truth};
 use std::marker::Model;
 
-/// What a watchpoint was found to be, and after how many more agings it is stale. A countdown of 0 stays.
+/// A watchpoint's last result, and after how many more agings it is stale. A countdown of 0 stays.
 #[derive(Clone, Copy, Debug)]
 pub(crate) struct WatchResult {
     truth: Truth,
@@ -28,7 +28,7 @@ impl Model for WatchResult {
 }
 
 impl WatchResult {
-    /// Before the first packet.
+    /// The result before the first packet: stale.
     pub(crate) fn at_start() -> WatchResult
         ensures { result ≡ unseen_result }
     {
@@ -44,7 +44,7 @@ impl WatchResult {
         self.truth
     }
 
-    /// After an aging: a countdown that comes to 0 makes the watchpoint stale.
+    /// Ages the result: a countdown that comes to 0 makes it stale.
     fn age(&mut self)
         ensures { self.new ≡ aged_result self.old }
     {
@@ -55,16 +55,16 @@ impl WatchResult {
     }
 }
 
-/// A watchpoint among those of its message id, with what is worked out of it beforehand.
+/// A watchpoint in the group of its message id, with values that are computed at adoption.
 #[derive(Clone, Copy, Debug)]
 pub(crate) struct Watch {
     /// Its number in the table.
     pub(crate) number: usize,
     pub(crate) kind: FieldType,
-    /// Where its field begins, and the bytes that a packet with the whole field has.
+    /// The offset of its field in bytes, and the least length of a packet that has the whole field.
     pub(crate) start: usize,
     pub(crate) need: usize,
-    /// Its field is read as the low end of the four bytes that end where it does.
+    /// Whether its field is read as the low end of the four bytes that end where the field ends.
     pub(crate) by_four: bool,
     pub(crate) mask: u32,
     pub(crate) sign: u32,
@@ -92,7 +92,7 @@ impl Watch {
         }
     }
 
-    /// The bits of its field that count, in a packet that has the field.
+    /// The masked bits of its field, in a packet that has the field.
     fn counted_bits(&self, packet: &[u8]) -> u32
         requires fit { IsFit self.now }
         requires there { self.now.need ≤ length packet.now }
@@ -104,7 +104,7 @@ impl Watch {
         self.kind.bits_in(&packet[self.start..self.need]) & self.mask
     }
 
-    /// What a packet of its message id says of it: an error where the field is not in it.
+    /// The watchpoint's truth by a packet of its message id: an error if the packet is too short for the field.
     fn truth_in(&self, packet: &[u8]) -> Truth
         requires { IsFit self.now }
         ensures truth { result ≡ judged_by packet.now self.now }
@@ -120,8 +120,8 @@ impl Watch {
     }
 }
 
-/// A packet: all watchpoints of its message id, the group, are found anew, and what each says stands until it is stale.
-/// Answers whether some field was not in the packet.
+/// Compares the watchpoints of the packet's message id, which are the group, and stores their results. Returns whether the
+/// packet is too short for one of their fields.
 pub(crate) fn see_group(group: &[Watch], results: &mut [WatchResult], packet: &[u8]) -> bool
     requires numbers { All (λ w. w.number < length results.old) group.now }
     requires fit { All IsFit group.now }
@@ -139,7 +139,7 @@ pub(crate) fn see_group(group: &[Watch], results: &mut [WatchResult], packet: &[
     short
 }
 
-/// An aging of all watchpoints.
+/// Ages all watchpoints.
 pub(crate) fn age_all(results: &mut [WatchResult])
     ensures { results.new ≡ map aged_result results.old }
 {

@@ -33,7 +33,7 @@ fn start(name: &[u8]) -> [u8; 28] {
     packet
 }
 
-/// The host handles a record, and answers how many calls of applications that took. Condition: a file's name has at most 40
+/// The host handles a record, and returns how many calls of applications that took. Condition: a file's name has at most 40
 /// bytes.
 fn handle<B: App, W: ByteSink>(host: &mut Host<B>, body: Body<'_>, out: &mut W) -> Option<u32>
     requires between { IsBetween (shown B.meaning host.old) }
@@ -44,7 +44,7 @@ fn handle<B: App, W: ByteSink>(host: &mut Host<B>, body: Body<'_>, out: &mut W) 
     answer.ok().map(|_| host.calls())
 }
 
-/// All applications that run retire, and the answer is how many came back. Nothing runs then.
+/// Retires all applications that run, and returns how many came back. Nothing runs then.
 fn retire_all<B: App>(host: &mut Host<B>) -> usize
     requires whole { IsWhole (shown B.meaning host.old) }
     ensures whole { IsWhole (shown B.meaning host.new) }
@@ -55,7 +55,7 @@ fn retire_all<B: App>(host: &mut Host<B>) -> usize
 }
 
 /// Makes a host with a Limit Checker, a scheduler, a counter and an application of another kind in stock; starts all four, gives
-/// the counter its command, and ticks; then all four retire, and the host is closed. Answers how many calls of applications each of
+/// the counter its command, and ticks; then all four retire, and the host is closed. Returns how many calls of applications each of
 /// these six records took, whether all four ran, and how many retired. Out of memory is the only error.
 fn play<W: ByteSink>(
     alloc: Global,

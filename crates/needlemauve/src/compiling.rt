@@ -12,7 +12,8 @@ ghost use Rattle.c_interface.specs.Said.{no_sentence};
 use c_interface::{ADT, Compiled, WDT, compile_files};
 use std::alloc::Global;
 
-/// Compiles a rule text into two table files, and answers 0, or the number of the refusal; the files are then as before.
+/// Compiles a rule text into two table files, and returns 0 or the number of the refusal. A refused text leaves both files as
+/// they were.
 #[unsafe(no_mangle)]
 pub extern "C" fn needlemauve_compile(
     alloc: Global,

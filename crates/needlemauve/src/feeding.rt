@@ -11,7 +11,7 @@ ghost use Rattle.c_interface.specs.Texts.{texts_in};
 use c_interface::{Handle, Handled, Made, close_host, feed_host, make_host};
 use std::alloc::Global;
 
-/// Makes a host of rule texts, which lie one behind the other, and answers 0 or the number of what is refused. Condition: the
+/// Makes a host of rule texts, which lie one after the other, and returns 0 or the number of the refusal. Condition: the
 /// handle holds nothing.
 #[unsafe(no_mangle)]
 pub extern "C" fn needlemauve_host_new(
@@ -40,7 +40,7 @@ pub extern "C" fn needlemauve_host_new(
     make_host(alloc, texts, lengths, schedule, room, host, told)
 }
 
-/// Takes bytes of the stream, handles the record in front, and answers what came of it. Condition: the handle holds a host.
+/// Takes bytes of the stream, handles the record in front, and returns what came of it. Condition: the handle holds a host.
 #[unsafe(no_mangle)]
 pub extern "C" fn needlemauve_host_feed(
     host: &mut Handle,

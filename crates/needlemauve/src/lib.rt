@@ -1,6 +1,6 @@
 //! The library for C: rule texts are compiled into table files, a host runs from memory to memory, and one is fed record by
-//! record. Each call takes its memory by an allocator of the caller's program, and gives it back before it answers; what a host
-//! holds it gives back as it is closed.
+//! record. Each call takes its memory by an allocator of the caller's program, and gives it back before it returns; only a
+//! host that is fed keeps memory, until it is closed.
 #![tactic(auto)]
 
 mod compiling;

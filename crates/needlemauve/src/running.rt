@@ -10,7 +10,7 @@ ghost use Rattle.c_interface.specs.Texts.{texts_in};
 use c_interface::{Run, run_texts};
 use std::alloc::Global;
 
-/// Runs rule texts, which lie one behind the other, over a stream, and answers 0 or the number of what ended the run.
+/// Runs rule texts, which lie one after the other, over a stream, and returns 0 or the number of what ended the run.
 #[unsafe(no_mangle)]
 pub extern "C" fn needlemauve_run(
     alloc: Global,

@@ -13,10 +13,11 @@ const NO_TABLE: u32 = 251;
 /// The verdict on a table file, as C sees it (`include/needlemauve.h`).
 #[repr(C)]
 #[derive(Clone, Copy, Debug, PartialEq, Eq)]
-/// 0 if the file is sound, else the number of its one fault: 51 to 56, 61 to 81, or 251.
 pub struct Verdict {
-    /// The image's entry that has the fault, counted from 0, or 65,535 if no entry has one.
+    /// 0 if the file is sound, else the number of its one fault: 51 to 56, 61 to 81, or 251 for a table number that no table
+    /// has.
     pub code: u32,
+    /// The image's entry that has the fault, counted from 0, or 65,535 if no entry has one.
     pub entry: u32,
 }
 
@@ -65,9 +66,8 @@ fn kind_numbered(number: u32) -> Option<Kind>
     }
 }
 
-/// Judges a table file as the host does on board, writes the verdict to `told` and returns its code. 0: sound; 51 to
-/// 56: its headers; 61 to 81: its image; 251: `kind` is neither 1 (watchpoints) nor 2 (actionpoints). It allocates
-/// nothing.
+/// Judges a table file as the host does on board, writes the verdict to `told` and returns its code. 0: sound; 51 to 56: its
+/// headers; 61 to 81: its image; 251: `kind` is neither 1 (watchpoints) nor 2 (actionpoints). It allocates no memory.
 #[unsafe(no_mangle)]
 pub extern "C" fn needlemauve_validate(kind: u32, file: &[u8], told: &mut Verdict) -> u32
     ensures told { told.new ≡ verdict_of_number kind file.now }

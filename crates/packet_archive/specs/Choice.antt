@@ -6,7 +6,7 @@ use Rattle.lc_model.specs.Host.Stream.{max_body}
 use Rattle.packet_archive.specs.declared.choice.Fate.{Fate}
 use Rattle.packet_archive.specs.declared.choice.Fate.TheVariants.{Kept, Idle, Other, Faulty}
 
--- what is chosen: whether idle packets and those with a fault become records, too; and which message ids, where not all
+-- a choice: whether idle packets and packets with a fault become records, and the only message ids; all if there are none
 pub record Chosen : Type 0 where
   pub idle : Bool
   pub faulty : Bool
@@ -16,7 +16,7 @@ pub record Chosen : Type 0 where
 abbrev pub idle_application : ℕ
 idle_application = 2047
 
--- whether a packet fills time, and says nothing
+-- whether a packet is idle
 abbrev pub is_idle : List ℕ → Bool
 is_idle packet = message_id packet % 2048 == idle_application
 

@@ -29,7 +29,7 @@ seconds_end = 4294967296
 abbrev pub has_time : ℕ → ℕ → List ℕ → Bool
 has_time at epoch packet = not (is_command packet) && nat_le (at + 6) (length packet) && nat_le epoch (u32_at packet at)
 
--- the moment so long after this one
+-- the moment that is a step after this one
 abbrev pub later_by : Moment → Moment → Moment
 later_by step moment = record {
   seconds = (moment.seconds + step.seconds + (moment.subseconds + step.subseconds) / parts) % seconds_end;
@@ -58,6 +58,6 @@ next_tick period (Some next) second = Some (next + ticks_due period (Some next) 
 abbrev pub most_ticks : ℕ
 most_ticks = 86400
 
--- there is a next tick only where ticks come, and it lies at most a period behind the last second that there is
+-- there is a next tick only if ticks come, and it is at most a period after the last second
 abbrev pub IsNextTick : ℕ → Option ℕ → Type 0
 IsNextTick period next = IfSome next (λ second. (0 < period) × (second < seconds_end + period))

@@ -36,17 +36,17 @@ packets_of entries = flat_map (λ (entry : StreamEntry). packet_of entry.content
 abbrev pub exported : List ℕ → List ℕ
 exported bytes = packets_of (records_of any_text bytes).0
 
--- what is left behind the whole records of a stream, by what stands in front, where the rest goes on so
+-- the rest after the whole records of a stream, by what is in front; the function continues with what follows
 abbrev pub left_by : (List ℕ → List ℕ) → List ℕ → stream.Front → List ℕ
 left_by others bytes (stream.Record entry rest) = others rest
 left_by others bytes front = bytes
 
--- behind at most so many records
+-- the rest after at most this number of records
 unfoldable pub left_within : ℕ → List ℕ → List ℕ
 left_within zero bytes = bytes
 left_within (suc most) bytes = left_by (left_within most) bytes (stream.front all_kinds any_text bytes)
 
--- what is left behind the whole records in front
+-- the rest after the whole records in front
 abbrev pub left_of : List ℕ → List ℕ
 left_of bytes = left_within (length bytes) bytes
 
@@ -59,7 +59,7 @@ abbrev pub packet_in_front : List ℕ → found.Front → List ℕ
 packet_in_front bytes (in_front.Record kind size) = packet_by kind (body_in_front bytes)
 packet_in_front bytes front = []
 
--- how many bytes are behind with it, where a record stands in front
+-- the number of bytes of the record in front, if there is one
 abbrev pub record_passed : found.Front → Option ℕ
 record_passed (in_front.Record kind size) = Some size
 record_passed front = None
@@ -70,13 +70,13 @@ ExportsInPieces = (first next : List ℕ) → exported (first ++ next) ≡ expor
 
 -- ---- the packets of an archive
 
--- the packets by what stands in front, where the rest goes on so
+-- the packets, by what is in front; the function continues with what follows
 abbrev pub packets_by : (List ℕ → List (List ℕ)) → List ℕ → ArchiveFront → List (List ℕ)
 packets_by others bytes (Packet before size) = take size (drop before bytes) ∷ others (drop (before + size) bytes)
 packets_by others bytes (Gap size) = others (drop size bytes)
 packets_by others bytes front = []
 
--- at most so many, with the zeros between them
+-- at most this number of packets and gaps of zeros
 unfoldable pub packets_within : ℕ → Bool → List ℕ → List (List ℕ)
 packets_within zero marked bytes = []
 packets_within (suc most) marked bytes = packets_by (packets_within most marked) bytes (front_in marked bytes)
@@ -118,7 +118,7 @@ ImportsAreGivenBack = (asking : Asking) (clock : Clocked) (archive : List ℕ) �
 abbrev pub ExportsGoOn : Type 0
 ExportsGoOn = (first next : List ℕ) → (records_of any_text first).1 ≡ Whole → exported (first ++ next) ≡ exported first ++ exported next
 
--- an archive of these packets, each behind a marker or not
+-- an archive of these packets, each after a marker or not
 abbrev pub archive_of : Bool → List (List ℕ) → List ℕ
 archive_of marked packets = concat (map (λ packet. (if marked then marker else []) ++ packet) packets)
 

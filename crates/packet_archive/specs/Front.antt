@@ -19,7 +19,7 @@ zeros bytes = length (take_while (λ byte. byte == 0) bytes)
 abbrev pub packet_size : List ℕ → ℕ
 packet_size packet = u16_at packet 4 + length_offset
 
--- a packet in front, behind so many bytes of its marker
+-- a packet in front, after this number of bytes of its marker
 abbrev pub packet_in : ℕ → List ℕ → ArchiveFront
 packet_in before bytes =
     if nat_lt (length bytes) primary_header_size then Cut
@@ -27,7 +27,7 @@ packet_in before bytes =
     else if nat_lt (length bytes) (packet_size bytes) then Cut
     else Packet before (packet_size bytes)
 
--- what stands behind a marker, which may have come in part
+-- what is after a marker, which may be cut short
 abbrev pub marked_in : List ℕ → ArchiveFront
 marked_in bytes =
     if nat_lt (length bytes) (length marker) then (if bytes_eq bytes (take (length bytes) marker) then Cut else Unmarked)

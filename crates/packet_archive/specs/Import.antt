@@ -24,7 +24,7 @@ packet_kind = 1
 abbrev pub tick_kind : ℕ
 tick_kind = 2
 
--- so many ticks, one every `period` seconds from this second on
+-- a number of ticks, one every `period` seconds from this second on
 unfoldable pub ticks : ℕ → ℕ → ℕ → List ℕ
 ticks zero period second = []
 ticks (suc count) period second =
@@ -35,7 +35,7 @@ abbrev pub ticks_before : ℕ → Option ℕ → ℕ → List ℕ
 ticks_before period None second = []
 ticks_before period (Some next) second = ticks (ticks_due period (Some next) second) period next
 
--- whether time goes on too far for the ticks between
+-- whether the packet is too late: too many ticks would come before it
 abbrev pub is_leap : Clocked → Moment → Bool
 is_leap clock moment = nat_lt most_ticks (ticks_due clock.period clock.next moment.seconds)
 
@@ -44,38 +44,38 @@ abbrev pub records_at : Clocked → Moment → List ℕ → List ℕ
 records_at clock moment packet =
     ticks_before clock.period clock.next moment.seconds ++ record_bytes packet_kind moment packet
 
--- the clock behind it
+-- the clock after the packet
 abbrev pub clock_at : Clocked → Moment → Clocked
 clock_at clock moment = record { period = clock.period; last = moment; next = next_tick clock.period clock.next moment.seconds }
 
--- what is asked of an import: whether the archive has markers, which packets become records, and where their times are from
+-- the options of an import: whether the archive has markers, which packets become records, and the source of their times
 pub record Asking : Type 0 where
   pub marked : Bool
   pub chosen : Chosen
   pub times : Times
 
--- what is met at the front of what is left, what is written for it, and how the clock stands then
+-- a step: what is met at the front of the rest, what is written for it, and the clock after it
 pub record Step : Type 0 where
   pub met : Met
   pub written : List ℕ
   pub clock : Clocked
 
--- where nothing becomes a record
+-- a step in which nothing becomes a record
 abbrev pub nothing : Met → Clocked → Step
 nothing met clock = record { met = met; written = []; clock = clock }
 
--- a packet that becomes a record, unless time goes on too far
+-- a step with a packet that becomes a record, unless it is too late
 abbrev pub kept_at : ℕ → Clocked → Moment → List ℕ → Step
 kept_at size clock moment packet =
     if is_leap clock moment then nothing Leap clock
     else record { met = Taken size; written = records_at clock moment packet; clock = clock_at clock moment }
 
--- a packet by what becomes of it
+-- a step with a packet, by what becomes of it
 abbrev pub by_fate : Fate → Asking → ℕ → Clocked → List ℕ → Step
 by_fate Kept asking size clock packet = kept_at size clock (moment_by asking.times clock.last packet) packet
 by_fate fate asking size clock packet = nothing (LeftOut size fate) clock
 
--- what is in front, by what it is
+-- a step, by what is in front
 abbrev pub by_front : ArchiveFront → Asking → Clocked → List ℕ → Step
 by_front (Packet before size) asking clock bytes =
     let packet : List ℕ = take size (drop before bytes) in
@@ -86,28 +86,28 @@ by_front front asking clock bytes = nothing (Stands front) clock
 abbrev pub next_step : Asking → Clocked → List ℕ → Step
 next_step asking clock bytes = by_front (front_in asking.marked bytes) asking clock bytes
 
--- how many bytes are behind what was met, where the import goes on there
+-- the number of bytes that a step passes; none if the import stops there
 abbrev pub passed : Met → Option ℕ
 passed (Taken size) = Some size
 passed (LeftOut size fate) = Some size
 passed (Stands (Gap size)) = Some size
 passed met = None
 
--- what an import has made so far: what it wrote, where the clock stands, what is left of the archive, and what it met there
+-- the state of an import: what it wrote, the clock, the rest of the archive, and what it met there
 pub record Imported : Type 0 where
   pub written : List ℕ
   pub clock : Clocked
   pub left : List ℕ
   pub met : Met
 
--- an import that goes on where a step has passed so many bytes, or ends there
+-- an import that continues after the bytes that a step passed, or ends there
 abbrev pub going_on : (Clocked → List ℕ → Imported) → Step → List ℕ → Option ℕ → Imported
 going_on others step bytes None = record { written = step.written; clock = step.clock; left = bytes; met = step.met }
 going_on others step bytes (Some size) =
     let rest : Imported = others step.clock (drop size bytes) in
     record { written = step.written ++ rest.written; clock = rest.clock; left = rest.left; met = rest.met }
 
--- at most so many steps
+-- an import of at most this number of steps
 unfoldable pub imported_within : ℕ → Asking → Clocked → List ℕ → Imported
 imported_within zero asking clock bytes = record { written = []; clock = clock; left = bytes; met = Stands Over }
 imported_within (suc most) asking clock bytes =
@@ -118,7 +118,7 @@ imported_within (suc most) asking clock bytes =
 abbrev pub imported : Asking → Clocked → List ℕ → Imported
 imported asking clock bytes = imported_within (length bytes + 1) asking clock bytes
 
--- an import behind what was written before
+-- an import that adds to what was written before
 abbrev pub behind : List ℕ → Imported → Imported
 behind gained rest = record { written = gained ++ rest.written; clock = rest.clock; left = rest.left; met = rest.met }
 

@@ -42,7 +42,7 @@ zeros_line name None count = []
 zeros_line name (Some at) count =
     name ++ codes ": byte " ++ decimal at ++ codes ": zeros where a packet would begin, " ++ decimal count ++ codes " in all\n"
 
--- why an archive ends early, where it does: behind so many bytes, with so many left
+-- why an archive ends early, if it does: after how many bytes, and how many are left
 abbrev pub end_line : List ℕ → ℕ → ℕ → Met → List ℕ
 end_line name at left (Stands Cut) =
     name ++ codes ": byte " ++ decimal at ++ codes ": the last packet is cut, " ++ decimal left ++ codes " bytes of it are there\n"

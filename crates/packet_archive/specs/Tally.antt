@@ -10,7 +10,7 @@ use Rattle.packet_archive.specs.declared.tally.Tally.{Tally}
 use Rattle.packet_archive.specs.Clock.{Clocked}
 use Rattle.packet_archive.specs.Import.{Asking, Step, next_step, passed}
 
--- a count that goes on by so many, up to the greatest number of 64 bits
+-- a count increased by a number, up to 2^64 - 1
 abbrev pub counted : ℕ → ℕ → ℕ
 counted count more = min (count + more) (2 ^ 64 - 1)
 
@@ -22,14 +22,14 @@ named = 10
 abbrev pub nothing_met : Tally
 nothing_met = record { bytes = 0; taken = 0; idle = 0; other = 0; faulty = 0; first = replicate named None; zeros = 0; first_zero = None }
 
--- a packet with this fault, behind those that were met: one of the first ten is named, with the byte at which it begins
+-- counts a packet with this fault; the first ten are named, each with the byte at which it, or its marker, begins
 abbrev pub fault_noted : ℕ → Tally → Tally
 fault_noted fault t = record t {
   first = if nat_lt t.faulty named then slice_set t.first t.faulty (Some (record { at = t.bytes; fault = fault })) else t.first;
   faulty = counted t.faulty 1;
 }
 
--- a packet that is left out
+-- counts a packet that is left out
 abbrev pub left_out_noted : Fate → Tally → Tally
 left_out_noted Idle t = record t { idle = counted t.idle 1 }
 left_out_noted (Faulty fault) t = fault_noted fault t
@@ -40,39 +40,39 @@ abbrev pub first_of : ℕ → Option ℕ → Option ℕ
 first_of at None = Some at
 first_of at (Some first) = Some first
 
--- so many zero bytes between packets
+-- counts zero bytes between packets
 abbrev pub zeros_noted : ℕ → Tally → Tally
 zeros_noted size t = record t { first_zero = first_of t.bytes t.first_zero; zeros = counted t.zeros size }
 
--- no packet
+-- counts a front that isn't a packet
 abbrev pub front_noted : ArchiveFront → Tally → Tally
 front_noted (Gap size) t = zeros_noted size t
 front_noted front t = t
 
--- what was met
+-- counts what was met, without its bytes
 abbrev pub met_noted : Met → Tally → Tally
 met_noted (Taken size) t = record t { taken = counted t.taken 1 }
 met_noted (LeftOut size fate) t = left_out_noted fate t
 met_noted (Stands front) t = front_noted front t
 met_noted Leap t = t
 
--- so many bytes are behind
+-- counts passed bytes
 abbrev pub bytes_noted : Option ℕ → Tally → Tally
 bytes_noted None t = t
 bytes_noted (Some size) t = record t { bytes = counted t.bytes size }
 
--- what was met, which is behind then
+-- counts what was met, and its bytes
 abbrev pub noted : Met → Tally → Tally
 noted met t = bytes_noted (passed met) (met_noted met t)
 
 -- ---- the whole import
 
--- what is counted where a step has passed so many bytes, or ends there
+-- the counts if a step has passed bytes and the import continues, or if it ends there
 abbrev pub counted_on : (List ℕ → Tally → Tally) → List ℕ → Option ℕ → Tally → Tally
 counted_on others bytes None t = t
 counted_on others bytes (Some size) t = others (drop size bytes) t
 
--- at most so many steps: each that was met is noted once, in order
+-- the counts of a number of steps: each step is counted once, in order
 unfoldable pub tallied_within : ℕ → Asking → Clocked → List ℕ → Tally → Tally
 tallied_within zero asking clock bytes t = t
 tallied_within (suc most) asking clock bytes t =

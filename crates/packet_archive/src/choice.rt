@@ -9,10 +9,10 @@ use lc_model::packet::{message_id, stream_fault};
 use lc_model::stream::LONGEST_BODY;
 use std::marker::Model;
 
-/// The application id of packets that fill time (CCSDS 133.0-B).
+/// The application id of idle packets, which only fill time (CCSDS 133.0-B).
 const IDLE: u16 = 0x07FF;
 
-/// Over 2,048 bytes, as a stream's fault.
+/// The fault number of a packet of over 2,048 bytes.
 const LONG: u8 = 6;
 
 /// What becomes of a packet.
@@ -20,22 +20,22 @@ const LONG: u8 = 6;
 pub enum Fate {
     /// It becomes a record.
     Kept,
-    /// It fills time, and is left out.
+    /// It is an idle packet and is left out.
     Idle,
-    /// Its message id isn't among those that are asked for.
+    /// Its message id isn't asked for, so it is left out.
     Other,
-    /// It has the fault of this number, as a packet of a stream has (1 to 7).
+    /// It has the fault of this number (1 to 7, as for packets of a stream) and is left out.
     Faulty(u8),
 }
 
 /// Which packets become records.
 #[derive(Drop)]
 pub struct Choice<'a> {
-    /// Idle packets, too.
+    /// Whether idle packets become records.
     pub idle: bool,
-    /// Packets with a fault, too, where a record can hold them.
+    /// Whether packets with a fault become records, if a record can hold them.
     pub faulty: bool,
-    /// These message ids alone; all, where it is empty.
+    /// The only message ids that become records; all do if it is empty.
     pub only: &'a [u16],
 }
 
@@ -47,7 +47,7 @@ impl<'a> Model for Choice<'a> {
     ghost view = { λ c. record { idle = c.idle; faulty = c.faulty; only = c.only.now } };
 }
 
-/// Whether a packet fills time.
+/// Whether a packet is idle.
 fn is_idle(packet: &[u8]) -> bool
     requires { primary_header_size ≤ length packet.now }
     ensures { result ≡ is_idle packet.now }

@@ -8,24 +8,24 @@ use lc_model::packet::message_id;
 use lc_model::{Moment, SUBSECONDS, u16_at, u32_at};
 use std::marker::Model;
 
-/// Seconds begin again at this number.
+/// The number of seconds at which the clock begins again from 0.
 const SECONDS_END: u64 = 4_294_967_296;
 
 /// The bit of a message id that makes a packet a command.
 const COMMAND: u16 = 0x1000;
 
-/// Where the times of packets are from.
+/// The source of the packets' times.
 #[derive(Clone, Copy, Debug, PartialEq, Eq)]
 pub enum Times {
-    /// From each packet of telemetry itself: seconds (4 bytes, big endian) at this byte, less those of an epoch, and behind them
-    /// the part of a second in 2 bytes or more, of which two count.
+    /// Each telemetry packet itself: 4 bytes of seconds at byte `at`, less `epoch`, then 2 bytes of 65,536ths of a second, both big
+    /// endian. A packet without such a time has that of the packet before it.
     Header { at: u16, epoch: u32 },
-    /// From nowhere: each packet comes so long after the one before.
+    /// No times in the packets: each packet comes `step` after the one before.
     Steps { step: Moment },
 }
 
-/// Where an import stands: how many seconds lie between ticks (0: there are none), the moment of the last packet, and the second
-/// of the next tick, once a packet came.
+/// The clock of an import: the seconds between ticks (0: no ticks), the last packet's moment, and the second of the next tick, which
+/// is set by the first packet.
 #[derive(Debug, Drop)]
 pub struct Clock {
     pub(crate) period: u32,
@@ -44,7 +44,7 @@ impl Model for Clock {
 }
 
 impl Clock {
-    /// Second 0, and no packet; ticks come so many seconds apart, or not at all (0).
+    /// A clock at second 0, before any packet; ticks come `period` seconds apart, or never if it is 0.
     pub fn new(period: u32) -> Clock
         ensures { result ≡ stopped period }
     {
@@ -59,7 +59,7 @@ impl Clock {
     }
 }
 
-/// Whether a packet has a time of its own at this byte, which isn't before the epoch.
+/// Whether the packet is telemetry with a time at this byte that isn't before the epoch.
 fn has_time(at: usize, epoch: u32, packet: &[u8]) -> bool
     requires header { primary_header_size ≤ length packet.now }
     requires at { at < 65536 }
@@ -71,7 +71,7 @@ fn has_time(at: usize, epoch: u32, packet: &[u8]) -> bool
     epoch <= u32_at(packet, at)
 }
 
-/// The moment so many parts of a second later; seconds begin again behind 2^32.
+/// The moment that is `step` after this one; seconds begin again from 0 at 2^32.
 fn later_by(step: Moment, moment: Moment) -> Moment
     ensures { result ≡ later_by step moment }
 {
@@ -86,7 +86,7 @@ fn later_by(step: Moment, moment: Moment) -> Moment
 }
 
 impl Times {
-    /// The moment of a packet that comes behind one of this moment. One without a time of its own came when the one before did.
+    /// The moment of a packet after one at `last`. With `Header`, a packet without a time of its own has the moment `last`.
     pub fn moment_of(self, last: Moment, packet: &[u8]) -> Moment
         requires header { primary_header_size ≤ length packet.now }
         ensures exact { result ≡ moment_by self last packet.now }
@@ -107,8 +107,8 @@ impl Times {
     }
 }
 
-/// How many ticks are due up to this second, where the next one is at that second and one comes every `period` seconds; none
-/// without a period.
+/// The number of ticks due up to `second`, if the next one is at `next` and one comes every `period` seconds; 0 without a period or
+/// a next tick.
 pub(crate) fn ticks_due(period: u32, next: Option<u64>, second: u32) -> u64
     ensures { result ≡ ticks_due period next second }
 {
@@ -119,7 +119,7 @@ pub(crate) fn ticks_due(period: u32, next: Option<u64>, second: u32) -> u64
     }
 }
 
-/// When the next tick is due behind a packet of this second.
+/// The second of the next tick after a packet of this second; `None` if the period is 0.
 pub(crate) fn next_tick(period: u32, next: Option<u64>, second: u32) -> Option<u64>
     requires { IsNextTick period next }
     ensures next { result ≡ next_tick period next second }

@@ -9,8 +9,7 @@ use lc_model::stream::HEADER;
 use std::alloc::AllocError;
 use stream_script::{Front, RecordKind, front_of};
 
-/// The packet that a record of this kind brings, behind others; none, where it brings something else. Out of memory is the only
-/// error.
+/// Appends the packet that a record of this kind brings; appends nothing for other kinds. The only error is a lack of memory.
 fn push_packet(out: &mut Vec<u8>, kind: RecordKind, body: &[u8]) -> Result<(), AllocError>
     ensures { IfOk result (λ _. out.new.items ≡ out.old.items ++ packet_by kind body.now) }
 {
@@ -23,7 +22,7 @@ fn push_packet(out: &mut Vec<u8>, kind: RecordKind, body: &[u8]) -> Result<(), A
     }
 }
 
-/// The packet of the record in front, behind others. Answers what stands in front. Out of memory is the only error.
+/// Appends the packet of the record in front, and returns what is in front. The only error is a lack of memory.
 fn export_next(out: &mut Vec<u8>, bytes: &[u8]) -> Result<Front, AllocError>
     ensures written { IfOk result (λ _. out.new.items ≡
         out.old.items ++ packet_in_front bytes.now (front_in bytes.now)) }
@@ -43,7 +42,7 @@ fn export_next(out: &mut Vec<u8>, bytes: &[u8]) -> Result<Front, AllocError>
     }
 }
 
-/// How many bytes the record in front has, where one stands there.
+/// The size in bytes of the record in front; `None` if there is no whole record.
 fn record_size(front: Front) -> Option<usize>
     ensures { result ≡ record_passed front }
 {
@@ -53,8 +52,8 @@ fn record_size(front: Front) -> Option<usize>
     }
 }
 
-/// The packets of the whole records in front of these bytes of a stream, one behind the other, behind others. Answers what is
-/// left, and what stands there. Out of memory is the only error.
+/// Appends the packets of the whole records at the front of these bytes of a stream. Returns the bytes that are left and what is at
+/// their front. The only error is a lack of memory.
 pub fn export_held<'a>(out: &mut Vec<u8>, bytes: &'a [u8]) -> Result<(&'a [u8], Front), AllocError>
     ensures written { IfOk result (λ _. out.new.items ≡
         out.old.items ++ exported bytes.now) }

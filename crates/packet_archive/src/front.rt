@@ -1,37 +1,37 @@
-//! What stands at the front of what is left of an archive.
+//! What is at the front of the rest of an archive: a packet, a part of one, a gap, or neither.
 
 ghost use Rattle.std.specs.Prelude.{◌≡◌, ◌≤◌, ◌+◌, length};
 ghost use Rattle.packet_archive.specs.Front.{front_in, marked_in, packet_in, zeros, IsInside};
 
 use lc_model::u16_at;
 
-/// What stands before each packet of an archive with markers (CCSDS 131.0-B).
+/// The synchronization marker before each packet of a marked archive (CCSDS 131.0-B).
 pub const MARKER: [u8; 4] = [0x1A, 0xCF, 0xFC, 0x1D];
 
-/// The bytes of the primary header.
+/// The length of a packet's primary header in bytes.
 const PRIMARY_HEADER: usize = 6;
 
-/// The length field of a packet is so much less than its bytes.
+/// The number of bytes of a packet beyond the value of its length field (CCSDS 133.0-B).
 const LENGTH_OFFSET: usize = 7;
 
-/// What stands at the front of what is left of an archive.
+/// What is at the front of the rest of an archive.
 #[derive(Clone, Copy, Debug, PartialEq, Eq)]
 pub enum ArchiveFront {
-    /// Nothing.
+    /// The archive is at its end.
     Over,
-    /// So many zero bytes, which are no packet.
+    /// Zero bytes between packets, `size` of them.
     Gap { size: usize },
-    /// The beginning of a marker or of a packet.
+    /// The beginning of a marker or of a packet that is cut short.
     Cut,
-    /// A packet of another version than 0, whose length nobody can know.
+    /// A packet of another version than 0, whose length is unknown.
     Foreign,
-    /// No marker, where one must stand.
+    /// Other bytes in the place of a marker.
     Unmarked,
-    /// A packet of so many bytes, behind so many of its marker.
+    /// A whole packet of `size` bytes, after `before` bytes of its marker.
     Packet { before: usize, size: usize },
 }
 
-/// How many zero bytes stand in front.
+/// The number of zero bytes in front.
 fn zeros(bytes: &[u8]) -> usize
     ensures zeros { result ≡ zeros bytes.now }
     ensures within { result ≤ length bytes.now }
@@ -39,7 +39,7 @@ fn zeros(bytes: &[u8]) -> usize
     bytes.iter().take_while(|byte| **byte == 0).count()
 }
 
-/// The packet in front, behind so many bytes of its marker.
+/// What is in front, after `before` bytes of a marker.
 fn packet_of(before: usize, bytes: &[u8]) -> ArchiveFront
     requires { before ≤ 4 }
     ensures stands { result ≡ packet_in before bytes.now }
@@ -57,7 +57,7 @@ fn packet_of(before: usize, bytes: &[u8]) -> ArchiveFront
     ArchiveFront::Packet { before, size }
 }
 
-/// What stands behind a marker, which may have come in part.
+/// What is at the front of bytes that have to begin with a marker; the marker may be cut short.
 fn marked_of(bytes: &[u8]) -> ArchiveFront
     ensures stands { result ≡ marked_in bytes.now }
 {
@@ -77,7 +77,7 @@ fn marked_of(bytes: &[u8]) -> ArchiveFront
     }
 }
 
-/// What stands in front, of an archive with markers or without.
+/// Returns what is at the front of these bytes of an archive, with markers or without.
 pub fn front_of(marked: bool, bytes: &[u8]) -> ArchiveFront
     ensures stands { result ≡ front_in marked bytes.now }
     ensures inside { IsInside bytes.now result }

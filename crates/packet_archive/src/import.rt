@@ -22,11 +22,11 @@ const PACKET: u8 = 1;
 /// The kind of a tick.
 const TICK: u8 = 2;
 
-/// The most ticks between two packets: a day of one each second.
+/// The most ticks between two packets: one each second for a day.
 const MOST_TICKS: u64 = 86_400;
 
 impl Met {
-    /// How many bytes were behind with it, where an import goes on there.
+    /// The number of bytes that the step passed; `None` if the import stops here.
     pub fn size_behind(self) -> Option<usize>
         ensures { result ≡ passed self }
     {
@@ -38,8 +38,8 @@ impl Met {
     }
 }
 
-/// The ticks that are due up to this second, the first of them at `next`, behind other records. Answers when the next one is due.
-/// Out of memory is the only error.
+/// Appends the records of the ticks from second `first` up to `second`, one every `period` seconds. The only error is a lack of
+/// memory.
 fn push_ticks(out: &mut Vec<u8>, period: u32, first: u64, second: u32) -> Result<(), AllocError>
     requires { IsNextTick period (Some first) }
     ensures ticks { IfOk result (λ _. out.new.items ≡
@@ -57,14 +57,14 @@ fn push_ticks(out: &mut Vec<u8>, period: u32, first: u64, second: u32) -> Result
     Ok(())
 }
 
-/// What is asked of an import.
+/// The options of an import.
 #[derive(Drop)]
 pub struct ImportOptions<'a> {
     /// Whether a marker stands before each packet.
     pub marked: bool,
     /// Which packets become records.
     pub choice: Choice<'a>,
-    /// Where their times are from.
+    /// The source of the packets' times.
     pub times: Times,
 }
 
@@ -76,20 +76,20 @@ impl<'a> Model for ImportOptions<'a> {
     ghost view = { λ a. record { marked = a.marked; chosen = a.choice; times = a.times } };
 }
 
-/// What was met at the front of what is left of an archive.
+/// What one step of an import met at the front of the rest of an archive.
 #[derive(Clone, Copy, Debug, PartialEq, Eq)]
 pub enum Met {
-    /// A packet that is a record now, and so many bytes of the archive with its marker.
+    /// A packet that became a record, and its size in bytes with its marker.
     Taken(usize),
-    /// So many bytes with a packet that is left out, and why.
+    /// A packet that was left out: its size in bytes with its marker, and why.
     LeftOut(usize, Fate),
     /// A packet so late that more than 86,400 ticks would come before it. Nothing was written for it.
     Leap,
-    /// No packet: what stands there.
+    /// Not a whole packet: what is there instead.
     Stands(ArchiveFront),
 }
 
-/// The ticks that are due up to this second, behind other records. Out of memory is the only error.
+/// Appends the records of the ticks that are due up to this second. The only error is a lack of memory.
 fn push_due(out: &mut Vec<u8>, clock: &Clock, second: u32) -> Result<(), AllocError>
     ensures { IfOk result (λ _. out.new.items ≡
         out.old.items ++ ticks_before clock.now.period clock.now.next second) }
@@ -100,8 +100,8 @@ fn push_due(out: &mut Vec<u8>, clock: &Clock, second: u32) -> Result<(), AllocEr
     }
 }
 
-/// A packet that becomes a record, behind the ticks that are due by then, unless these are too many; so many bytes of the archive
-/// are taken with it. Out of memory is the only error.
+/// Appends the ticks that are due by a packet, and the packet's record. If the ticks are too many, appends nothing and returns
+/// `Leap`. `size` is the packet's size with its marker. The only error is a lack of memory.
 fn keep(
     out: &mut Vec<u8>,
     clock: &mut Clock,
@@ -130,8 +130,8 @@ fn keep(
     Ok(Met::Taken(size))
 }
 
-/// What an import makes of what stands at the front of what is left of an archive: records behind others, where the clock stands
-/// then, and what was met. Out of memory is the only error.
+/// Makes one step of an import at the front of the rest of an archive: appends records to `out`, advances the clock, and returns what
+/// it met. The only error is a lack of memory.
 pub fn import_next(
     out: &mut Vec<u8>,
     clock: &mut Clock,
@@ -162,8 +162,8 @@ pub fn import_next(
     }
 }
 
-/// Imports what stands at the front of these bytes, one after the other, until what is left is the beginning of a packet, or none.
-/// Answers what is left, and what it is. Out of memory is the only error.
+/// Imports packet after packet from these bytes until a step passes no bytes (`size_behind`): at the end, a packet cut short, bytes
+/// that aren't a packet, or a `Leap`. Returns the bytes that are left and what was met there. The only error is a lack of memory.
 pub fn import_held<'a>(
     out: &mut Vec<u8>,
     clock: &mut Clock,

@@ -1,5 +1,5 @@
-//! Recordings of space packets, one behind the other as ground systems archive them (CCSDS 133.0-B), and the streams that they
-//! become.
+//! Archives of space packets, one after the other as ground systems record them (CCSDS 133.0-B): their import to streams, and the
+//! export of streams.
 #![tactic(auto)]
 
 mod choice;

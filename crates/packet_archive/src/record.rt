@@ -1,4 +1,4 @@
-//! Records, as a stream has them.
+//! The bytes of a stream's records.
 
 ghost use Rattle.std.specs.Prelude.{◌≡◌, ◌≤◌, ◌++◌, length, IfOk};
 ghost use Rattle.lc_model.specs.Host.Stream.{max_body};
@@ -7,7 +7,7 @@ ghost use Rattle.packet_archive.specs.Import.{record_bytes};
 use lc_model::Moment;
 use std::alloc::AllocError;
 
-/// A record behind others. Out of memory is the only error.
+/// Appends a record. The only error is a lack of memory.
 pub(crate) fn push_record(
     out: &mut Vec<u8>,
     kind: u8,

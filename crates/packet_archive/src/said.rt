@@ -1,4 +1,4 @@
-//! What an import says of an archive.
+//! The report of an import, in lines.
 
 ghost use Rattle.std.specs.Prelude.{Some, flat_map};
 ghost use Rattle.packet_archive.specs.Said.{end_line, fault_line, fault_words, left_out_words, more_line, packet_lines, report_lines, taken_line, zeros_line};
@@ -73,7 +73,7 @@ impl Display for TakenLine<'_> {
     }
 }
 
-/// The line of a packet with a fault, where there is one.
+/// The line of a packet with a fault; empty for `None`.
 #[derive(Clone, Copy)]
 struct FaultLine<'a> {
     name: &'a str,
@@ -118,7 +118,7 @@ impl Display for FaultLines<'_> {
     }
 }
 
-/// How many packets with a fault aren't named.
+/// The line with the number of faulty packets that aren't named.
 #[derive(Clone, Copy)]
 struct MoreLine<'a> {
     name: &'a str,
@@ -163,7 +163,7 @@ impl Display for ZerosLine<'_> {
     }
 }
 
-/// Why an archive ends early, where it does.
+/// The line that says why an archive ends early; empty if it doesn't.
 #[derive(Clone, Copy)]
 struct EndLine<'a> {
     name: &'a str,
@@ -201,7 +201,7 @@ impl Display for EndLine<'_> {
     }
 }
 
-/// What is said of packets.
+/// The lines about packets: totals, the first faults, and how many more there are.
 #[derive(Clone, Copy)]
 struct PacketLines<'a> {
     name: &'a str,
@@ -235,17 +235,17 @@ impl Display for PacketLines<'_> {
     }
 }
 
-/// What was met in an archive of this name, a line each: how much of what there was, the first packets with a fault, the first
-/// zero bytes, and where it ends early.
+/// The report of an import. It displays as lines: how many packets were taken and left out, the first packets with a fault, the first
+/// zero bytes, and where the archive ends early.
 #[derive(Drop)]
 pub struct Report<'a> {
     /// The archive's name.
     pub name: &'a str,
-    /// What was met.
+    /// The counts of the import.
     pub tally: &'a Tally,
-    /// What stands behind it.
+    /// What the import met where it stopped.
     pub met: Met,
-    /// How many bytes are left there.
+    /// The number of bytes that are left there.
     pub left: usize,
 }
 

@@ -1,4 +1,4 @@
-//! What an import has met.
+//! What an import counts.
 
 ghost use Rattle.std.specs.Prelude.{◌≡◌};
 ghost use Rattle.packet_archive.specs.Tally.{bytes_noted, fault_noted, front_noted, left_out_noted, met_noted, noted, nothing_met, zeros_noted};
@@ -7,39 +7,41 @@ use crate::choice::Fate;
 use crate::front::ArchiveFront;
 use crate::import::Met;
 
-/// How many packets with a fault are named.
+/// The most packets with a fault that are named in the report.
 pub const NAMED: usize = 10;
 
-/// A packet with a fault, and the byte of the archive at which it begins, behind its marker.
+/// A packet with a fault.
 #[derive(Clone, Copy, Debug, PartialEq, Eq)]
 pub struct Faulty {
+    /// The byte of the archive at which the packet, or its marker, begins; counted from 0.
     pub at: u64,
+    /// The number of its fault (1 to 7).
     pub fault: u8,
 }
 
-/// What an import has met so far.
+/// The counts of an import so far. They stop at 2^64 - 1.
 #[derive(Clone, Copy, Debug, PartialEq, Eq)]
 pub struct Tally {
-    /// Bytes of the archive that are behind.
+    /// Bytes of the archive that the import has passed.
     pub bytes: u64,
-    /// Packets that are records now.
+    /// Packets that became records.
     pub taken: u64,
     /// Idle packets that were left out.
     pub idle: u64,
-    /// Packets of message ids that weren't asked for.
+    /// Packets that were left out because their message id wasn't asked for.
     pub other: u64,
     /// Packets with a fault that were left out.
     pub faulty: u64,
-    /// The first of these.
+    /// The first of these packets, in order.
     pub first: [Option<Faulty>; NAMED],
     /// Zero bytes between packets.
     pub zeros: u64,
-    /// Where the first of them stands.
+    /// The byte of the archive with the first of them, counted from 0.
     pub first_zero: Option<u64>,
 }
 
 impl Tally {
-    /// Nothing.
+    /// The counts before an import: all zero.
     pub fn new() -> Tally
         ensures { result ≡ nothing_met }
     {
@@ -55,7 +57,7 @@ impl Tally {
         }
     }
 
-    /// A packet with a fault more.
+    /// Counts a packet with a fault.
     fn note_fault(&mut self, fault: u8)
         ensures { self.new ≡ fault_noted fault self.old }
     {
@@ -69,7 +71,7 @@ impl Tally {
         self.faulty = self.faulty.saturating_add(1);
     }
 
-    /// A packet that is left out.
+    /// Counts a packet that is left out.
     fn note_left_out(&mut self, fate: Fate)
         ensures { self.new ≡ left_out_noted fate self.old }
     {
@@ -80,7 +82,7 @@ impl Tally {
         }
     }
 
-    /// So many zero bytes.
+    /// Counts zero bytes, `size` of them.
     fn note_zeros(&mut self, size: usize)
         ensures { self.new ≡ zeros_noted size self.old }
     {
@@ -91,7 +93,7 @@ impl Tally {
         self.zeros = self.zeros.saturating_add(size as u64);
     }
 
-    /// No packet.
+    /// Counts a front that isn't a packet; only a gap counts.
     fn note_front(&mut self, front: ArchiveFront)
         ensures { self.new ≡ front_noted front self.old }
     {
@@ -105,7 +107,7 @@ impl Tally {
         }
     }
 
-    /// What was met.
+    /// Counts what was met, without its bytes.
     fn note_met(&mut self, met: Met)
         ensures { self.new ≡ met_noted met self.old }
     {
@@ -117,7 +119,7 @@ impl Tally {
         }
     }
 
-    /// So many bytes are behind.
+    /// Counts passed bytes.
     fn note_bytes(&mut self, size: Option<usize>)
         ensures { self.new ≡ bytes_noted size self.old }
     {
@@ -126,7 +128,7 @@ impl Tally {
         }
     }
 
-    /// What was met, which is behind then. Counts stop at 2^64 - 1.
+    /// Counts what a step of the import met, and the bytes that it passed.
     pub fn note(&mut self, met: Met)
         ensures { self.new ≡ noted met self.old }
     {

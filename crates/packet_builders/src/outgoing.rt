@@ -25,7 +25,7 @@ fn parity(first: u8, bytes: &[u8]) -> u8
     bytes.iter().fold(first, |parity, byte| parity ^ byte)
 }
 
-/// Writes two parts to the front of a slice, one behind the other, and answers how many bytes they have.
+/// Writes two parts to the front of a slice, one after the other, and returns how many bytes they have.
 fn write(front: &[u8], payload: &[u8], out: &mut [u8]) -> usize
     requires { length front.now + length payload.now ≤ length out.old }
     ensures size { result ≡ length front.now + length payload.now }
@@ -38,7 +38,7 @@ fn write(front: &[u8], payload: &[u8], out: &mut [u8]) -> usize
     size
 }
 
-/// Writes a command of 8 bytes of header and its payload to the front of a slice, whose further bytes stay, and answers how
+/// Writes a command of 8 bytes of header and its payload to the front of a slice, whose further bytes stay, and returns how
 /// many bytes it has. Its checksum byte makes the exclusive or of all bytes 0xFF. Conditions: a sequence count below 16,384,
 /// at most 2,048 bytes in all, and room for them.
 pub fn build_command(
@@ -61,7 +61,7 @@ pub fn build_command(
     write(&[a, b, c, d, e, f, function_code, checksum], payload, out)
 }
 
-/// Writes telemetry of 12 bytes of header and its payload to the front of a slice, whose further bytes stay, and answers how
+/// Writes telemetry of 12 bytes of header and its payload to the front of a slice, whose further bytes stay, and returns how
 /// many bytes it has. Its time, seconds and subseconds, follows the primary header. Conditions: a sequence count below
 /// 16,384, at most 2,048 bytes in all, and room for them.
 pub fn build_telemetry(

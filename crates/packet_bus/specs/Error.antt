@@ -14,7 +14,7 @@ error_code TooManyPipes = Some second_pipe
 error_code TooManySubscriptions = Some too_many_subscriptions
 error_code Memory = None
 
--- the numbers of a refusal: of a bad packet the reason's too. Want of memory refuses nothing.
+-- the numbers of a refusal, for a bad packet the reason's too. Lack of memory refuses nothing.
 abbrev pub refusal_by : BusError → Refusal
 refusal_by (BadPacket reason) = faulty_packet ∷ fault_number reason ∷ []
 refusal_by PipeFull = pipe_full ∷ []

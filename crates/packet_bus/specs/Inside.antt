@@ -73,7 +73,7 @@ without_packets queue = record queue { waiting = [] }
 abbrev pub without_subscriptions : Queue → Queue
 without_subscriptions queue = record queue { subscriptions = [] }
 
--- a slot is put behind what waits on these seats
+-- a slot is appended to what waits on these seats
 abbrev pub delivered : ℕ → List Bool → List (Option Line) → List (Option Line)
 delivered slot hearers [] = []
 delivered slot [] (place ∷ places) = place ∷ places

@@ -59,7 +59,7 @@ is_long place = length (slots_in place) == 72
 abbrev pub hears_mid : ℕ → Option Line → Bool
 hears_mid mid place = list_any (λ other. mid == other) (mids_in place)
 
--- a pipe with a slot more behind, and without its oldest
+-- a pipe with one slot more at its end, and one without its oldest slot
 abbrev pub with_slot : ℕ → Line → Line
 with_slot slot line = record line { slots = line.slots ++ slot ∷ [] }
 

@@ -24,11 +24,11 @@ use lc_model::packet::MESSAGE_IDS;
 use std::alloc::{AllocError, Global};
 use std::marker::Model;
 
-/// The packet bus: for each seat none or one pipe, with up to 256 subscriptions and 72 packets.
+/// The packet bus: at most one pipe for each seat, with up to 256 subscriptions and 72 packets.
 ///
-/// A packet is kept once, however many pipes wait for it. Who hears a message id, which seat is the least with a packet, and
-/// which slot is free is found in constant time. All memory is taken by `new`. Contracts see the pipes as lists of
-/// subscriptions and packets.
+/// A packet is stored once, however many pipes wait for it. It takes constant time to find the subscribers of a message id,
+/// the least seat with a packet, or a free slot. `new` allocates all memory. Contracts see the pipes as lists of subscriptions
+/// and packets.
 #[derive(Drop)]
 pub struct Bus {
     places: Vec<PipePlace>,
@@ -75,7 +75,7 @@ fn empty_places(alloc: Global) -> Result<Vec<PipePlace>, AllocError>
     Ok(places)
 }
 
-/// Puts a slot behind what waits on a seat, whose pipe has room.
+/// Appends a slot to the packets that wait on a seat. The seat's pipe has room.
 fn deliver_to(seat: Seat, slot: u16, places: &mut Vec<PipePlace>, full: &mut SeatSet)
     requires eight { length places.old.items ≡ seat_count }
     requires open { is_some (place_at places.old.items seat) ≡ true }
@@ -90,7 +90,7 @@ fn deliver_to(seat: Seat, slot: u16, places: &mut Vec<PipePlace>, full: &mut Sea
     }
 }
 
-/// Keeps a packet for these seats, whose pipes have room, and puts its slot behind what waits there. Answers the slot.
+/// Stores a packet for these seats, whose pipes have room, appends its slot to what waits there, and returns the slot.
 #[cold]
 #[inline(never)]
 fn deliver_to_each(
@@ -122,7 +122,7 @@ fn deliver_to_each(
     slot
 }
 
-/// Delivers a packet to these seats, which are ready then. Most packets have one hearer.
+/// Delivers a packet to these seats, which are ready then. Most packets have one subscriber.
 fn deliver(
     hearers: SeatSet,
     packet: &[u8],
@@ -184,7 +184,7 @@ fn take_oldest(
 }
 
 impl Bus {
-    /// A bus without pipes. It takes all the memory there will ever be; out of memory is the only error.
+    /// Creates a bus without pipes. It allocates all memory that the bus ever needs; `Memory` is the only error.
     pub fn new(alloc: Global) -> Result<Bus, BusError>
         ensures pipes { IfOk result (λ bus. bus ≡ no_pipes) }
         ensures memory { IfErr result (λ e. e ≡ Memory) }
@@ -198,7 +198,7 @@ impl Bus {
         })
     }
 
-    /// The seat gets a pipe, without subscriptions. 94 where it has one.
+    /// Gives the seat a pipe without subscriptions. Error: `TooManyPipes` (94) if it has one.
     pub fn add_pipe(&mut self, seat: Seat) -> Result<(), BusError>
         ensures after { self.new ≡ after self.old (model.pipe_added seat self.old) }
         ensures answer { refusal_in result ≡ refusal_of (model.pipe_added seat self.old) }
@@ -211,7 +211,7 @@ impl Bus {
         Ok(())
     }
 
-    /// The seat's pipe goes, with its subscriptions and packets. 93 where it has none.
+    /// Removes the seat's pipe, with its subscriptions and packets. Error: `NoPipe` (93).
     pub fn remove_pipe(&mut self, seat: Seat) -> Result<(), BusError>
         ensures after { self.new ≡ after self.old (model.pipe_removed seat self.old) }
         ensures answer { refusal_in result ≡ refusal_of (model.pipe_removed seat self.old) }
@@ -226,8 +226,8 @@ impl Bus {
         Ok(())
     }
 
-    /// The seat's pipe hears packets of a message id from now on; one that it hears already changes nothing. 93 where there is
-    /// no pipe, 95 where it has 256 subscriptions to others.
+    /// Subscribes the seat's pipe to a message id; if it is subscribed already, nothing changes. Errors: `NoPipe` (93),
+    /// `TooManySubscriptions` (95) if it has 256 subscriptions to others.
     pub fn subscribe(&mut self, seat: Seat, mid: u16) -> Result<(), BusError>
         ensures after { self.new ≡ after self.old (model.subscribed seat mid self.old) }
         ensures answer { refusal_in result ≡ refusal_of (model.subscribed seat mid self.old) }
@@ -250,8 +250,8 @@ impl Bus {
         Ok(())
     }
 
-    /// The seat's pipe hears packets of a message id no more; what waits in it stays. One that it doesn't hear changes nothing.
-    /// 93 where there is no pipe.
+    /// Ends the subscription of the seat's pipe to a message id. Packets that wait in it stay; if it isn't subscribed, nothing
+    /// changes. Error: `NoPipe` (93).
     pub fn unsubscribe(&mut self, seat: Seat, mid: u16) -> Result<(), BusError>
         ensures after { self.new ≡ after self.old (model.unsubscribed seat mid self.old) }
         ensures answer { refusal_in result ≡ refusal_of (model.unsubscribed seat mid self.old) }
@@ -264,8 +264,8 @@ impl Bus {
         Ok(())
     }
 
-    /// Each pipe that is subscribed to the packet's message id gets it once, behind what waits. 91 where the bytes are no packet,
-    /// and 92 where one of these pipes holds 72 packets; then none gets it.
+    /// Appends the packet, once, to each pipe that is subscribed to its message id. Errors: `BadPacket` (91) if the bytes are
+    /// not a packet, `PipeFull` (92) if one of these pipes holds 72 packets; then no pipe gets it.
     pub fn publish(&mut self, packet: &[u8]) -> Result<(), BusError>
         ensures answer { refusal_in result ≡ publish_refusal packet.now self.old }
         ensures published { OnOk result (IsPublished packet.now self.old self.new) }
@@ -278,7 +278,7 @@ impl Bus {
         }
     }
 
-    /// Publishes a packet that was judged already: 92 alone is answered. Condition: its header has no fault.
+    /// Publishes a packet that was checked before; `PipeFull` (92) is the only error. Condition: its header has no fault.
     #[inline]
     pub fn publish_judged(&mut self, packet: &[u8]) -> Result<(), BusError>
         requires good { header_fault packet.now ≡ None }
@@ -290,7 +290,7 @@ impl Bus {
         self.publish_as(judged_message_id(packet), packet)
     }
 
-    /// Publishes a packet with this message id, which was judged already.
+    /// Publishes a packet with this message id, which was checked before.
     #[inline]
     fn publish_as(&mut self, mid: u16, packet: &[u8]) -> Result<(), BusError>
         requires good { header_fault packet.now ≡ None }
@@ -317,7 +317,8 @@ impl Bus {
         Ok(())
     }
 
-    /// The seat whose pipe hears this packet, where one alone does. Condition: its header has no fault.
+    /// The only seat whose pipe is subscribed to this packet's message id, or `None` if none or several are. Condition: its
+    /// header has no fault.
     #[inline]
     pub fn only_hearer(&self, packet: &[u8]) -> Option<Seat>
         requires good { header_fault packet.now ≡ None }
@@ -327,8 +328,8 @@ impl Bus {
         self.audience[judged_message_id(packet) as usize].only()
     }
 
-    /// Takes the oldest packet of the seat's pipe into the front of a buffer, whose further bytes stay, and answers how many
-    /// bytes it has; None where no packet waits. 93 where the seat has no pipe. What waits has no fault.
+    /// Moves the oldest packet of the seat's pipe to the front of `buffer`, whose further bytes stay, and returns its length
+    /// in bytes, or `None` if no packet waits. Its header has no fault. Error: `NoPipe` (93).
     pub fn receive(
         &mut self,
         seat: Seat,
@@ -348,7 +349,7 @@ impl Bus {
         Ok(size)
     }
 
-    /// The least seat with a packet.
+    /// The least seat with a packet, if there is one.
     pub fn least_ready(&self) -> Option<Seat>
         ensures least { result ≡ ready_seat (seen self.now) }
         ensures eight { length self.now ≡ seat_count }
@@ -356,7 +357,7 @@ impl Bus {
         self.ready.least()
     }
 
-    /// 576 less the number of publications that wait in a pipe.
+    /// The number of packets that still fit: 576 less those that wait, each counted once.
     pub fn free(&self) -> u32
         ensures { result ≡ free_publications self.now }
     {
@@ -370,7 +371,7 @@ impl Bus {
         self.places[seat.index()].is_open()
     }
 
-    /// Whether a seat's pipe is subscribed to a message id. The rows say so of each id that a packet can have.
+    /// Whether a seat's pipe is subscribed to a message id: by the rows for an id that a packet can have, else by the pipe.
     fn is_subscribed(&self, seat: Seat, mid: u16) -> bool
         ensures { result ≡ hears_in mid (pipe_at seat self.now) }
     {
@@ -381,7 +382,7 @@ impl Bus {
         }
     }
 
-    /// Takes the oldest packet of a seat into the front of a buffer, and answers how many bytes it has.
+    /// Takes the oldest packet of a seat into the front of a buffer, and returns how many bytes it has.
     fn take_packet(&mut self, seat: Seat, buffer: &mut [u8; PACKET_SIZE]) -> Option<usize>
         ensures after { self.new ≡ changed seat model.without_oldest self.old }
         ensures size { result ≡ option_map length (oldest_at seat self.old) }
@@ -393,7 +394,7 @@ impl Bus {
         Some(self.pool.take(slot, buffer))
     }
 
-    /// The oldest packet of a seat is taken, and its slot released. Answers whether there was one.
+    /// Drops the oldest packet of a seat and releases its slot. Returns whether there was one.
     fn discard_oldest(&mut self, seat: Seat) -> bool
         ensures after { self.new ≡ changed seat model.without_oldest self.old }
         ensures some { result ≡ is_some (oldest_at seat self.old) }
@@ -407,14 +408,14 @@ impl Bus {
         true
     }
 
-    /// All packets of a seat are taken.
+    /// Drops all packets of a seat.
     fn discard_all(&mut self, seat: Seat)
         ensures { self.new ≡ changed seat without_packets self.old }
     {
         while self.discard_oldest(seat) {}
     }
 
-    /// A seat's pipe is no longer subscribed to a message id.
+    /// Ends the subscription of a seat's pipe to a message id.
     fn forget(&mut self, seat: Seat, mid: u16)
         ensures after { self.new ≡ changed seat (model.parted mid) self.old }
         ensures eight { length self.old ≡ seat_count }
@@ -425,7 +426,7 @@ impl Bus {
         }
     }
 
-    /// A seat's pipe has no subscription any more.
+    /// Ends all subscriptions of a seat's pipe.
     fn forget_all(&mut self, seat: Seat)
         ensures { self.new ≡ changed seat without_subscriptions self.old }
     {

@@ -8,25 +8,25 @@ use crate::HeaderFault;
 use std::alloc::AllocError;
 use thiserror::Error;
 
-/// Why a call of the bus is refused, or want of memory. A refused call leaves the bus as it was.
+/// Why the bus refuses a call, or a lack of memory. A refused call leaves the bus as it was.
 #[derive(Clone, Copy, Debug, PartialEq, Eq, Error)]
 pub enum BusError {
-    /// The bytes are no packet of this profile.
+    /// The bytes are not a packet of this profile, for this reason.
     #[error("bad packet: {reason}")]
     BadPacket { reason: HeaderFault },
-    /// A pipe that hears the packet holds 72 packets. No pipe gets it.
+    /// A pipe that is subscribed to the packet's message id holds 72 packets. No pipe gets the packet.
     #[error("a pipe is full")]
     PipeFull,
     /// The seat has no pipe.
     #[error("no pipe on this seat")]
     NoPipe,
-    /// The seat has its pipe.
+    /// The seat has a pipe already.
     #[error("the seat has its pipe")]
     TooManyPipes,
     /// The pipe has 256 subscriptions.
     #[error("the pipe has 256 subscriptions")]
     TooManySubscriptions,
-    /// No memory for a bus. Only `Bus::new` answers this.
+    /// No memory for a bus. Only `Bus::new` returns it.
     #[error("out of memory")]
     Memory,
 }
@@ -40,7 +40,7 @@ impl From<AllocError> for BusError {
 }
 
 impl BusError {
-    /// The refusal's number, 91 to 95. Want of memory has none, since nothing was refused.
+    /// Returns the refusal's number, 91 to 95, or `None` for `Memory`: then nothing was refused.
     pub fn code(self) -> Option<u8>
         ensures { result ≡ error_code self }
     {

@@ -8,7 +8,7 @@ use lc_model::packet::{COMMAND_HEADERS, LONGEST_PACKET, TELEMETRY_HEADERS};
 use lc_model::{packet, u16_at};
 use thiserror::Error;
 
-/// Why bytes are no packet of this profile: the first reason that they give.
+/// Why bytes are not a packet of this profile: the first reason that applies.
 #[derive(Clone, Copy, Debug, PartialEq, Eq, Error)]
 pub enum HeaderFault {
     /// Fewer bytes than the header has: 8 of a command, 12 of telemetry.
@@ -52,12 +52,12 @@ impl HeaderFault {
 pub enum PacketKind {
     /// A command, with its function code, below 128. Its payload begins at byte 8.
     Command { function_code: u8 },
-    /// Telemetry. Its payload begins at byte 12, behind the time.
+    /// Telemetry. Its payload begins at byte 12, after the time.
     Telemetry,
 }
 
 impl PacketKind {
-    /// How many bytes of header stand before the payload.
+    /// The number of header bytes before the payload: 8 of a command, 12 of telemetry.
     pub fn header_size(self) -> usize
         ensures { result ≡ header_size self }
     {
@@ -75,6 +75,7 @@ pub struct Header {
     pub message_id: u16,
     /// How many packets of this message id were sent before, modulo 16,384.
     pub sequence_count: u16,
+    /// A command or telemetry.
     pub kind: PacketKind,
 }
 
@@ -144,7 +145,7 @@ pub(crate) fn judged_message_id(bytes: &[u8]) -> u16
     u16_at(bytes, 0)
 }
 
-/// Reads the header of a packet, or answers why the bytes are none: the first of the reasons 1 to 6.
+/// Reads a packet's header. The error is the first of the reasons 1 to 6 why the bytes are not a packet.
 pub fn parse_header(bytes: &[u8]) -> Result<Header, HeaderFault>
     ensures exact { fault_in result ≡ header_fault bytes.now }
     ensures says { IfOk result (λ header. header ≡ header_of bytes.now) }

@@ -9,13 +9,13 @@ use circular_buffer::HeapCircularBuffer;
 use std::alloc::{AllocError, Global};
 use std::marker::Model;
 
-/// A pipe holds so many packets.
+/// The largest number of packets in a pipe.
 const PIPE_DEPTH: usize = 72;
 
-/// A pipe has so many subscriptions.
+/// The largest number of subscriptions of a pipe.
 const SUBSCRIPTIONS: usize = 256;
 
-/// The place of a pipe. Contracts see none, or its subscriptions and the slots of what waits, oldest first.
+/// The place of a pipe. Contracts see nothing, or the pipe's subscriptions and the slots of its packets, oldest first.
 #[derive(Drop)]
 pub(crate) struct PipePlace {
     is_open: bool,
@@ -44,7 +44,7 @@ fn place_of(mid: u16, mids: &[u16]) -> Option<usize>
 }
 
 impl PipePlace {
-    /// No pipe, with room for one. Out of memory is the only error.
+    /// Creates a place without a pipe, with room for one. Out of memory is the only error.
     pub fn new(alloc: Global) -> Result<PipePlace, AllocError>
         ensures { IfOk result (λ place. place ≡ None) }
     {
@@ -55,14 +55,14 @@ impl PipePlace {
         })
     }
 
-    /// Whether somebody has the pipe.
+    /// Whether there is a pipe.
     pub fn is_open(&self) -> bool
         ensures { result ≡ is_some self.now }
     {
         self.is_open
     }
 
-    /// A pipe that has nothing.
+    /// Opens a pipe without subscriptions and packets.
     pub fn open(&mut self)
         requires { self.old ≡ None }
         ensures { self.new ≡ Some new_line }
@@ -70,7 +70,7 @@ impl PipePlace {
         self.is_open = true;
     }
 
-    /// The pipe goes. It has nothing any more.
+    /// Closes the pipe, which loses its subscriptions and packets.
     pub fn close(&mut self)
         requires { self.old ≡ Some new_line }
         ensures { self.new ≡ None }
@@ -78,7 +78,7 @@ impl PipePlace {
         self.is_open = false;
     }
 
-    /// A slot more waits. There is room. Answers whether there is none behind it.
+    /// Appends a slot, for which there must be room. Returns whether the pipe is full then.
     pub fn push(&mut self, slot: u16) -> bool
         requires open { is_some self.old ≡ true }
         requires room { is_long self.old ≡ false }
@@ -127,7 +127,7 @@ impl PipePlace {
         self.subscriptions.first().copied()
     }
 
-    /// Subscribes to a message id, to which it is not subscribed. There is room.
+    /// Adds a subscription to a message id. Conditions: there is room, and the pipe isn't subscribed to it.
     pub fn subscribe(&mut self, mid: u16)
         requires open { is_some self.old ≡ true }
         requires room { length (mids_in self.old) < most_subscriptions }

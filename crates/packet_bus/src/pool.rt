@@ -12,7 +12,7 @@ use std::marker::Model;
 /// The most bytes of a packet.
 pub const PACKET_SIZE: usize = LONGEST_PACKET;
 
-/// How many packets may wait: eight pipes of 72, none of them twice.
+/// The number of packets that can wait: eight pipes with 72 different packets each.
 const SLOTS: usize = 576;
 
 /// A place for a packet, with the number of pipes that wait for it. Contracts see the packet's bytes and that number.
@@ -46,7 +46,7 @@ impl PoolSlot {
         }
     }
 
-    /// So many pipes wait for the packet.
+    /// Sets the number of pipes that wait for the packet.
     fn reserve(&mut self, readers: u8)
         ensures { self.new ≡ record { packet = self.old.packet; readers = readers } }
     {
@@ -62,7 +62,7 @@ impl PoolSlot {
         self.bytes[..packet.len()].copy_from_slice(packet);
     }
 
-    /// Copies the packet to the front of a buffer, and answers how many bytes it has.
+    /// Copies the packet to the front of a buffer, and returns how many bytes it has.
     fn read(&self, buffer: &mut [u8; PACKET_SIZE]) -> usize
         ensures size { result ≡ length self.now.packet }
         ensures buffer { buffer.new ≡ self.now.packet ++ drop (length self.now.packet) buffer.old }
@@ -72,7 +72,7 @@ impl PoolSlot {
         size
     }
 
-    /// One pipe less waits for the packet. Answers whether none does.
+    /// Counts one waiting pipe less. Returns whether none is left.
     fn release(&mut self) -> bool
         requires { 0 < self.old.readers }
         ensures after { self.new ≡
@@ -123,7 +123,7 @@ impl Pool {
         self.free.len()
     }
 
-    /// Takes a free slot for a packet that so many pipes are to wait for, and answers its number.
+    /// Takes a free slot for a packet that `readers` pipes will wait for, and returns the slot's number.
     pub fn reserve(&mut self, readers: u8) -> u16
         requires room { used_slots self.old < most_publications }
         requires read { 0 < readers }
@@ -149,7 +149,7 @@ impl Pool {
         self.slots[number as usize].put(packet);
     }
 
-    /// One pipe less waits for the packet of a slot. With the last the slot is free.
+    /// Counts one waiting pipe less for a slot's packet. The slot is free when none is left.
     pub fn release(&mut self, number: u16)
         requires within { number < length self.old }
         requires waiting { 0 < (slot_at self.old number).readers }
@@ -160,7 +160,7 @@ impl Pool {
         }
     }
 
-    /// A reader takes the packet: it is copied to the front of a buffer, and released. Answers how many bytes it has.
+    /// A reader takes the packet: it is copied to the front of a buffer, and released. Returns how many bytes it has.
     pub fn take(&mut self, number: u16, buffer: &mut [u8; PACKET_SIZE]) -> usize
         requires within { number < length self.old }
         requires waiting { 0 < (slot_at self.old number).readers }

@@ -48,14 +48,14 @@ impl SeatSet {
         self.bits & 1 << seat.index() != 0
     }
 
-    /// The seat is one of these from now on.
+    /// Adds the seat to the set.
     pub fn insert(&mut self, seat: Seat)
         ensures { self.new ≡ slice_set self.old seat true }
     {
         self.bits |= 1 << seat.index();
     }
 
-    /// The seat is none of these from now on.
+    /// Removes the seat from the set.
     pub fn remove(&mut self, seat: Seat)
         ensures { self.new ≡ slice_set self.old seat false }
     {
@@ -72,7 +72,7 @@ impl SeatSet {
         Some(Seat::new(self.bits.trailing_zeros() as u8))
     }
 
-    /// The seat, where there is one alone.
+    /// The set's only seat, or `None` if it has none or several.
     pub fn only(&self) -> Option<Seat>
         ensures { result ≡
             (if count_by is_in self.now == 1 then position_from is_in 0 self.now else None) }
@@ -84,7 +84,7 @@ impl SeatSet {
         }
     }
 
-    /// The least seat, which leaves the set.
+    /// Removes the least seat and returns it, if there is one.
     pub fn pop_least(&mut self) -> Option<Seat>
         ensures least { result ≡ position_from is_in 0 self.old }
         ensures after { IfSome result (λ seat. self.new ≡ slice_set self.old seat false) }
@@ -98,7 +98,7 @@ impl SeatSet {
         Some(Seat::new(number))
     }
 
-    /// These seats too.
+    /// Adds the seats of another set.
     pub fn add(&mut self, others: &SeatSet)
         ensures { self.new ≡ together self.old others.now }
     {
@@ -119,7 +119,7 @@ impl SeatSet {
         self.bits.count_ones() as u8
     }
 
-    /// Whether a seat is in both.
+    /// Whether a seat is in both sets.
     pub fn meets(&self, other: &SeatSet) -> bool
         ensures { result ≡ meet self.now other.now }
     {

@@ -8,10 +8,10 @@ ghost use Rattle.packet_listing.specs.Words.{time_text};
 use lc_model::{Moment, SUBSECONDS, u16_at, u32_at};
 use std::fmt::{self, Display, Formatter, Write};
 
-/// The character that is shown for a byte that is no printable ASCII character.
+/// The character that is shown for a byte that isn't printable ASCII.
 const UNPRINTABLE: char = '.';
 
-/// The number of parts of a second that are shown. Times that differ are shown differently.
+/// The number of parts of a second that five decimal digits can show. Times that differ are shown differently.
 const SAID: u32 = 100_000;
 
 /// A time of telemetry; it displays as seconds and five decimal digits of the second, rounded down.

@@ -3,7 +3,8 @@
 ghost use Rattle.std.specs.Prelude.{◌≡◌, length, Some};
 ghost use Rattle.packet_listing.specs.Words.{result_word, state_word};
 
-use crate::display::time_of;
+use crate::display::{TextField, time_of};
+use crate::naming::RuleNames;
 use lc_model::u16_at;
 use std::fmt::{self, Display, Formatter, Write};
 
@@ -14,12 +15,43 @@ pub const HOUSEKEEPING_SIZE: usize = 192;
 pub fn say_housekeeping<W: Write>(packet: &[u8], f: &mut Formatter<W>) -> fmt::Result
     requires { length packet.now ≡ HOUSEKEEPING_SIZE }
 {
+    say_housekeeping_of(packet, &[], f)
+}
+
+/// A rule's name, or its number where it has none here.
+#[derive(Clone, Copy)]
+struct NameOrNumber<'a> {
+    rules: &'a [RuleNames<'a>],
+    number: u16,
+}
+
+impl Display for NameOrNumber<'_> {
+    fn fmt<W: Write>(&self, f: &mut Formatter<W>) -> fmt::Result {
+        match self.rules.get(usize::from(self.number)) {
+            Some(rule) => write!(f, "{}", TextField(rule.name)),
+            None => write!(f, "{}", self.number),
+        }
+    }
+}
+
+/// Writes the same with the names of these rules in the place of their numbers.
+pub fn say_housekeeping_of<W: Write>(
+    packet: &[u8],
+    rules: &[RuleNames<'_>],
+    f: &mut Formatter<W>,
+) -> fmt::Result
+    requires { length packet.now ≡ HOUSEKEEPING_SIZE }
+{
     let time = time_of(packet);
     let mode = State(u16_at(packet, 12));
     let count = u16_at(packet, 14);
     write!(f, "{time} LC housekeeping: {mode}, {count} rules")?;
     let mut sign = ':';
-    for (rule, standing) in (0..count).zip(&packet[16..]) {
+    for (number, standing) in (0..count).zip(&packet[16..]) {
+        let rule = NameOrNumber {
+            rules: &*rules,
+            number,
+        };
         let state = State(u16::from(*standing / 16));
         let result = Outcome(*standing % 16);
         write!(f, "{sign} {rule} {state} {result}")?;

@@ -18,7 +18,7 @@ pub struct PacketLine<'a> {
 }
 
 /// Writes a request's command sequence and its sequence count. A request has no time.
-fn say_request<W: Write>(packet: &[u8], f: &mut Formatter<W>) -> fmt::Result
+pub fn say_request<W: Write>(packet: &[u8], f: &mut Formatter<W>) -> fmt::Result
     requires { length packet.now ≡ REQUEST_SIZE }
 {
     let count = u16_at(packet, 2) % COUNT_END;

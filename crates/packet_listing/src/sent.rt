@@ -52,7 +52,7 @@ fn text_length(field: &[u8]) -> usize
 }
 
 /// The bytes before the first zero byte.
-fn before_zero(field: &[u8]) -> &[u8]
+pub fn before_zero(field: &[u8]) -> &[u8]
     ensures { result.now ≡ name_in field.now }
 {
     &field[..text_length(field)]

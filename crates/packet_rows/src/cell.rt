@@ -1,20 +1,22 @@
-//! What stands in a column of a row.
+//! The cells of a row.
 
 ghost use Rattle.std.specs.Prelude.{◌≡◌};
 ghost use Rattle.packet_rows.specs.Cell.{number_cell};
 
 use std::alloc::{AllocError, Global};
 
-/// What stands in a column.
+/// The content of one cell of a row.
 #[derive(Drop)]
 pub enum Cell {
-    /// Nothing.
+    /// No value: an empty field in CSV, `null` in JSON.
     Empty,
+    /// A number.
     Number(u64),
+    /// A text.
     Text(String),
 }
 
-/// A number, where there is one.
+/// The cell of a number; `Empty` for `None`.
 pub fn number(number: Option<u16>) -> Cell
     ensures { result ≡ number_cell number }
 {
@@ -24,12 +26,12 @@ pub fn number(number: Option<u16>) -> Cell
     }
 }
 
-/// A word.
+/// The cell of a word. The only error is a lack of memory.
 pub fn word(alloc: Global, word: &str) -> Result<Cell, AllocError> {
     Ok(Cell::Text(String::from_str(alloc, word)?))
 }
 
-/// A word, where there is one.
+/// The cell of a word; `Empty` for `None`. The only error is a lack of memory.
 pub fn some_word(alloc: Global, found: Option<&str>) -> Result<Cell, AllocError> {
     match found {
         Some(found) => word(alloc, found),

@@ -24,7 +24,7 @@ impl Display for Epoch {
 }
 
 impl Epoch {
-    /// The instant that a word names as RFC 3339 does, as `2000-01-01T12:00:00Z`.
+    /// Reads an instant in the form of RFC 3339, as `2000-01-01T12:00:00Z`; `None` for any other word.
     pub fn read(word: &str) -> Option<Epoch> {
         match word.parse::<Timestamp>() {
             Ok(zero) => Some(Epoch { zero }),
@@ -32,7 +32,7 @@ impl Epoch {
         }
     }
 
-    /// A moment's instant, its part of a second rounded down to nanoseconds; none behind the year 9999.
+    /// A moment's instant, rounded down to nanoseconds; `None` after the year 9999.
     pub fn at(self, moment: Moment) -> Option<Timestamp> {
         let part = i128::from(moment.subseconds) * NANOSECONDS / i128::from(SUBSECONDS);
         let behind = i128::from(moment.seconds) * NANOSECONDS + part;
@@ -43,7 +43,7 @@ impl Epoch {
     }
 }
 
-/// A moment in seconds, with five digits behind the point.
+/// The cell of a moment in seconds, with five decimal digits; `Empty` without a moment.
 pub fn time_cell(alloc: Global, moment: Option<Moment>) -> Result<Cell, AllocError> {
     match moment {
         Some(moment) => {
@@ -54,7 +54,7 @@ pub fn time_cell(alloc: Global, moment: Option<Moment>) -> Result<Cell, AllocErr
     }
 }
 
-/// A moment in UTC, where it has a moment and the epoch is known.
+/// The cell of a moment in UTC, with five decimal digits of the second; `Empty` without a moment or an epoch, and after the year 9999.
 pub fn utc_cell(
     alloc: Global,
     epoch: Option<Epoch>,
@@ -64,7 +64,7 @@ pub fn utc_cell(
         return Ok(Cell::Empty);
     };
     match epoch.at(moment) {
-        Some(instant) => Ok(Cell::Text(format!(in alloc; "{instant}")?)),
+        Some(instant) => Ok(Cell::Text(format!(in alloc; "{instant:.5}")?)),
         None => Ok(Cell::Empty),
     }
 }

@@ -1,16 +1,16 @@
-//! Why a row isn't written.
+//! The errors of writing a row.
 
 use std::alloc::{AllocError, AllocFailed};
 use std::io::{self, ErrorKind};
 use thiserror::Error;
 
-/// Why a row is not, or not wholly, written.
+/// Why a row isn't written, or only in part.
 #[derive(Clone, Copy, Debug, PartialEq, Eq, Error)]
 pub enum RowError {
-    /// Out of memory.
+    /// There is no memory for the row.
     #[error("out of memory")]
     Memory,
-    /// The row can't be written, for an error of this kind.
+    /// The writer failed with an error of this kind.
     #[error("a write failed")]
     Write(ErrorKind),
 }

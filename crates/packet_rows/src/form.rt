@@ -8,12 +8,12 @@ use std::alloc::Global;
 use std::collections::BTreeMap;
 use std::io::Write;
 
-/// How rows are written.
+/// The format of rows.
 #[derive(Clone, Copy, Debug, PartialEq, Eq)]
 pub enum Form {
-    /// Comma-separated values (RFC 4180, but that a line ends with a line feed alone), behind a line with the columns' names.
+    /// Comma-separated values after a line with the columns' names (RFC 4180, except that a line ends with a line feed alone).
     Csv,
-    /// One JSON object a line.
+    /// One JSON object per line (RFC 8259).
     Json,
 }
 
@@ -47,7 +47,7 @@ fn write_fields<W: Write>(alloc: Global, fields: &[&[u8]], out: &mut W) -> Resul
     Ok(())
 }
 
-/// Writes the columns' names, where the form has a line of them.
+/// Writes the line of the columns' names for CSV; writes nothing for JSON. Errors: `Memory`, or `Write` with the writer's error.
 pub fn write_names<W: Write>(
     alloc: Global,
     form: Form,
@@ -94,7 +94,7 @@ fn write_json<W: Write>(
     Ok(())
 }
 
-/// Writes a row.
+/// Writes a row. Errors: `Memory`, or `Write` with the writer's error.
 pub fn write_row<W: Write>(
     alloc: Global,
     form: Form,

@@ -1,5 +1,5 @@
-//! Packets and records as rows for other programs: comma-separated values with a line of names, or one JSON object a line. Both
-//! have the same columns in each row; what a row hasn't is empty, or null.
+//! Packets and records as rows for other programs: comma-separated values with a line of names, or one JSON object per line. Both
+//! have the same columns in each row. A missing value is empty, or null.
 #![tactic(auto)]
 
 mod cell;

@@ -13,7 +13,7 @@ use packet_listing::{Event, PacketLine, Sent, TextField, read_packet};
 use std::alloc::Global;
 use std::io::Write;
 
-/// The columns of a packet.
+/// The columns of a packet's row, in order (docs/TOOLS.md, this project's own).
 pub const PACKET_NAMES: [&str; 12] = [
     "number",
     "time",
@@ -32,7 +32,7 @@ pub const PACKET_NAMES: [&str; 12] = [
 /// The bytes of a packet's primary header.
 const PRIMARY_HEADER: usize = 6;
 
-/// What a packet is.
+/// The content of a packet, for the columns of its row.
 #[derive(Drop)]
 struct PacketContent {
     moment: Option<Moment>,
@@ -44,7 +44,7 @@ struct PacketContent {
     sequence: Option<u16>,
 }
 
-/// Nothing but the kind.
+/// Content with a kind and no other value.
 fn plain(kind: &'static str) -> PacketContent {
     PacketContent {
         moment: None,
@@ -57,13 +57,13 @@ fn plain(kind: &'static str) -> PacketContent {
     }
 }
 
-/// Bytes as text, up to the first zero.
+/// The cell of a text field, up to its first zero byte.
 fn text_of(alloc: Global, bytes: &[u8]) -> Result<Cell, RowError> {
     let field = TextField(bytes);
     Ok(Cell::Text(format!(in alloc; "{field}")?))
 }
 
-/// An event.
+/// The content of an event packet.
 fn event_said(alloc: Global, event: Event<'_>) -> Result<PacketContent, RowError> {
     Ok(PacketContent {
         moment: Some(event.moment),
@@ -75,7 +75,7 @@ fn event_said(alloc: Global, event: Event<'_>) -> Result<PacketContent, RowError
     })
 }
 
-/// A housekeeping packet: its text is what its line says behind the sender.
+/// The content of a housekeeping packet: its text is the part of its line after `housekeeping: `.
 fn housekeeping_said(alloc: Global, packet: &[u8]) -> Result<PacketContent, RowError>
     requires { telemetry_header_size ≤ length packet.now }
 {
@@ -96,7 +96,7 @@ fn housekeeping_said(alloc: Global, packet: &[u8]) -> Result<PacketContent, RowE
     })
 }
 
-/// What a packet is.
+/// The content of any packet.
 fn said_of(alloc: Global, packet: &[u8]) -> Result<PacketContent, RowError> {
     match read_packet(packet) {
         Some(Sent::Request(sequence)) => Ok(PacketContent {
@@ -111,7 +111,7 @@ fn said_of(alloc: Global, packet: &[u8]) -> Result<PacketContent, RowError> {
     }
 }
 
-/// A packet's message id, in four hexadecimal digits behind `0x`.
+/// The cell of a packet's message id: `0x` and four hexadecimal digits; `Empty` without a whole primary header.
 fn id_cell(alloc: Global, packet: &[u8]) -> Result<Cell, RowError> {
     if packet.len() < PRIMARY_HEADER {
         return Ok(Cell::Empty);
@@ -120,7 +120,7 @@ fn id_cell(alloc: Global, packet: &[u8]) -> Result<Cell, RowError> {
     Ok(Cell::Text(format!(in alloc; "0x{id:04X}")?))
 }
 
-/// A packet's sequence count.
+/// The cell of a packet's sequence count; `Empty` without a whole primary header.
 fn count_cell(packet: &[u8]) -> Cell {
     if packet.len() < PRIMARY_HEADER {
         return Cell::Empty;
@@ -128,8 +128,8 @@ fn count_cell(packet: &[u8]) -> Cell {
     number(Some(u16_at(packet, 2) % COUNT_END))
 }
 
-/// Writes the row of a packet with this number. Times are in UTC, too, where the epoch is known. Bytes of texts that are no
-/// printable ASCII characters are points.
+/// Writes the row of a packet with this number. The time is also in UTC if the epoch is known. A byte of a text that isn't printable
+/// ASCII becomes `.`. Errors: `Memory`, or `Write` with the writer's error.
 pub fn write_packet<W: Write>(
     alloc: Global,
     form: Form,

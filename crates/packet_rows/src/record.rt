@@ -8,12 +8,11 @@ use lc_model::Moment;
 use lc_model::stream::{HEADER, moment_of};
 use std::alloc::Global;
 use std::io::Write;
-use stream_script::write_listing_from;
 
-/// The columns of a record.
+/// The columns of a record's row, in order (docs/TOOLS.md, this project's own).
 pub const RECORD_NAMES: [&str; 6] = ["number", "time", "utc", "kind", "says", "size"];
 
-/// What the line of a record says behind its number and its moment: its kind, and what it brings.
+/// The kind and the content in the line of a record, after its number and its moment.
 fn behind_moment(line: &str) -> Option<(&str, &str)> {
     let line = line.strip_suffix('\n')?;
     let (_number, line) = line.split_once(' ')?;
@@ -25,13 +24,15 @@ fn behind_moment(line: &str) -> Option<(&str, &str)> {
     }
 }
 
-/// Writes the row of a whole record with this number: what it says is what its line in the listing says behind the kind.
+/// Writes the row of a whole record with this number and this listing line. Its column `says` is the part of the line after the kind.
+/// Errors: `Memory`, or `Write` with the writer's error.
 pub fn write_record<W: Write>(
     alloc: Global,
     form: Form,
     epoch: Option<Epoch>,
     number: u64,
     record: &[u8],
+    line: &[u8],
     out: &mut W,
 ) -> Result<(), RowError> {
     let moment: Option<Moment> = if record.len() < HEADER {
@@ -39,8 +40,7 @@ pub fn write_record<W: Write>(
     } else {
         Some(moment_of(record))
     };
-    let line = write_listing_from(alloc, 1, record)?;
-    let text = str::from_utf8(line.as_slice()).unwrap_or("");
+    let text = str::from_utf8(line).unwrap_or("");
     let (kind, says) = behind_moment(text).unwrap_or(("", ""));
     let cells = [
         Cell::Number(number),

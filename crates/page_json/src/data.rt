@@ -10,48 +10,63 @@ use run_summary::{Account, Figures};
 use sha2::{Digest, Sha256};
 use std::fmt::{self, Display, Formatter, Write};
 
-/// A file, with the name under which a page speaks of it.
+/// A file with the name that a page shows for it.
 #[derive(Clone, Copy)]
 pub struct Source<'n, 't> {
+    /// The name.
     pub name: &'n str,
+    /// The file's bytes.
     pub text: &'t [u8],
 }
 
-/// What a page is made of, beside its schedule. Names and texts live for as long as they like.
+/// The names and files of a run that a page shows.
 #[derive(Clone, Copy)]
 pub struct Run<'n, 't> {
-    /// The file of the schedule, and the name of the stream's.
+    /// The schedule.
     pub plan: Source<'n, 't>,
+    /// The name of the stream.
     pub stream: &'n str,
+    /// The rule texts, by number from 0.
     pub texts: &'t [Source<'n, 't>],
-    /// The instant of second 0, as RFC 3339 writes it.
+    /// The instant of second 0 in the form of RFC 3339, if it is given.
     pub epoch: Option<&'n str>,
 }
 
-/// How the run ended: behind so many records, at the record of this number, or with as many reads as may be.
+/// How a run ended. Records count from 1.
 #[derive(Clone, Copy)]
 pub enum Ended {
+    /// After this number of whole records.
     Whole(u64),
+    /// At this record, whose bytes aren't a record.
     NoRecord(u64),
+    /// Inside this record, which is cut short.
     Cut(u64),
+    /// After the greatest number of reads.
     Bound,
 }
 
-/// All of it.
+/// All data of a page.
 #[derive(Clone, Copy)]
 pub struct Data<'a, 'n, 't, 's> {
+    /// The names and files of the run.
     pub run: &'a Run<'n, 't>,
-    /// How many bytes the stream has, and their SHA-256.
+    /// The length of the stream in bytes.
     pub bytes: u64,
+    /// The SHA-256 of the stream.
     pub digest: [u8; 32],
+    /// How the run ended.
     pub ended: Ended,
-    /// The time of the first record, that of the last less that of the first, and whether none is before the one in front of it.
+    /// The time of the first record, in 1/65,536 s.
     pub start: u64,
+    /// The time of the last record less `start`, in 1/65,536 s.
     pub end: i64,
+    /// Whether no record is earlier than the one before it.
     pub is_ordered: bool,
+    /// The account of the run.
     pub account: &'a Account<'s>,
-    /// What is told of each rule, and of each field.
+    /// The changes of each rule.
     pub lanes: &'a [Changes],
+    /// The changes of each field.
     pub values: &'a [Changes],
 }
 
@@ -105,13 +120,13 @@ fn put_file<'x, W: Write>(
     json.member(FILE, &items)
 }
 
-/// A file whose bytes are there.
+/// A file with its bytes.
 fn put_source<W: Write>(json: &mut Json<'_, W>, role: &'static str, file: &Source<'_, '_>) {
     let digest = Sha256::digest(file.text);
     put_file(json, role, file.name, file.text.len() as u64, &digest)
 }
 
-/// All files that the page names but for the stream.
+/// All files of the page except the stream.
 fn put_sources<W: Write>(json: &mut Json<'_, W>, run: &Run<'_, '_>) {
     for source in run.texts {
         put_source(json, "rules", source);
@@ -176,7 +191,7 @@ fn put_clock<W: Write>(json: &mut Json<'_, W>, data: &Data<'_, '_, '_, '_>) {
     json.open(",\"texts\":[");
 }
 
-/// What stands in front of the texts of rules.
+/// The part of the data before the rule texts.
 fn put_front<W: Write>(json: &mut Json<'_, W>, data: &Data<'_, '_, '_, '_>) {
     json.row(PROGRAM, &[Item::Word(VERSION)]);
     put_ended(json, data.ended);
@@ -187,7 +202,7 @@ fn put_front<W: Write>(json: &mut Json<'_, W>, data: &Data<'_, '_, '_, '_>) {
     put_clock(json, data);
 }
 
-/// What is told of fields, rules and tables.
+/// The lists of fields, rules and tables.
 fn put_lists<W: Write>(json: &mut Json<'_, W>, data: &Data<'_, '_, '_, '_>) {
     json.open("],\"fields\":[");
     put_fields(json, data.account.seen.as_slice(), data.values);

@@ -1,10 +1,10 @@
-//! JSON, as the data of a page is written: without blanks, in ASCII alone.
+//! Writes JSON (RFC 8259) for the data of a page: without blanks, and only ASCII.
 
 ghost use Rattle.std.specs.Prelude.{◌≡◌, ◌≤◌, ◌==◌, false, None};
 
 use std::fmt::{self, Write};
 
-/// What stands for a byte of a text that can't stand for itself. A `<` would let a text end the page's script.
+/// The escape for a byte of a text that needs one. A plain `<` could end the page's script.
 fn replacement(byte: u8) -> Option<&'static str>
     ensures printable { result ≡ None → 32 ≤ byte × byte ≤ 126 }
     ensures quote { result ≡ None → (byte == 34) ≡ false }
@@ -20,7 +20,7 @@ fn replacement(byte: u8) -> Option<&'static str>
     }
 }
 
-/// A text, which stands between quotes. A byte that is no printable ASCII character is a point.
+/// Writes a text for between quotes. A byte that isn't printable ASCII becomes `.`.
 fn put_text<W: Write>(out: &mut W, text: &[u8]) -> fmt::Result {
     for byte in text {
         match replacement(*byte) {
@@ -39,20 +39,26 @@ fn put_digest<W: Write>(out: &mut W, digest: &[u8]) -> fmt::Result {
     Ok(())
 }
 
-/// What stands in a row. What isn't there is null.
+/// A value in a row; `None` is written as null.
 #[derive(Clone, Copy)]
 pub enum Item<'a> {
+    /// A word, written as it is.
     Word(&'static str),
-    /// A text, between the quotes that its row has.
+    /// A text; the row has the quotes.
     Text(&'a [u8]),
+    /// Bytes in hexadecimal; the row has the quotes.
     Digest(&'a [u8]),
+    /// A number that isn't negative.
     Natural(u64),
+    /// A number.
     Number(i64),
+    /// A number that isn't negative, if there is one.
     NaturalIf(Option<u64>),
+    /// A number, if there is one.
     NumberIf(Option<i64>),
-    /// The number of a rule, of those of its text.
+    /// The number of a rule in its text, if there is one.
     RuleIf(Option<usize>),
-    /// The number of a text.
+    /// The number of a rule text, if there is one.
     TextIf(Option<u16>),
 }
 
@@ -69,7 +75,7 @@ fn put_item<W: Write>(out: &mut W, item: Item<'_>) -> fmt::Result {
     }
 }
 
-/// Writes what stands in front of each item, and behind the last.
+/// Writes a row: each text is followed by its item, if there is one.
 fn put_row<W: Write>(out: &mut W, texts: &[&'static str], items: &[Item<'_>]) -> fmt::Result {
     for (number, text) in texts.iter().enumerate() {
         out.write_str(text)?;
@@ -80,7 +86,7 @@ fn put_row<W: Write>(out: &mut W, texts: &[&'static str], items: &[Item<'_>]) ->
     Ok(())
 }
 
-/// Where JSON is written, and whether all of it was: behind a write that failed there is none. Commas stand between the members of a list.
+/// A writer of JSON. It writes the commas between the members of a list, and nothing more after a write that failed.
 #[derive(Drop)]
 pub struct Json<'o, W: Write> {
     out: &'o mut W,
@@ -90,7 +96,7 @@ pub struct Json<'o, W: Write> {
 }
 
 impl<'o, W: Write> Json<'o, W> {
-    /// Nothing is written yet.
+    /// A writer to `out` that has written nothing.
     pub fn new(out: &'o mut W) -> Json<'o, W> {
         Json {
             out,
@@ -99,7 +105,7 @@ impl<'o, W: Write> Json<'o, W> {
         }
     }
 
-    /// What is no member, and opens no list.
+    /// Writes a part that is neither a member nor the opening of a list.
     pub fn text(&mut self, text: &'static str) {
         if self.result.is_ok() {
             self.result = self.out.write_str(text);
@@ -107,7 +113,7 @@ impl<'o, W: Write> Json<'o, W> {
         self.is_first = false;
     }
 
-    /// What stands in front of a member.
+    /// Writes the comma before a member, unless it is the first of its list.
     fn comma(&mut self) {
         if self.is_first {
             self.is_first = false;
@@ -116,39 +122,39 @@ impl<'o, W: Write> Json<'o, W> {
         }
     }
 
-    /// What opens a list.
+    /// Writes a part that opens a list.
     pub fn open(&mut self, text: &'static str) {
         self.text(text);
         self.is_first = true;
     }
 
-    /// A member that is a list, or ends with one that it opens.
+    /// Writes a member that opens a list at its end.
     pub fn list(&mut self, text: &'static str) {
         self.comma();
         self.open(text);
     }
 
-    /// A text, which stands between quotes.
+    /// Writes a text for between quotes.
     pub fn quote(&mut self, text: &[u8]) {
         if self.result.is_ok() {
             self.result = put_text(self.out, text);
         }
     }
 
-    /// A row: what stands in front of each item, and behind the last. There is a text for each item.
+    /// Writes a row: each text is followed by its item. There is at least one text for each item.
     pub fn row(&mut self, texts: &[&'static str], items: &[Item<'_>]) {
         if self.result.is_ok() {
             self.result = put_row(self.out, texts, items);
         }
     }
 
-    /// A row that is a member.
+    /// Writes a row as a member of a list.
     pub fn member(&mut self, texts: &[&'static str], items: &[Item<'_>]) {
         self.comma();
         self.row(texts, items);
     }
 
-    /// The first error of the writer, if it had one.
+    /// Returns the first error of the writer, if there was one.
     pub fn end(self) -> fmt::Result {
         self.result
     }

@@ -1,5 +1,5 @@
-//! The data of a run's page, as crates/run_page/page/DATA.md says it: one object of JSON, of what the account of the run and the
-//! lists of its changes have. Each row is a list of texts with a value behind each.
+//! The data of a run's page (crates/run_page/page/DATA.md): one JSON object with the account of the run and the lists of its changes.
+//! Each row is a list of texts with a value after each.
 #![tactic(auto)]
 
 mod data;

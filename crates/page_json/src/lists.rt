@@ -1,4 +1,4 @@
-//! The lists of a page's data: what is told of its fields and of its lanes, and the bands.
+//! The lists of a page's data: its fields, its lanes and its bands.
 
 use crate::json::{Item, Json};
 use crate::value_names::{how, mode};
@@ -6,12 +6,12 @@ use bounded_history::{Changes, Entry};
 use run_summary::{Bands, Place, Seen};
 use std::fmt::Write;
 
-/// What stands in front of the items of an entry: of its first ones, and of those that tell of more than one change.
+/// The texts before the items of an entry: of the first items, and of those in entries with more than one change.
 const VALUE: &[&str] = &["[", ",", ","];
 
 const TO_VALUE: &[&str] = &[",", ",", "]"];
 
-/// An entry of a field. A value that is more than the greatest and less than the least is none.
+/// An entry of a field. If its least value is greater than its greatest, the field has no value.
 fn put_value<W: Write>(json: &mut Json<'_, W>, entry: &Entry) {
     let (low, high) = if entry.told.low <= entry.told.high {
         (Some(entry.told.low), Some(entry.told.high))
@@ -132,7 +132,7 @@ pub fn put_lanes<W: Write>(json: &mut Json<'_, W>, lanes: &[Changes]) {
 
 const TABLES: &[&str] = &["[", ",", ",", ",\"", "\"]"];
 
-/// Which tables were in force.
+/// The changes of the tables in force.
 pub fn put_tables<W: Write>(json: &mut Json<'_, W>, bands: &Bands) {
     for from in bands.tables() {
         let items = [
@@ -147,7 +147,7 @@ pub fn put_tables<W: Write>(json: &mut Json<'_, W>, bands: &Bands) {
 
 const MODE: &[&str] = &["[", ",", ",\"", "\"]"];
 
-/// The modes.
+/// The changes of the Limit Checker's mode.
 pub fn put_modes<W: Write>(json: &mut Json<'_, W>, bands: &Bands) {
     for from in bands.modes() {
         let items = [

@@ -1,11 +1,11 @@
-//! What was sent, of a page's data: requests with the samples that counted, and events.
+//! The requests, with the samples that counted, and the events of a page's data.
 
 use crate::json::{Item, Json};
 use crate::value_names::level;
 use run_summary::{Account, Left, Met, Part, Request, Sample, SeenEvent, verdict};
 use std::fmt::Write;
 
-/// What stands in front of the items of what a comparison met of a field, where a packet of it came, and where none did.
+/// The texts of the row for what a comparison met: with a packet of the field, and without one.
 const MET: &[&str] = &["[", ",", ",", ",\"", "\"]"];
 
 const UNMET: &[&str] = &["[", ",null,null,\"", "\"]"];
@@ -86,7 +86,7 @@ fn put_request<W: Write>(json: &mut Json<'_, W>, account: &Account<'_>, request:
     json.text("]}")
 }
 
-/// Requests, one behind the other.
+/// Requests, in order.
 fn put_some<W: Write>(json: &mut Json<'_, W>, account: &Account<'_>, requests: &[Request]) {
     for request in requests {
         put_request(json, account, request);
@@ -108,7 +108,7 @@ fn put_requests<W: Write>(json: &mut Json<'_, W>, account: &Account<'_>) {
 
 const EVENT: &[&str] = &["[", ",", ",", ",", ",\"", "\",", ",\"", "\",\"", "\"]"];
 
-/// Events, one behind the other.
+/// Events, in order.
 fn put_events<W: Write>(json: &mut Json<'_, W>, events: &[SeenEvent]) {
     for event in events {
         let items = [
@@ -127,7 +127,7 @@ fn put_events<W: Write>(json: &mut Json<'_, W>, events: &[SeenEvent]) {
 
 const LEFT: &[&str] = &["[", ",", ",", "]"];
 
-/// What is left out of a list.
+/// The number and the records of what is left out of a list.
 fn put_left<W: Write>(json: &mut Json<'_, W>, left: Option<Left>) {
     match left {
         Some(left) => {

@@ -1,4 +1,4 @@
-//! The texts of a page's data, and their rules.
+//! The rule texts of a page's data.
 
 use crate::json::{Item, Json};
 use crate::value_names::{joint, level, operator, state};
@@ -8,7 +8,7 @@ use rule_parser::{Expression, ReportItem, RuleItem};
 use run_summary::{Account, Part, condition_tokens, rule_at, rule_count, token_bytes};
 use std::fmt::Write;
 
-/// A condition as the text has it, with one blank where the text has some or a comment.
+/// A condition as in the text, with one blank in the place of blanks and comments.
 fn put_condition<W: Write>(json: &mut Json<'_, W>, tokens: &[Token<'_>]) {
     let mut end = None;
     for token in tokens {
@@ -23,7 +23,7 @@ fn put_condition<W: Write>(json: &mut Json<'_, W>, tokens: &[Token<'_>]) {
 
 const NODE: &[&str] = &["", ""];
 
-/// A condition in prefix order; comparisons are numbered from `next` on. Answers the number behind.
+/// A condition in prefix order; comparisons are numbered from `next` on. Returns the next free number.
 fn put_tree<W: Write>(json: &mut Json<'_, W>, condition: &Expression<'_>, next: u64) -> u64 {
     match condition {
         Expression::Compare(_) => {
@@ -58,7 +58,7 @@ fn put_comparisons<W: Write>(json: &mut Json<'_, W>, text: &RuleText<'_>, parts:
 
 const REPORT: &[&str] = &["", ",", ",", "],\"condition\":\""];
 
-/// How many turns a rule reports: as passive, from pass to fail, and from fail to pass.
+/// The most events of a rule: for failures while passive, turns to fail, and turns to pass.
 fn put_report<W: Write>(json: &mut Json<'_, W>, report: Option<ReportItem>) {
     match report {
         Some(report) => {
@@ -84,7 +84,7 @@ const HEAD: &[&str] = &[
     "\",\"report\":[",
 ];
 
-/// A rule of a text, in front of its condition.
+/// A rule of a text, up to its condition.
 fn put_head<W: Write>(json: &mut Json<'_, W>, rule: &RuleItem<'_>) {
     let items = [
         Item::Text(rule.name.text),

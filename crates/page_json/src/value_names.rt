@@ -5,17 +5,17 @@ use lc_model::{ApMode, CmpOp, EventKind, LcMode};
 use rule_parser::Expression;
 use run_summary::How;
 
-/// A type of events, as rule texts have it.
+/// The word of an event type, as in rule texts.
 pub fn level(kind: EventKind) -> Item<'static> {
     Item::Word(kind.word())
 }
 
-/// A state in which a rule begins.
+/// The word of the state in which a rule begins.
 pub fn state(state: ApMode) -> Item<'static> {
     Item::Word(state.word())
 }
 
-/// A comparison's sign, without the bytes that end a script in HTML.
+/// The sign of a comparison, escaped so that it can't end a script in HTML.
 pub fn operator(op: CmpOp) -> Item<'static> {
     Item::Word(match op {
         CmpOp::Less => "\\u003c",
@@ -27,7 +27,7 @@ pub fn operator(op: CmpOp) -> Item<'static> {
     })
 }
 
-/// What joins conditions.
+/// The word of the operator that joins or negates conditions.
 pub fn joint(condition: &Expression<'_>) -> Item<'static> {
     Item::Word(match condition {
         Expression::Compare(_) => "",
@@ -38,7 +38,7 @@ pub fn joint(condition: &Expression<'_>) -> Item<'static> {
     })
 }
 
-/// How tables came into force, or that it isn't told.
+/// How tables came into force; `untold` if it isn't known.
 pub fn how(how: Option<How>) -> Item<'static> {
     Item::Word(match how {
         Some(How::None) => "none",
@@ -48,7 +48,7 @@ pub fn how(how: Option<How>) -> Item<'static> {
     })
 }
 
-/// A mode, that no Limit Checker runs, or that it isn't told.
+/// The word of the Limit Checker's mode; `absent` if none runs, `untold` if it isn't known.
 pub fn mode(mode: Option<Option<LcMode>>) -> Item<'static> {
     Item::Word(match mode {
         None => "untold",

@@ -8,12 +8,12 @@ use std::alloc::{AllocError, AllocFailed, Global};
 use std::env::{self, Env};
 use std::io::ErrorKind;
 
-/// Why the program has no words.
+/// Why the words of the command line can't be read.
 #[derive(Clone, Copy, Debug, PartialEq, Eq)]
 pub enum ArgumentsError {
-    /// No memory.
+    /// There is no memory.
     Memory,
-    /// A word is no text (UTF-8).
+    /// A word isn't valid UTF-8.
     NoText,
 }
 
@@ -25,7 +25,7 @@ impl<T: Drop> From<AllocFailed<T>> for ArgumentsError {
     }
 }
 
-/// Why the system has no words for the program: want of memory, or words that are no text.
+/// The error for an error kind of the system: a lack of memory, or words that aren't valid UTF-8.
 pub fn arguments_error(kind: ErrorKind) -> ArgumentsError
     ensures { result ≡ arguments_error kind }
 {
@@ -35,7 +35,7 @@ pub fn arguments_error(kind: ErrorKind) -> ArgumentsError
     }
 }
 
-/// The words of the command line, the program's name first.
+/// The words of the command line, the program's name first. Errors: `Memory`, or `NoText` if a word isn't valid UTF-8.
 pub fn arguments_of<R: Env + AllocGlobal>(rt: &R) -> Result<Vec<String>, ArgumentsError> {
     let args = match env::args(rt) {
         Ok(args) => args,
@@ -48,7 +48,7 @@ pub fn arguments_of<R: Env + AllocGlobal>(rt: &R) -> Result<Vec<String>, Argumen
     Ok(words)
 }
 
-/// The same words, lent. Out of memory is the only error.
+/// The same words, borrowed. The only error is a lack of memory.
 pub fn lend_words<'a>(alloc: Global, words: &'a [String]) -> Result<Vec<&'a str>, AllocError>
     ensures { IfOk result
         (λ lent. map (λ word. word.now) lent.items ≡ map string_bytes words.now) }

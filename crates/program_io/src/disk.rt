@@ -6,45 +6,45 @@ ghost use Rattle.program_io.specs.FileCall.{FileCall, Closes, Compares, Makes, O
 use crate::why::FileFault;
 use lc_model::{ByteSink, ByteSource};
 
-/// What opens, makes and compares files by their names.
+/// Opens, creates and compares files by name. Contracts see the calls in order.
 pub trait Disk {
     /// An opened file.
     type Reader: ByteSource + Drop;
-    /// A file that is being made.
+    /// A file that is being created.
     type Device: ByteSink + Drop;
 
-    // The calls so far, in their order, where they are known.
+    // The calls so far, in order, if they are known.
     ghost calls: { Self → Option (List FileCall) };
 
-    /// The first bytes of a file, 65,537 of them at most.
+    /// Returns the first bytes of a file, at most 65,537.
     fn read(&mut self, name: &str) -> Result<Vec<u8>, FileFault>
         ensures { calls self.new ≡ followed_by (calls self.old)
             (Reads name.now (given_by (λ bytes. bytes.items) result) ∷ []) };
 
-    /// Opens a file. Nothing was read or failed yet.
+    /// Opens a file to read it from its first byte.
     fn open(&mut self, name: &str) -> Result<Self::Reader, FileFault>
         ensures unread { IfOk result (λ reader. (Self.Reader.source reader).reads ≡ 0) }
         ensures readable { IfOk result (λ reader. (Self.Reader.source reader).failed ≡ false) }
         ensures noted { calls self.new ≡ followed_by (calls self.old)
             (Opens name.now (given_by Self.Reader.source result) ∷ []) };
 
-    /// Whether two names are of one file, or would be if each were made.
+    /// Whether two names are of the same file, or would be if both were created.
     fn is_one_file(&mut self, first: &str, second: &str) -> bool
         ensures { calls self.new ≡ followed_by (calls self.old)
             (Compares first.now second.now result ∷ []) };
 
-    /// Makes a file, in place of another of its name. Nothing failed yet.
+    /// Creates a file, in place of another of its name.
     fn create(&mut self, name: &str) -> Result<Self::Device, FileFault>
         ensures writable { IfOk result (λ device. (Self.Device.sink device).failed ≡ false) }
         ensures noted { calls self.new ≡ followed_by (calls self.old)
             (Makes name.now (given_by Self.Device.sink result) ∷ []) };
 
-    /// Closes a file that was made.
+    /// Closes a created file.
     fn close(&mut self, device: Self::Device)
         ensures { calls self.new ≡ followed_by (calls self.old)
             (Closes (Self.Device.sink device) ∷ []) };
 
-    /// Makes a file of these bytes, in place of another of its name.
+    /// Creates a file with these bytes, in place of another of its name.
     fn write(&mut self, name: &str, bytes: &[u8]) -> Result<(), FileFault>
         ensures { calls self.new ≡ followed_by (calls self.old)
             (Writes name.now bytes.now (is_ok result) ∷ []) };

@@ -1,29 +1,29 @@
-//! Files that are written beside their names, and take them at the end.
+//! Files that are written under a temporary name and renamed at the end.
 
 use crate::why::{FileFault, Why, fault_of};
 use std::fs::{self, File, Files, Metadata, OpenFile};
 use std::io::ErrorKind;
 
-/// How many names are tried beside a file's own.
+/// The most temporary names that are tried.
 const TRIES: u32 = 100;
 
-/// The name beside, under which a file is written, and its own, which it takes at the end.
+/// The temporary name of a file, and the name that it gets at the end.
 #[derive(Drop)]
 struct DraftNames {
     beside: String,
     own: String,
 }
 
-/// A file that is being written beside the one whose name it will take: what stands under that name stays until it is kept. A
-/// device or a pipe is written as it stands.
+/// A file that is being written under a temporary name in the same folder. An old file of its final name stays until `keep`. A device
+/// or a pipe is written directly.
 #[derive(Drop)]
 pub struct Draft<F: Drop> {
-    /// What is written to.
+    /// The file to write to.
     pub file: F,
     names: Option<DraftNames>,
 }
 
-/// The name under which a file is really there, or this one.
+/// The name that a link leads to; this name if it leads nowhere.
 fn target_of<R: Files + AllocGlobal>(rt: &R, name: &str) -> Result<String, FileFault> {
     match fs::canonicalize(rt, name) {
         Ok(path) => Ok(path.into_string()),
@@ -31,7 +31,7 @@ fn target_of<R: Files + AllocGlobal>(rt: &R, name: &str) -> Result<String, FileF
     }
 }
 
-/// A new file beside this one; nothing where that name is taken.
+/// A new file with temporary name `number`; `None` if that name is taken.
 fn new_beside<R: Files + AllocGlobal>(
     rt: &R,
     own: &str,
@@ -47,7 +47,7 @@ fn new_beside<R: Files + AllocGlobal>(
     }
 }
 
-/// A file beside this one, under the first name that is free.
+/// A draft under the first free temporary name.
 fn beside<R: Files + AllocGlobal>(rt: &R, own: String) -> Result<Draft<R::File>, FileFault> {
     for number in 0..TRIES {
         if let Some((file, beside)) = new_beside(rt, own.as_str(), number)? {
@@ -60,7 +60,7 @@ fn beside<R: Files + AllocGlobal>(rt: &R, own: String) -> Result<Draft<R::File>,
     Err(FileFault::Unusable(Why::Failed))
 }
 
-/// A device or a pipe, which is written as it stands.
+/// A draft of a device or a pipe, which is written directly.
 fn as_it_stands<R: Files>(rt: &R, name: &str) -> Result<Draft<R::File>, FileFault> {
     match File::create(rt, name) {
         Ok(file) => Ok(Draft { file, names: None }),
@@ -68,7 +68,7 @@ fn as_it_stands<R: Files>(rt: &R, name: &str) -> Result<Draft<R::File>, FileFaul
     }
 }
 
-/// A file beside this one, which is there, with what the system allows of it.
+/// A draft for a file that exists, with its permissions if the system allows that.
 fn beside_old<R: Files + AllocGlobal>(
     rt: &R,
     name: &str,
@@ -81,7 +81,7 @@ fn beside_old<R: Files + AllocGlobal>(
     Ok(draft)
 }
 
-/// Begins a file that is to take this name.
+/// Begins a file that gets this name at the end. Errors are of the system, `Folder` for a folder's name, and a lack of memory.
 pub fn begin<R: Files + AllocGlobal>(rt: &R, name: &str) -> Result<Draft<R::File>, FileFault> {
     match fs::metadata(rt, name) {
         Ok(there) if there.is_dir() => Err(FileFault::Unusable(Why::Folder)),
@@ -91,7 +91,7 @@ pub fn begin<R: Files + AllocGlobal>(rt: &R, name: &str) -> Result<Draft<R::File
     }
 }
 
-/// The file takes its name, once the device has all of it.
+/// Flushes the file to the device and gives it its name. If that fails, the draft is removed and the old file stays.
 pub fn keep<R: Files>(rt: &R, draft: Draft<R::File>) -> Result<(), FileFault> {
     let Draft { file, names } = draft;
     let Some(names) = names else {
@@ -110,7 +110,7 @@ pub fn keep<R: Files>(rt: &R, draft: Draft<R::File>) -> Result<(), FileFault> {
     }
 }
 
-/// The file goes, and what stands under its name stays.
+/// Removes the draft; an old file of its name stays.
 pub fn discard<R: Files>(rt: &R, draft: Draft<R::File>) {
     let Draft { file: _, names } = draft;
     if let Some(names) = names {

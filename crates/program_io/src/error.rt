@@ -1,4 +1,4 @@
-//! Why calls over files go no further, with the file's name.
+//! The errors of calls over files, with the file's name.
 
 ghost use Rattle.std.specs.Prelude.{◌≡◌};
 ghost use Rattle.program_io.specs.Error.{error_at};
@@ -7,10 +7,10 @@ ghost use Rattle.program_io.specs.declared.error.FileError.TheVariants.{Memory};
 use crate::why::{FileFault, Why};
 use std::alloc::{AllocError, AllocFailed};
 
-/// Why calls over files go no further.
+/// The error of a call over files.
 #[derive(Clone, Copy)]
 pub enum FileError<'a> {
-    /// No memory.
+    /// There is no memory.
     Memory,
     /// The file of this name can't be used, and why.
     Unusable(&'a str, Why),

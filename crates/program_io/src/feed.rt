@@ -1,4 +1,4 @@
-//! A file in pieces, of which what isn't listed yet is held.
+//! A file that is read in pieces; the bytes that aren't listed yet are held.
 
 use crate::error::{FileError, error_at};
 use crate::why::fault_of;
@@ -6,7 +6,7 @@ use lc_model::stream::PIECE;
 use std::fs::{File, Files};
 use std::io::Read;
 
-/// A file that is read piece by piece. What is held is less than a longest record or packet, and a piece.
+/// A file that is read piece by piece. It holds the bytes read until the caller lets them go.
 #[derive(Drop)]
 pub struct Feed<'a, F: Drop> {
     name: &'a str,
@@ -15,12 +15,12 @@ pub struct Feed<'a, F: Drop> {
 }
 
 impl<'a, F: Read + Drop> Feed<'a, F> {
-    /// What is held.
+    /// The bytes that are held.
     pub fn contents(&self) -> &[u8] {
         self.held.as_slice()
     }
 
-    /// Reads a piece behind what is held. Answers whether one came: none does at the end.
+    /// Reads a piece after the held bytes. Returns false at the file's end.
     pub fn read_on(&mut self) -> Result<bool, FileError<'a>> {
         let mut piece = [0; PIECE];
         match self.file.read(&mut piece) {
@@ -32,7 +32,7 @@ impl<'a, F: Read + Drop> Feed<'a, F> {
         }
     }
 
-    /// The first bytes go, so many or all.
+    /// Drops the first `size` held bytes, or all if there are fewer.
     pub fn let_go(&mut self, size: usize) {
         let size = size.min(self.held.len());
         let left = self.held.len() - size;
@@ -41,7 +41,7 @@ impl<'a, F: Read + Drop> Feed<'a, F> {
     }
 }
 
-/// The file of this name, of which nothing was read.
+/// Opens the file of this name; nothing of it is read yet.
 pub fn feed_of<'a, R: Files + AllocGlobal>(
     rt: &R,
     name: &'a str,

@@ -1,10 +1,10 @@
-//! Whether two names are of one file.
+//! Whether two names are of the same file.
 
 use std::fs::{self, Files, Metadata};
 use std::os::unix::fs::MetadataExt;
 use std::path::{Path, PathBuf};
 
-/// Whether two files that are there are one, by their device and their number there.
+/// Whether two files are the same regular file, by device and inode number.
 fn is_one_node(first: &Metadata, second: &Metadata) -> bool {
     first.is_file()
         && second.is_file()
@@ -12,14 +12,14 @@ fn is_one_node(first: &Metadata, second: &Metadata) -> bool {
         && (first.dev(), first.ino()) == (second.dev(), second.ino())
 }
 
-/// The folder in which a name stands, under its one name.
+/// The folder of a name, under its canonical name; `None` if there is none.
 fn folder_of<R: Files + AllocGlobal>(rt: &R, name: &str) -> Option<PathBuf> {
     let folder = Path::new(name).parent()?;
     let folder = folder.as_str();
     fs::canonicalize(rt, if folder.is_empty() { "." } else { folder }).ok()
 }
 
-/// Whether two names that nothing has yet would be of one file.
+/// Whether two names that don't exist yet would be of the same file.
 fn is_one_place<R: Files + AllocGlobal>(rt: &R, first: &str, second: &str) -> bool {
     if Path::new(first).file_name() != Path::new(second).file_name() {
         return false;
@@ -30,9 +30,9 @@ fn is_one_place<R: Files + AllocGlobal>(rt: &R, first: &str, second: &str) -> bo
     }
 }
 
-/// Whether two names are of one regular file, or would be if each were made: by device and number where both are there, and by
-/// folder and name where neither is. A device or a pipe is no file that could lose what it holds. What a link that leads to
-/// nothing would make can't be told, nor can a file that others exchange meanwhile.
+/// Whether two names are of the same regular file, or would be if both were created: by device and inode if both exist, by folder and
+/// name if neither does. False for devices and pipes, which can't lose contents. Links to nothing, and files that others replace
+/// meanwhile, aren't recognized.
 pub fn is_one_file<R: Files + AllocGlobal>(rt: &R, first: &str, second: &str) -> bool {
     match (fs::metadata(rt, first), fs::metadata(rt, second)) {
         (Ok(one), Ok(other)) => is_one_node(&one, &other),

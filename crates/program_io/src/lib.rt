@@ -1,6 +1,6 @@
-//! What both programs do with files and with their process: files are read up to a bound or in pieces, told apart, made, and
-//! written beside their names; the words of the command line. What a file gives or takes no contract says; the rows of
-//! `tools/lib/programs` show it. Calls over a `Disk` are noted, one after the other.
+//! Files and command lines, for both programs: reads files up to a bound or in pieces, compares, creates and writes them under temporary
+//! names. No contract covers the contents of files; the rows of `tools/lib/programs` test it. Contracts see the calls over a `Disk` in
+//! order.
 #![tactic(auto)]
 
 mod arguments;

@@ -1,4 +1,4 @@
-//! Calls over files by their names, whose errors have the name.
+//! Calls over files by name; their errors have the name.
 
 ghost use Rattle.std.specs.Prelude.{◌≡◌, ◌≤◌, [], ◌∷◌, Some, None, is_ok, length, map, IfErr, IfOk, OnOk};
 ghost use Rattle.program_io.specs.FileCall.{Reads, Writes, all_apart, all_read, followed_by, given_by};
@@ -11,7 +11,7 @@ use crate::why::Why;
 use lc_model::LONGEST_TEXT;
 use std::alloc::Global;
 
-/// The text in a file, 65,537 bytes of it at most: of a longer one as many as show that it is too long.
+/// Reads the text in a file: at most 65,537 bytes, one more than a text may have.
 pub fn read_text<'a, D: Disk>(disk: &mut D, name: &'a str) -> Result<Vec<u8>, FileError<'a>>
     ensures noted { D.calls disk.new ≡ followed_by (D.calls disk.old)
         (Reads name.entry.now (given_by (λ bytes. bytes.items) result) ∷ []) }
@@ -20,7 +20,7 @@ pub fn read_text<'a, D: Disk>(disk: &mut D, name: &'a str) -> Result<Vec<u8>, Fi
     disk.read(name).map_err(|fault| error_at(name, fault))
 }
 
-/// The text in a file, which may have 65,536 bytes.
+/// Reads the text in a file of at most 65,536 bytes. Error: `TooLong` for a longer file.
 pub fn read_whole_text<'a, D: Disk>(disk: &mut D, name: &'a str) -> Result<Vec<u8>, FileError<'a>>
     ensures read { IfOk result (λ text. D.calls disk.new ≡ followed_by (D.calls disk.old)
         (Reads name.entry.now (Some text.items) ∷ [])) }
@@ -35,7 +35,7 @@ pub fn read_whole_text<'a, D: Disk>(disk: &mut D, name: &'a str) -> Result<Vec<u
     Ok(text)
 }
 
-/// The texts in these files, as `read_text` reads each.
+/// Reads the texts in these files, each as `read_text` does.
 pub fn read_texts<'a, D: Disk>(
     alloc: Global,
     disk: &mut D,
@@ -55,7 +55,7 @@ pub fn read_texts<'a, D: Disk>(
     Ok(texts)
 }
 
-/// A file is made of these bytes, in place of another of its name.
+/// Creates a file with these bytes, in place of another of its name.
 pub fn write_file<'a, D: Disk>(
     disk: &mut D,
     name: &'a str,
@@ -69,7 +69,7 @@ pub fn write_file<'a, D: Disk>(
         .map_err(|fault| error_at(name, fault))
 }
 
-/// A file that is to be written is none of these, which are read or written too.
+/// Checks that a file to be written isn't one of these others, which are read or written too. Error: `Itself` if it is.
 pub fn check_apart<'a, D: Disk>(
     disk: &mut D,
     name: &'a str,

@@ -1,9 +1,9 @@
-//! A device that notes why it failed.
+//! A device that records why it failed.
 
 use std::cell::Cell;
 use std::io::{self, ErrorKind, Read, Write};
 
-/// Reads from a device, or writes to it, and notes the kind of its first error.
+/// A reader or writer that records the kind of its first error.
 #[derive(Drop)]
 pub struct Noting<'a, D: Drop> {
     device: D,
@@ -11,7 +11,7 @@ pub struct Noting<'a, D: Drop> {
 }
 
 impl<'a, D: Drop> Noting<'a, D> {
-    /// The note is written into this cell.
+    /// Wraps a device; the kind of its first error is stored in `kind`.
     pub fn new(device: D, kind: &'a Cell<Option<ErrorKind>>) -> Noting<'a, D> {
         Noting { device, kind }
     }

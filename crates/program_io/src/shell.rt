@@ -1,4 +1,4 @@
-//! The files of the system. Of their bytes, and of what was done with them, no contract of the standard library says anything.
+//! The files of the system. No contract of the standard library covers their bytes or the calls over them.
 
 ghost use Rattle.std.specs.Prelude.{None};
 
@@ -10,10 +10,10 @@ use crate::writing::write_all_to;
 use lc_model::{Reading, Writing};
 use std::fs::{File, Files};
 
-/// The most bytes that are read of a rule text or a schedule: one more than either may have.
+/// The most bytes that are read of a rule text or a schedule: one more than it may have.
 const MOST: u64 = 65_537;
 
-/// The files of the system, of which no call is known.
+/// The files of the system. Its calls aren't known to contracts.
 #[derive(Drop)]
 pub struct Shell<'a, R: Files + AllocGlobal> {
     rt: &'a R,

@@ -6,7 +6,7 @@ use crate::why::{FileFault, Why, fault_of};
 use std::fs::{File, Files};
 use std::io::Read;
 
-/// The first bytes of a file, so many at most.
+/// Reads the first bytes of a file, at most `most`.
 pub fn read_front<R: Files + AllocGlobal>(
     rt: &R,
     name: &str,
@@ -23,7 +23,7 @@ pub fn read_front<R: Files + AllocGlobal>(
     }
 }
 
-/// The bytes of a file that has so many at most. One byte more of it is read.
+/// Reads a file of at most `most` bytes. Error: `TooLong` for a longer file, of which one byte more is read.
 pub fn read_all<R: Files + AllocGlobal>(rt: &R, name: &str, most: u64) -> Result<Vec<u8>, FileFault>
     ensures { IfOk result (λ bytes. vec_len bytes ≤ most) }
 {

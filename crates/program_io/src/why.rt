@@ -7,24 +7,24 @@ ghost use Rattle.program_io.specs.Why.{fault_by, reason, why_of};
 use std::fmt::{self, Display, Formatter, Write};
 use std::io::{self, ErrorKind};
 
-/// Why a file can't be used, as far as the system tells.
+/// Why a file can't be used, as the system reports it.
 #[derive(Clone, Copy, Debug, PartialEq, Eq)]
 pub enum Why {
-    /// There is none of that name.
+    /// There is no file of that name.
     NotThere,
     /// The system doesn't allow it.
     NotAllowed,
     /// It is a folder.
     Folder,
-    /// What stands before its last `/` is no folder.
+    /// The part before its last `/` isn't a folder.
     NoFolder,
     /// The device has no room.
     Full,
-    /// The same call reads it, or writes it twice.
+    /// The same call also reads it, or writes it twice.
     Itself,
-    /// It is longer than any file of its kind, of which this is the longest, in bytes.
+    /// It is longer than this greatest length for files of its kind, in bytes.
     TooLong(u64),
-    /// It failed otherwise.
+    /// It failed for another reason.
     Failed,
 }
 
@@ -45,16 +45,16 @@ impl Display for Why {
     }
 }
 
-/// Why a call over a file goes no further.
+/// The error of a call over one file, without its name.
 #[derive(Clone, Copy, Debug, PartialEq, Eq)]
 pub enum FileFault {
-    /// No memory.
+    /// There is no memory.
     Memory,
     /// The file can't be used.
     Unusable(Why),
 }
 
-/// Which fault an error of the system is.
+/// The fault for an error of the system.
 pub fn fault_of(error: &io::Error) -> FileFault
     ensures { result ≡ fault_by (error_kind error.now) }
 {
@@ -64,7 +64,7 @@ pub fn fault_of(error: &io::Error) -> FileFault
     }
 }
 
-/// Why a file can't be used, by the kind of an error.
+/// The reason for an error kind of the system.
 pub fn reason_for(kind: ErrorKind) -> Why
     ensures { result ≡ why_of kind }
 {

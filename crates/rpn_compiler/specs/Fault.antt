@@ -34,7 +34,7 @@ abbrev pub error_of_sharing : ShareError → CompileError
 error_of_sharing sharing.TooManyWatchpoints = TooManyWatchpoints
 error_of_sharing sharing.Memory = Memory
 
--- ---- the refusal that an error is; want of memory is none
+-- ---- the refusal that an error is; lack of memory is none
 
 abbrev at_place : (code at : ℕ) → Option TextRefusal
 at_place code at = Some (AtPlace (record { code = code; at = at }))
@@ -72,6 +72,6 @@ code_of (AtPlace fault) = fault.code
 code_of (Unparsed fault) = code_of_fault fault
 code_of (ForRule code rule) = code
 
--- want of memory, or a refusal of which this is true
+-- lack of memory, or a refusal with this property
 abbrev pub Refuses : (TextRefusal → Type 0) → CompileError → Type 0
 Refuses P error = (error ≡ Memory) ⊎ ((refusal : TextRefusal) × (refusal_of error ≡ Some refusal) × P refusal)

@@ -16,12 +16,12 @@ pub record NamesItsNumberIn (text : List ℕ) (error : CheckError) : Type 0 wher
   pub parses : Parses tokens items
   pub names : NamesItsNumber items error
 
--- the compiler's error names the place of such a number, where it is of one
+-- the compiler's error names the place of such a number, if it is about a number's range
 abbrev pub NamesTheNumberIn : List ℕ → CompileError → Type 0
 NamesTheNumberIn text (Check error) = NamesItsNumberIn text error
 NamesTheNumberIn text error = ⊤
 
--- it is an error of what rules are too much for the tables, or want of memory
+-- the error is that the rules exceed the limits of the tables, or a lack of memory
 abbrev pub IsOfTables : CompileError → Type 0
 IsOfTables (Lex error) = ⊥
 IsOfTables (Parse error) = ⊥

@@ -5,7 +5,7 @@ use Rattle.std.specs.declared.alloc.Global.{Global}
 use Rattle.lc_model.specs.Condition.{Condition, Watch, Not, Join}
 use Rattle.lc_model.specs.Tables.Equation.{operator_word, not_word}
 
--- words that spell a condition, and how many operands wait in them at once, at most
+-- words that spell a condition, and the greatest number of operands that wait in them at once
 pub record Emitted : Type 0 where
   pub words : List ℕ
   pub need : ℕ
@@ -14,7 +14,7 @@ pub record Emitted : Type 0 where
 abbrev pub in_turn : (operator : ℕ) → Emitted → Emitted → Emitted
 in_turn operator a b = record { words = a.words ++ b.words ++ operator ∷ []; need = max a.need (b.need + 1) }
 
--- the words with the operand of greater need first, and as they stand where both need as much
+-- the words with the operand of greater need first, and in the text's order where the needs are equal
 abbrev pub joined : (operator : ℕ) → Emitted → Emitted → Emitted
 joined operator a b = if nat_lt a.need b.need then in_turn operator b a else in_turn operator a b
 

@@ -1,4 +1,4 @@
--- What a rule text has that was read: items, and the rules that they mean. This project's own.
+-- The items of a rule text that was read, and the rules that they mean. This project's own.
 use Rattle.std.specs.Prelude.{ℕ, List}
 use Rattle.lc_model.specs.Rule.{NamedRule}
 use Rattle.lc_model.specs.Text.Meaning.{Means}

@@ -26,6 +26,6 @@ pub record IsTextOf (source : List ℕ) (text : RuleText) : Type 0 where
   pub bytes : bytes_in text ≡ source
   pub reads : IsRuleText text
 
--- .. each of these from its own
+-- each of these was read from its own bytes
 abbrev pub AreTextsOf : List (List ℕ) → List RuleText → Type 0
 AreTextsOf sources texts = AllZip IsTextOf sources texts

@@ -17,17 +17,17 @@ use std::alloc::Global;
 
 /// Compiles a rule text to the files of its two tables: its watchpoints in order of first mention, its rules in the order
 /// of the text, with the words of each equation operands first, and in both the SHA-256 of the text. Of two operands the one
-/// in whose words more operands wait comes first, and they stay as they stand where as many do; so at most 4 wait in 20
+/// in whose words more operands wait comes first; where as many wait, they stay in the text's order. So at most 5 wait in 32
 /// words, and no rule that fits its words is refused for its depth.
 ///
 /// Errors: the first refusal, where the whole text is lexed, then parsed, then checked, and its watchpoints are counted,
-/// its rules, and last the words of each rule. `Memory` comes only where the files, or what is made on the way to them,
-/// find no room.
+/// its rules, and last the words of each rule. `Memory` comes only where there is no memory for the files or for what is made
+/// on the way to them.
 pub fn compile(alloc: Global, text: &[u8]) -> Result<TablePair, CompileError>
     ensures compiles { IfOk result (λ pair. (rules : List NamedRule) ×
         Compiles limits text.now rules × AreTables text.now rules pair) }
     ensures refused { IfErr result (Refuses (IsRefused limits text.now)) }
-    // Where a number is said to be out of its range, one of the text's numbers is.
+    // Where the error says that a number is out of its range, the text has such a number.
     ensures named { IfErr result (NamesTheNumberIn text.now) }
     ensures accepts { (rules : List NamedRule) → Compiles limits text.now rules →
         MatchResult result (AreTables text.now rules) (λ error. error ≡ Memory) }

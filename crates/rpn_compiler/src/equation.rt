@@ -13,8 +13,8 @@ use lc_model::equation_words::{AND, NOT, OR, XOR};
 use lc_model::{Cond, EQUATION_WORDS, Rule};
 use std::alloc::{AllocError, Global};
 
-/// What is left behind a condition whose words were added: the numbers of the mentions behind it, and how many operands
-/// wait in its words at once, at most.
+/// What is left after a condition whose words were added: the numbers of the mentions after it, and the greatest number of
+/// operands that wait in its words at once.
 #[derive(Clone, Copy)]
 struct Pushed<'n> {
     left: &'n [u16],

@@ -15,7 +15,7 @@ use watch_sharing::ShareError;
 /// whole text.
 #[derive(Clone, Copy, Debug, PartialEq, Eq, Error)]
 pub enum CompileError {
-    /// A token that is none, or a text that is too long: 1 to 5.
+    /// A bad token, or a text that is too long: 1 to 5.
     #[error("{0}")]
     Lex(LexError),
     /// A token that continues no reading, or one that nests too deep: 11 and 12.
@@ -99,7 +99,7 @@ impl<T: Drop> From<AllocFailed<T>> for CompileError {
 }
 
 impl CompileError {
-    /// The refusal's number, 1 to 42. Want of memory has none, since the text isn't at fault.
+    /// The refusal's number, 1 to 42. `Memory` has none, since the text isn't at fault.
     pub fn code(self) -> Option<u8>
         ensures { result ≡ option_map code_of (refusal_of self) }
     {

@@ -35,7 +35,7 @@ pub struct TablePair {
     pub rules: u16,
 }
 
-/// The file of a table of watchpoints. The writers refuse for want of memory alone.
+/// The file of a table of watchpoints. The error is a lack of memory.
 fn wdt_file(alloc: Global, image: &WdtImage) -> Result<Vec<u8>, CompileError>
     requires few { length image.now.watchpoints.items ≤ table_entries }
     requires fit { AllByRecursion FitsWatchpoint image.now.watchpoints.items }
@@ -48,7 +48,7 @@ fn wdt_file(alloc: Global, image: &WdtImage) -> Result<Vec<u8>, CompileError>
     wrap(alloc, Kind::Wdt, bytes.as_slice()).map_err(|_| CompileError::Memory)
 }
 
-/// The file of a table of actionpoints. The writers refuse for want of memory alone.
+/// The file of a table of actionpoints. The error is a lack of memory.
 fn adt_file(alloc: Global, image: &AdtImage) -> Result<Vec<u8>, CompileError>
     requires few { length image.now.actionpoints.items ≤ table_entries }
     requires fit { AllByRecursion (FitsEntry (layout_of_version image.now.version))
@@ -62,7 +62,7 @@ fn adt_file(alloc: Global, image: &AdtImage) -> Result<Vec<u8>, CompileError>
     wrap(alloc, Kind::Adt, bytes.as_slice()).map_err(|_| CompileError::Memory)
 }
 
-/// The files of the tables of what the rules of a text are lowered to.
+/// The files of the two tables for the lowered rules of a text.
 pub fn files(
     alloc: Global,
     text: &[u8],

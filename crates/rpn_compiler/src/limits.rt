@@ -26,7 +26,8 @@ fn size(cond: &Cond) -> usize
     }
 }
 
-/// Whether the equation of the rule with this number is short enough. However its operands stand, few wait at once.
+/// Whether the equation of the rule with this number is short enough. Then few operands wait at once in its compiled words,
+/// whatever the order of its operands in the text.
 fn judge_rule(number: usize, rule: &Rule) -> Result<(), CompileError>
     ensures judged { MatchResult result (λ _. refusal_of_rule number (rule_of rule.now) ≡ None)
         (IsRefusal (refusal_of_rule number (rule_of rule.now))) }

@@ -7,6 +7,6 @@ use lc_model::Term;
 pub struct Lowered {
     /// The watchpoints that the rules mention, each once, in order of first mention.
     pub terms: Vec<Term>,
-    /// For each rule the words of its condition. EQUAL, which ends an equation, is the table's.
+    /// For each rule the words of its condition, without EQUAL, which the table's writer adds.
     pub words: Vec<Vec<u16>>,
 }

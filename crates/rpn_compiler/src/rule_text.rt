@@ -35,14 +35,14 @@ pub struct RuleText<'a> {
 }
 
 impl<'a> RuleText<'a> {
-    /// Reads a text. How many rules and watchpoints it has is not looked at: `check_limits` and `compile` do that.
+    /// Reads a text. It doesn't check how many rules and watchpoints there are: `check_limits` and `compile` do that.
     ///
     /// Errors: the first refusal, where the whole text is lexed, then parsed, then checked; `Memory`.
     pub fn read(alloc: Global, text: &'a [u8]) -> Result<RuleText<'a>, CompileError>
         ensures bytes { IfOk result (λ it. it.bytes.now ≡ text.now) }
         ensures reads { IfOk result IsRuleText }
         ensures refused { IfErr result (Refuses (IsUnreadable text.now)) }
-        // Where a number is said to be out of its range, one of the text's numbers is.
+        // Where the error says that a number is out of its range, the text has such a number.
         ensures named { IfErr result (NamesTheNumberIn text.now) }
         ensures accepts { (rules : List NamedRule) → Reads text.now rules →
             MatchResult result (λ it. it.rules.rules ≡ rules) (λ error. error ≡ Memory) }
@@ -62,7 +62,7 @@ impl<'a> RuleText<'a> {
 
     /// Reads a valid text: one that compiles, though nothing is compiled.
     ///
-    /// Errors: the first refusal, as `compile` has it; `Memory`.
+    /// Errors: the first refusal, as of `compile`; `Memory`.
     pub fn read_valid(alloc: Global, text: &'a [u8]) -> Result<RuleText<'a>, CompileError>
         ensures bytes { IfOk result (λ it. it.bytes.now ≡ text.now) }
         ensures reads { IfOk result IsRuleText }
@@ -77,7 +77,7 @@ impl<'a> RuleText<'a> {
 
     /// Whether its rules and watchpoints keep to the limits of the tables.
     ///
-    /// Errors: the first limit that they don't keep to, as `compile` has it; `Memory`.
+    /// Errors: the first limit that they exceed, as of `compile`; `Memory`.
     pub fn check_limits(&self, alloc: Global) -> Result<(), CompileError>
         ensures within { IfOk result (λ _. limit_refusal limits self.now.rules.rules ≡ None) }
         ensures refused { IfErr result

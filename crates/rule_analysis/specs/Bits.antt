@@ -15,7 +15,7 @@ use Rattle.rule_analysis.specs.Fields.{field_read, is_one}
 
 -- ---- where the bits of a field stand
 
--- which byte of a number stands so far behind the first byte of a field; 0 is the lowest
+-- the index of the number's byte that is this many bytes after a field's first byte; 0 is the lowest
 abbrev pub byte_number : FieldType → ℕ → ℕ
 byte_number k behind = if is_little k then behind else width k - 1 - behind
 
@@ -30,7 +30,7 @@ bits_read f place = byte_there f f.mask place
 
 -- ---- which fields share bits
 
--- the field reads some of these bits, which are told place by place
+-- the field reads some of these bits, which are given place by place
 abbrev pub reads_some : (ℕ → ℕ) → Field → Bool
 reads_some bits f = list_any (λ behind. not (bit_and (bits (f.offset + behind)) (bits_read f (f.offset + behind)) == 0)) (numbers_below (width f.kind))
 
@@ -56,7 +56,7 @@ pub record ReadsTelemetry (t : Term) : Type 0 where
   pub end : t.offset + width t.kind ≤ longest_packet
   pub mask : t.mask ≤ full_mask t.kind
 
--- so does each comparison of a text that is read
+-- each comparison of a valid text does the same
 abbrev pub TextsReadTelemetry : Type 0
 TextsReadTelemetry = (text : List ℕ) (rules : List NamedRule) → Reads text rules →
     AllByRecursion (λ (rule : NamedRule). AllByRecursion ReadsTelemetry (mentions rule.action.condition)) rules

@@ -1,4 +1,4 @@
--- A sequence that only rules request that never fail is called for by nobody. This project's own.
+-- If only rules that never fail request a sequence, nothing calls for it. This project's own.
 use Rattle.std.specs.Prelude.{◌≡◌, ◌≢◌, ℕ, List, ◌++◌, length, Some, Contains}
 use Rattle.std.specs.List.{AllByRecursion, concat}
 use Rattle.lc_model.specs.Bytes.{u16_at}
@@ -39,7 +39,7 @@ pub record GainsNoRequest (d : Devices) (before : List ℕ) (packets : List (Lis
   pub gains : d.sink_after.gained ≡ Some (before ++ concat packets)
   pub none : AllByRecursion (λ packet. message_id packet ≡ sequence_mid → sequence_number packet ≢ sequence) packets
 
--- so it is of a run that writes what is called for, under the premises of that promise
+-- the same holds for a run that writes what is called for, under the premises of that promise
 abbrev pub IsNeverWritten : Type 0
 IsNeverWritten = (m : Mission) (d : Devices) (ending : Ending) → WritesWhatIsCalledFor m d ending →
     (texts : List Text) (stream before : List ℕ) (sequence : ℕ) → IsOfTexts m texts → HaveOwnHashes texts →

@@ -42,7 +42,7 @@ pub record HoldsWith (c : Condition) (fields : List Field) (bits : List ℕ) : T
   pub few : length bits ≤ length fields
   pub holds : truth_by (found_so_far (field_number fields) bits) c ≡ True
 
--- no numbers of its fields make the condition true, or some do, or so many steps may be too few
+-- no values of its fields make the condition true, or some do, or this number of steps may be too few
 abbrev pub IsDecided : Condition → ℕ → Decision → Type 0
 IsDecided c steps decision.Never = NeverFails c
 IsDecided c steps (decision.Holds fields bits) = HoldsWith c fields.items bits.items
@@ -78,7 +78,7 @@ pub record IsOverlap (c : Condition) : Type 0 where
   pub hidden : Shows c packets → ⊥
   pub shared : AllByRecursion ReadsTelemetry (mentions c) → IsTrue (share_bits (mentions c))
 
--- nothing that may be seen makes the condition true; these packets do; fields share bits; or so many steps may be too few
+-- no history makes the condition true; these packets do; fields share bits; or this number of steps may be too few
 abbrev pub IsFound : Condition → ℕ → Finding → Type 0
 IsFound c steps finding.Never = NeverFails c
 IsFound c steps (finding.Possible packets) = Shows c packets.items
@@ -111,13 +111,13 @@ AreJudged rules judged = AllZip (λ (rule : NamedRule) (j : RuleJudgement). IsRu
 
 -- ---- pairs
 
--- how two conditions go together
+-- how two conditions are related
 abbrev pub IsRelated : Condition → Condition → Relation → Type 0
 IsRelated a b relation.Same = FailsWherever a b × FailsWherever b a
 IsRelated a b relation.FirstFollows = FailsWherever b a
 IsRelated a b relation.SecondFollows = FailsWherever a b
 
--- two of the rules, and how they go together
+-- two of the rules, and how they are related
 pub record IsPair (rules : List NamedRule) (p : PairJudgement) : Type 0 where
   pub order : p.first < p.second
   pub first : NamedRule
@@ -133,7 +133,7 @@ abbrev pub are_near : NamedRule → NamedRule → Bool
 are_near first second =
     (first.action.sequence == second.action.sequence) || read_one_field (mentions first.action.condition) (mentions second.action.condition)
 
--- so many steps are left for each question about two rules, however many there are: enough for eight different comparisons
+-- the least number of steps for each question about two rules: enough for eight different comparisons
 abbrev pub least_pair_steps : ℕ
 least_pair_steps = 2 ^ 8
 
@@ -154,27 +154,27 @@ says_first relation.Same = true
 says_first relation.FirstFollows = true
 says_first relation.SecondFollows = false
 
--- that is said, or not so, or may not be known
+-- in both orders: the relation that is found has it, or the conditions may differ
 pub record IsRelationSettled (a b : Condition) (found : Option Relation) : Type 0 where
   pub second : IsTrue (option_map_or says_second found false) ⊎ MayDiffer a b
   pub first : IsTrue (option_map_or says_first found false) ⊎ MayDiffer b a
 
--- some pair says it of the rules of these numbers
+-- some pair has this relation of the rules with these numbers
 abbrev pub IsSaid : (Relation → Bool) → List PairJudgement → (first second : ℕ) → Type 0
 IsSaid says pairs first second =
     (p : PairJudgement) × Contains pairs p × (p.first ≡ first) × (p.second ≡ second) × IsTrue (says p.relation)
 
--- of two rules it is told how they go together
+-- in both orders: some pair has it, or the conditions of the two rules may differ
 pub record IsPairSettled (pairs : List PairJudgement) (i j : ℕ) (a b : Condition) : Type 0 where
   pub second : IsSaid says_second pairs i j ⊎ MayDiffer a b
   pub first : IsSaid says_first pairs i j ⊎ MayDiffer b a
 
--- of the rules of these numbers, where they are near
+-- the same for the rules with these numbers, if they are near
 abbrev pub IsSettledAt : List NamedRule → List PairJudgement → (i j : ℕ) → Type 0
 IsSettledAt rules pairs i j = (first second : NamedRule) → slice_get rules i ≡ Some first → slice_get rules j ≡ Some second →
     IsTrue (are_near first second) → IsPairSettled pairs i j first.action.condition second.action.condition
 
--- of all pairs of rules that are near
+-- the same for all pairs of rules that are near
 abbrev pub AreSettled : List NamedRule → List PairJudgement → Type 0
 AreSettled rules pairs = (i j : ℕ) → i < j → IsSettledAt rules pairs i j
 
@@ -184,11 +184,11 @@ AreSettled rules pairs = (i j : ℕ) → i < j → IsSettledAt rules pairs i j
 abbrev pub IsBefore : (first second : ℕ) → PairJudgement → Type 0
 IsBefore first second p = (p.second < second) ⊎ ((p.second ≡ second) × (p.first < first))
 
--- each pair is told once, in that order
+-- each pair is listed once, in that order
 abbrev pub AreInOrder : List PairJudgement → Type 0
 AreInOrder pairs = AllPairs (λ (p q : PairJudgement). IsBefore q.first q.second p) pairs
 
--- so, and all come before that of the rules of these numbers
+-- the same, and all pairs come before that of the rules with these numbers
 pub record AreBefore (pairs : List PairJudgement) (first second : ℕ) : Type 0 where
   pub in_order : AreInOrder pairs
   pub before : AllByRecursion (IsBefore first second) pairs

@@ -21,7 +21,7 @@ laid_over mid place byte one = if one.field.mid == mid
     then bit_or (bit_and byte (255 - bits_read one.field place)) (bit_and (byte_there one.field one.bits place) (bits_read one.field place))
     else byte
 
--- and once all have
+-- the same for all chosen fields
 abbrev pub byte_over : List Chosen → ℕ → ℕ → ℕ
 byte_over chosen mid place = fold (laid_over mid place) 0 chosen
 

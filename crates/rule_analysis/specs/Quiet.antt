@@ -32,7 +32,7 @@ pub record StaysQuiet (terms : List Term) (mode : LcMode) (history : History) (n
   pub state : (sampled_point by_lists terms mode history number rule point).0.state ≡ point.state
   pub past : HasNoFailure (sampled_point by_lists terms mode history number rule point).0.past
 
--- so it is of each such rule
+-- the same holds for each such rule
 abbrev pub QuietRulesStayQuiet : Type 0
 QuietRulesStayQuiet = (terms : List Term) (mode : LcMode) (history : History) (number : ℕ) (rule : Actionpoint) (point : Point Past) →
     IsQuiet rule → HasNoFailure point.past → StaysQuiet terms mode history number rule point
@@ -52,7 +52,7 @@ pasts_of points = map (λ (point : Point Past). point.past) points
 abbrev pub IsQuietSoFar : {Image : Type 0} → Interpretation Image → Lc Image → Type 0
 IsQuietSoFar images lc = HaveNoFailures (option_map_or images.rules (in_force images lc) []) (pasts_of lc.points)
 
--- so it begins
+-- it holds at the start
 abbrev pub StartsQuiet : {Image : Type 0} → Interpretation Image → Type 0
 StartsQuiet {Image} images = (files : List (Name × FileMeaning Image)) → IsQuietSoFar images (lc_start by_lists images files).0
 

@@ -32,7 +32,7 @@ pub record IsSpare (rules : List NamedRule) (s : SpareComparison) : Type 0 where
 
 -- ---- which are told
 
--- so many steps are left for each comparison, however many there are: enough for rules of eight different ones
+-- the least number of steps for each comparison: enough for rules of eight different ones
 abbrev pub least_spare_steps : ℕ
 least_spare_steps = 2 ^ 8
 
@@ -49,19 +49,19 @@ MayBeNeeded c t = MayMatter c t true × MayMatter c t false
 abbrev pub IsOf : List NamedRule → ℕ → Term → Type 0
 IsOf rules i t = (rule : NamedRule) → slice_get rules i ≡ Some rule → Contains (mentions rule.action.condition) t
 
--- it is told of the rule of this number
+-- the list has the comparison for the rule with this number
 abbrev pub IsTold : List SpareComparison → ℕ → Term → Type 0
 IsTold spare i t = (s : SpareComparison) × Contains spare s × (s.rule ≡ i) × (s.term ≡ t)
 
--- it is, or it may be needed
+-- the list has it, or it may be needed
 abbrev pub IsToldOrNeeded : List NamedRule → List SpareComparison → ℕ → Term → Type 0
 IsToldOrNeeded rules spare i t = (rule : NamedRule) → slice_get rules i ≡ Some rule → IsTold spare i t ⊎ MayBeNeeded rule.action.condition t
 
--- so of the first ones of some terms
+-- the same for the first of some terms
 abbrev pub AreToldUpTo : List NamedRule → List SpareComparison → ℕ → List Term → ℕ → Type 0
 AreToldUpTo rules spare i terms count = (k : ℕ) (t : Term) → k < count → slice_get terms k ≡ Some t → IsToldOrNeeded rules spare i t
 
--- so of each comparison of each rule
+-- the same for each comparison of each rule
 abbrev pub AreToldOrNeeded : List NamedRule → List SpareComparison → Type 0
 AreToldOrNeeded rules spare = (i : ℕ) (rule : NamedRule) → slice_get rules i ≡ Some rule →
     AllByRecursion (λ t. IsTold spare i t ⊎ MayBeNeeded rule.action.condition t) (mentions rule.action.condition)
@@ -72,11 +72,11 @@ AreToldOrNeeded rules spare = (i : ℕ) (rule : NamedRule) → slice_get rules i
 abbrev pub IsAnother : (s t : SpareComparison) → Type 0
 IsAnother s t = (s.rule < t.rule) ⊎ ((s.rule ≡ t.rule) × (s.term ≢ t.term))
 
--- each comparison of a rule is told once, rule by rule
+-- each comparison of a rule is listed once, rule by rule
 abbrev pub AreOnce : List SpareComparison → Type 0
 AreOnce spare = AllPairs IsAnother spare
 
--- so, and all are of rules before the one of this number
+-- the same, and all are of rules before the one with this number
 pub record AreOfRulesBefore (spare : List SpareComparison) (rule : ℕ) : Type 0 where
   pub once : AreOnce spare
   pub before : AllByRecursion (λ (s : SpareComparison). s.rule < rule) spare
@@ -85,11 +85,11 @@ pub record AreOfRulesBefore (spare : List SpareComparison) (rule : ℕ) : Type 0
 abbrev pub IsAmongFirst : List Term → ℕ → Term → Type 0
 IsAmongFirst terms count t = (k : ℕ) × (k < count) × (slice_get terms k ≡ Some t)
 
--- so, and all are of rules before, or of this one and among its first comparisons
+-- the same, and all are of earlier rules, or among the first comparisons of this one
 pub record AreOfTermsBefore (spare : List SpareComparison) (rule : ℕ) (terms : List Term) (count : ℕ) : Type 0 where
   pub once : AreOnce spare
   pub before : AllByRecursion (λ (s : SpareComparison). (s.rule < rule) ⊎ ((s.rule ≡ rule) × IsAmongFirst terms count s.term)) spare
 
--- nothing is told, or this comparison of the rule of this number
+-- the list is unchanged, or has this comparison of the rule with this number added
 abbrev pub IsToldAtMost : (old new : List SpareComparison) → ℕ → Term → Type 0
 IsToldAtMost old new rule t = (new ≡ old) ⊎ ((s : SpareComparison) × (s.rule ≡ rule) × (s.term ≡ t) × (new ≡ old ++ s ∷ []))

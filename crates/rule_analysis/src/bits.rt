@@ -21,7 +21,7 @@ fn byte_at(number: u32, index: usize) -> u8
     }
 }
 
-/// Which byte of a number stands so far behind a field's first byte.
+/// The index of the number's byte that is this many bytes after a field's first byte; 0 is the lowest byte.
 fn byte_number(kind: FieldType, behind: usize) -> usize
     requires { behind < width kind }
     ensures number { result ≡ byte_number kind behind }

@@ -1,4 +1,4 @@
-//! A few numbers of a field for all that it may have.
+//! A few values of a field that stand for all its values.
 
 ghost use Rattle.std.specs.Prelude.{◌≡◌, ◌==◌, ℕ, Contains, IfOk, IsFalse, IsTrue, OnOk, filter, length};
 ghost use Rattle.std.specs.List.{AllByRecursion};
@@ -14,7 +14,7 @@ use crate::thresholds::thresholds_of;
 use lc_model::Term;
 use std::alloc::{AllocError, Global};
 
-/// Whether the comparisons say of some of these numbers what they say of this one.
+/// Whether for one of the numbers kept each comparison has the same outcome as for this one.
 fn is_represented(kept: &[u32], terms: &[Term], bits: u32) -> bool
     ensures one { IsTrue result →
         (candidate : ℕ) × Contains kept.now candidate × AllByRecursion (λ t.
@@ -30,7 +30,7 @@ fn is_represented(kept: &[u32], terms: &[Term], bits: u32) -> bool
     false
 }
 
-/// The least number that fits the mask and reaches the threshold joins those kept, unless one of them stands for it.
+/// Adds the least number that fits the mask and reaches the threshold to those kept, unless one of them stands for it.
 fn keep(kept: &mut Vec<u32>, terms: &[Term], mask: u32, threshold: u64) -> Result<(), AllocError>
     ensures covers { OnOk result (Covers terms.now mask kept.new.items threshold) }
     ensures apart { OnOk result (AreApart terms.now kept.old.items →
@@ -47,7 +47,8 @@ fn keep(kept: &mut Vec<u32>, terms: &[Term], mask: u32, threshold: u64) -> Resul
     Ok(())
 }
 
-/// For all numbers of a field with this mask a few, so that its comparisons say of each number what they say of one of these.
+/// A few numbers that stand for all numbers of a field with this mask: for each number its comparisons have the same outcomes as for
+/// one of these.
 fn candidates(alloc: Global, terms: &[Term], mask: u32) -> Result<Vec<u32>, AllocError>
     requires { AllByRecursion (λ t. t.mask ≡ mask) terms.now }
     ensures represent { IfOk result (λ kept. RepresentAll terms.now kept.items) }

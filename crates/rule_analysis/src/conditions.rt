@@ -6,7 +6,7 @@ ghost use Rattle.lc_model.specs.Condition.{And, Join, Not, condition_of};
 use lc_model::Cond;
 use std::alloc::{AllocError, Global};
 
-/// The same condition once more.
+/// A copy of a condition. The only error is a lack of memory.
 pub(crate) fn copy_condition(alloc: Global, cond: &Cond) -> Result<Cond, AllocError>
     ensures { IfOk result (λ copy. condition_of copy ≡ condition_of cond.now) }
 {
@@ -34,7 +34,7 @@ pub(crate) fn copy_condition(alloc: Global, cond: &Cond) -> Result<Cond, AllocEr
     }
 }
 
-/// True where the condition is false, and false where it is true.
+/// The condition's negation.
 pub(crate) fn negation(alloc: Global, cond: &Cond) -> Result<Cond, AllocError>
     ensures { IfOk result (λ other. condition_of other ≡ Not (condition_of cond.now)) }
 {
@@ -42,7 +42,7 @@ pub(crate) fn negation(alloc: Global, cond: &Cond) -> Result<Cond, AllocError>
     Ok(Cond::Not(Box::new(alloc, operand)?))
 }
 
-/// True where the first condition is true and the second one is false.
+/// The condition that the first one is true and the second one false.
 pub(crate) fn but_not(alloc: Global, first: &Cond, second: &Cond) -> Result<Cond, AllocError>
     ensures { IfOk result (λ both. condition_of both ≡
         Join And (condition_of first.now) (Not (condition_of second.now))) }

@@ -1,4 +1,4 @@
-//! Whether numbers of its fields make a condition true.
+//! Decides whether values of its fields make a condition true.
 
 ghost use Rattle.std.specs.Prelude.{◌≡◌, IfOk, None, Some, false, true};
 ghost use Rattle.lc_model.specs.Condition.{condition_of};
@@ -12,18 +12,18 @@ use crate::walk::{Outcome, walk};
 use lc_model::Cond;
 use std::alloc::{AllocError, Global};
 
-/// What is known of all numbers of a condition's fields.
+/// Whether values of its fields make a condition true.
 #[derive(Debug, Drop)]
 pub(crate) enum Decision {
-    /// None make it true.
+    /// No values make it true.
     Never,
-    /// These bits of the first of these fields do, whatever the others have.
+    /// It is true if the first of these fields have these bits, whatever the other fields have.
     Holds { fields: Vec<Field>, bits: Vec<u32> },
-    /// It would have taken more steps.
+    /// Unknown: more steps are needed.
     Spent,
 }
 
-/// Looks for bits of its fields that make the condition true, in so many steps at most; what it takes is taken from them.
+/// Looks for bits of its fields that make the condition true, in at most `steps` steps; subtracts the steps that it takes.
 pub(crate) fn decide(alloc: Global, cond: &Cond, steps: &mut u32) -> Result<Decision, AllocError>
     ensures { IfOk result (λ decision. IsDecided (condition_of cond.now) steps.old decision) }
 {
@@ -39,7 +39,7 @@ pub(crate) fn decide(alloc: Global, cond: &Cond, steps: &mut u32) -> Result<Deci
     }
 }
 
-/// Whether some numbers of its fields make the condition true, each field being free; none where it is not known.
+/// Whether some values of its fields make the condition true if each field is free; `None` if it isn't known.
 pub(crate) fn holds_for_some(
     alloc: Global,
     cond: &Cond,

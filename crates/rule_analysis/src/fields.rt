@@ -11,15 +11,16 @@ ghost use Rattle.rule_analysis.specs.Fields.{AreFieldsOf, HasField, field_number
 use lc_model::{Cond, FieldType, Term};
 use std::alloc::{AllocError, Global};
 
-/// What two watchpoints share that read the same bits.
+/// A field of packets. Two watchpoints that read the same bits of the same packets have the same field.
 #[derive(Clone, Copy, Debug, PartialEq, Eq)]
 pub struct Field {
+    /// The field's type.
     pub kind: FieldType,
     /// The message id of the packets that have the field.
     pub mid: u16,
-    /// Bytes before the field, from the packet's first byte.
+    /// The number of bytes from the packet's first byte to the field.
     pub offset: u32,
-    /// The field's bits that count.
+    /// The bits of the field that are read.
     pub mask: u32,
 }
 
@@ -58,7 +59,7 @@ pub(crate) fn is_read(terms: &[Term], field: &Field) -> bool
     false
 }
 
-/// Which of the fields the term reads; their count where none.
+/// The index of the field that the term reads; the number of fields if it reads none of them.
 pub(crate) fn number(fields: &[Field], term: &Term) -> usize
     ensures { result ≡ field_number fields.now term.now }
 {
@@ -70,7 +71,7 @@ pub(crate) fn number(fields: &[Field], term: &Term) -> usize
     fields.len()
 }
 
-/// The condition's terms join those before, from left to right.
+/// Appends the condition's terms from left to right.
 pub(crate) fn collect(cond: &Cond, terms: &mut Vec<Term>) -> Result<(), AllocError>
     ensures { OnOk result (terms.new.items ≡ terms.old.items ++ mentions (condition_of cond.now)) }
 {
@@ -84,7 +85,7 @@ pub(crate) fn collect(cond: &Cond, terms: &mut Vec<Term>) -> Result<(), AllocErr
     }
 }
 
-/// The term's field joins the others, unless it is among them.
+/// Adds the term's field to the others, unless it is among them.
 fn add(fields: &mut Vec<Field>, term: &Term) -> Result<(), AllocError>
     ensures there { OnOk result (HasField fields.new.items term.now) }
     ensures others { OnOk result ((t : Term) → HasField fields.old.items t →
@@ -110,7 +111,7 @@ fn readers(alloc: Global, terms: &[Term]) -> Result<Vec<usize>, AllocError>
     Ok(counts)
 }
 
-/// The term's field joins the others, where it is one of this many terms.
+/// Adds the term's field to the others if `count` terms read it, which are `readers`.
 fn add_where(
     fields: &mut Vec<Field>,
     term: &Term,
@@ -126,7 +127,7 @@ fn add_where(
     Ok(())
 }
 
-/// The fields that so many of the terms read join the others.
+/// Adds the fields that exactly `count` terms read.
 fn add_read_by(
     fields: &mut Vec<Field>,
     terms: &[Term],
@@ -143,7 +144,7 @@ fn add_read_by(
     Ok(())
 }
 
-/// The term's fields join the others.
+/// Adds the fields of all terms to the others.
 fn add_all(fields: &mut Vec<Field>, terms: &[Term]) -> Result<(), AllocError>
     ensures all { OnOk result (AllByRecursion (λ t. HasField fields.new.items t) terms.now) }
     ensures exact { OnOk result (AreFieldsOf terms.now fields.old.items →
@@ -155,7 +156,7 @@ fn add_all(fields: &mut Vec<Field>, terms: &[Term]) -> Result<(), AllocError>
     Ok(())
 }
 
-/// The fields that the terms read, each once, those first that the most of them read.
+/// The fields that the terms read, each once. Those that more terms read come first.
 pub(crate) fn fields_of(alloc: Global, terms: &[Term]) -> Result<Vec<Field>, AllocError>
     ensures all { IfOk result (λ fields. AllByRecursion (λ t. HasField fields.items t) terms.now) }
     ensures exact { IfOk result (λ fields. AreFieldsOf terms.now fields.items) }

@@ -1,87 +1,95 @@
-//! What is found of conditions, rules and texts.
+//! The results of an analysis: of conditions, rules and texts.
 
 use lc_model::Term;
 
 /// Why it isn't known whether a condition can be true.
 #[derive(Clone, Copy, Debug, PartialEq, Eq)]
 pub enum UnknownReason {
-    /// Numbers of its fields make it true, but fields share bits, with each other or with a packet's header, or end behind the
-    /// longest packet, so that these numbers don't come together.
+    /// Values of its fields make it true, but no packets with all these values were found: fields share bits with each other or with
+    /// a packet's header, or end after the longest packet.
     Overlap,
-    /// It has so many different comparisons, n of them, that the steps that were allowed may be too few: they are fewer than 2^n.
+    /// The allowed steps did not suffice; they are fewer than 2^n for its n different comparisons.
     Steps,
 }
 
 /// Whether a condition can be true.
 #[derive(Debug, Drop)]
 pub enum Finding {
-    /// No packets, however they come, make it true.
+    /// No packets make it true, in any order.
     Never,
-    /// With these packets it is true, the first of them having come last.
+    /// These packets make it true. They are listed latest first.
     Possible(Vec<Vec<u8>>),
-    /// It is not known.
+    /// It isn't known, for this reason.
     Unknown(UnknownReason),
 }
 
-/// What a comparison says of the numbers that its field may have.
+/// Whether a comparison has the same outcome for all values of its field.
 #[derive(Clone, Copy, Debug, PartialEq, Eq)]
 pub enum Constancy {
-    /// It holds of all.
+    /// It is true for all values.
     Always,
-    /// It holds of none.
+    /// It is false for all values.
     Never,
-    /// It holds of some, and not of others.
+    /// It is true for some values and false for others.
     Varies,
 }
 
-/// A comparison of a rule.
+/// A comparison of a rule, judged by itself.
 #[derive(Clone, Copy, Debug)]
 pub struct ComparisonJudgement {
+    /// The comparison.
     pub term: Term,
+    /// Whether its outcome is always the same.
     pub says: Constancy,
 }
 
-/// What is found of a rule.
+/// The judgement of one rule.
 #[derive(Debug, Drop)]
 pub struct RuleJudgement {
     /// Whether its condition can be true, so that it fails.
     pub fails: Finding,
     /// Whether its condition can be false, so that it passes.
     pub passes: Finding,
-    /// Its comparisons, in the order in which they stand.
+    /// Its comparisons, in the order of the text.
     pub comparisons: Vec<ComparisonJudgement>,
 }
 
-/// What is found of the rules of a text, in their order.
+/// The judgement of a rule text.
 #[derive(Debug, Drop)]
 pub struct Judgement {
+    /// The judgements of its rules, in their order.
     pub rules: Vec<RuleJudgement>,
 }
 
-/// How two rules go together, wherever the fields of both are known, neither stale nor in error.
+/// How two rules are related whenever the fields of both are known, that is neither stale nor in error.
 #[derive(Clone, Copy, Debug, PartialEq, Eq)]
 pub enum Relation {
-    /// Each fails where the other one does.
+    /// Each rule fails whenever the other one fails.
     Same,
-    /// The first one fails where the second one does.
+    /// The first rule fails whenever the second one fails.
     FirstFollows,
-    /// The second one fails where the first one does.
+    /// The second rule fails whenever the first one fails.
     SecondFollows,
 }
 
-/// Two rules of a text, by their numbers from 0, the lesser number first.
+/// Two related rules of a text. Rules are numbered from 0; the smaller number is first.
 #[derive(Clone, Copy, Debug, PartialEq, Eq)]
 pub struct PairJudgement {
+    /// The smaller rule number.
     pub first: usize,
+    /// The greater rule number.
     pub second: usize,
+    /// How the two rules are related.
     pub relation: Relation,
 }
 
-/// A comparison of a rule, by the rule's number from 0, without which it says the same.
+/// A comparison that a rule can do without: the rule has the same result with a fixed value in its place.
 #[derive(Clone, Copy, Debug)]
 pub struct SpareComparison {
+    /// The rule's number, counted from 0.
     pub rule: usize,
+    /// The comparison.
     pub term: Term,
-    /// The rule says the same with the comparison taken as true; else as false.
+    /// The fixed value.
     pub taken_as: bool,
 }

@@ -1,4 +1,4 @@
-//! Conditions and rules judged, each by itself.
+//! Judges conditions and rules, each by itself.
 
 ghost use Rattle.std.specs.Prelude.{◌≡◌, IfOk, IsFalse, IsTrue, length};
 ghost use Rattle.lc_model.specs.Condition.{Not, Watch, condition_of};
@@ -19,11 +19,11 @@ use crate::seen::shows;
 use lc_model::{Cond, Rule, Rules, Term};
 use std::alloc::{AllocError, Global};
 
-/// The most steps for one rule, or for one comparison: enough for any rule of at most twenty different comparisons.
+/// The most steps for each question about a rule or a comparison: enough for any rule of at most twenty different comparisons.
 pub const RULE_STEPS: u32 = 1 << 20;
 
-/// Whether the condition can be true. At most so many choices of a number for one of its fields are made; 2^n are enough for
-/// n different comparisons.
+/// Returns whether the condition can be true. A step chooses a value for one of its fields; 2^n steps are enough for n different
+/// comparisons. The only error is a lack of memory.
 pub fn can_be_true(alloc: Global, cond: &Cond, steps: u32) -> Result<Finding, AllocError>
     ensures { IfOk result (λ finding. IsFound (condition_of cond.now) steps finding) }
 {
@@ -42,7 +42,7 @@ pub fn can_be_true(alloc: Global, cond: &Cond, steps: u32) -> Result<Finding, Al
     }
 }
 
-/// Whether some numbers make a condition of one comparison true.
+/// Whether some values make a condition of one comparison true.
 fn is_possible(alloc: Global, cond: &Cond) -> Result<bool, AllocError>
     requires { length (mentions (condition_of cond.now)) ≡ 1 }
     ensures some { IfOk result (λ some. IsTrue some → HoldsForSome (condition_of cond.now)) }
@@ -51,12 +51,12 @@ fn is_possible(alloc: Global, cond: &Cond) -> Result<bool, AllocError>
     let mut steps = RULE_STEPS;
     match holds_for_some(alloc, cond, &mut steps)? {
         Some(some) => Ok(some),
-        // One comparison takes fewer steps.
+        // Unreachable: one comparison takes fewer steps.
         None => Ok(true),
     }
 }
 
-/// Whether the comparison holds of some numbers.
+/// Whether the comparison is true for some value of its field.
 fn holds(alloc: Global, term: &Term) -> Result<bool, AllocError>
     ensures some { IfOk result (λ some. IsTrue some → HoldsForSome (Watch term.now)) }
     ensures never { IfOk result (λ some. IsFalse some → NeverFails (Watch term.now)) }
@@ -65,7 +65,7 @@ fn holds(alloc: Global, term: &Term) -> Result<bool, AllocError>
     is_possible(alloc, &cond)
 }
 
-/// Whether it doesn't hold of some.
+/// Whether the comparison is false for some value of its field.
 fn misses(alloc: Global, term: &Term) -> Result<bool, AllocError>
     ensures some { IfOk result (λ some. IsTrue some → HoldsForSome (Not (Watch term.now))) }
     ensures never { IfOk result (λ some. IsFalse some → NeverFails (Not (Watch term.now))) }
@@ -75,7 +75,7 @@ fn misses(alloc: Global, term: &Term) -> Result<bool, AllocError>
     is_possible(alloc, &other)
 }
 
-/// What it says by these two.
+/// The constancy of a comparison that can be true (`holds`) and can be false (`misses`).
 fn says(holds: bool, misses: bool) -> Constancy
     ensures never { result ≡ Never → IsFalse holds }
     ensures always { result ≡ Always → IsFalse misses }
@@ -88,7 +88,7 @@ fn says(holds: bool, misses: bool) -> Constancy
     }
 }
 
-/// What a comparison says of the numbers that its field may have.
+/// The constancy of a comparison over all values of its field.
 fn constancy(alloc: Global, term: &Term) -> Result<Constancy, AllocError>
     ensures { IfOk result (λ constancy. IsConstancy term.now constancy) }
 {
@@ -97,7 +97,7 @@ fn constancy(alloc: Global, term: &Term) -> Result<Constancy, AllocError>
     Ok(says(holds, misses))
 }
 
-/// Comparisons judged, in their order.
+/// The judgements of comparisons, in their order.
 fn comparisons(alloc: Global, terms: &[Term]) -> Result<Vec<ComparisonJudgement>, AllocError>
     ensures { IfOk result (λ judged. AreComparisons terms.now judged.items) }
 {
@@ -109,7 +109,7 @@ fn comparisons(alloc: Global, terms: &[Term]) -> Result<Vec<ComparisonJudgement>
     Ok(judged)
 }
 
-/// The comparisons of a condition, in the order in which they stand.
+/// The comparisons of a condition, from left to right.
 pub(crate) fn comparisons_of(alloc: Global, cond: &Cond) -> Result<Vec<Term>, AllocError>
     ensures { IfOk result (λ terms. terms.items ≡ mentions (condition_of cond.now)) }
 {
@@ -126,7 +126,8 @@ fn can_be_false(alloc: Global, cond: &Cond) -> Result<Finding, AllocError>
     can_be_true(alloc, &other, RULE_STEPS)
 }
 
-/// A condition judged: whether it can be true, whether it can be false, and its comparisons.
+/// Judges a condition: whether it can be true, whether it can be false, and its comparisons, with at most `RULE_STEPS` steps for
+/// each question. The only error is a lack of memory.
 pub fn judge_condition(alloc: Global, cond: &Cond) -> Result<RuleJudgement, AllocError>
     ensures { IfOk result (λ judged. IsRuleJudged (condition_of cond.now) judged) }
 {
@@ -141,7 +142,7 @@ pub fn judge_condition(alloc: Global, cond: &Cond) -> Result<RuleJudgement, Allo
     })
 }
 
-/// Rules judged, each by itself.
+/// The judgements of rules, each by itself.
 fn judge_rules(alloc: Global, rules: &[Rule]) -> Result<Vec<RuleJudgement>, AllocError>
     ensures { IfOk result (λ judged. AreJudged (rules_of rules.now) judged.items) }
 {
@@ -152,7 +153,7 @@ fn judge_rules(alloc: Global, rules: &[Rule]) -> Result<Vec<RuleJudgement>, Allo
     Ok(judged)
 }
 
-/// The rules of a text judged for every stream, each by itself.
+/// Judges the rules of a text, each by itself; the judgements hold for every stream. The only error is a lack of memory.
 pub fn judge(alloc: Global, rules: &Rules) -> Result<Judgement, AllocError>
     ensures { IfOk result (λ judgement. AreJudged rules.now judgement.rules.items) }
 {

@@ -1,4 +1,4 @@
-//! What a judgement says of histories, of rules and of the Limit Checker.
+//! The laws of judgements, each stated by a function with an empty body.
 
 ghost use Rattle.rule_analysis.specs.Judgement.{TablesKeep, NeverHoldsNeverFails, NeverNotIsAlways, NeverButIsWherever};
 ghost use Rattle.std.specs.Prelude.{List};
@@ -9,7 +9,8 @@ ghost use Rattle.rule_analysis.specs.Bits.{TextsReadTelemetry};
 ghost use Rattle.rule_analysis.specs.Called.{IsNeverCalledFor, IsNeverWritten};
 ghost use Rattle.rule_analysis.specs.Quiet.{NobodyRequests, QuietRulesStayQuiet, StartsQuiet};
 
-/// What is known of a condition stays when more is known, and what no numbers make true no history does.
+/// States that a known result of a condition stays when more fields become known, and that a condition that no values make true is
+/// true for no history.
 pub fn numbers_judge_histories()
     ensures tables { TablesKeep }
     ensures never { NeverHoldsNeverFails }
@@ -17,17 +18,17 @@ pub fn numbers_judge_histories()
     ensures wherever { NeverButIsWherever }
 {}
 
-/// The comparisons of a text that is read are of fields of telemetry, as the answer that fields share bits takes them to be.
+/// States that the comparisons of a valid text read fields of telemetry packets, as `UnknownReason::Overlap` presumes.
 pub fn texts_read_telemetry()
     ensures { TextsReadTelemetry }
 {}
 
-/// A rule that never fails asks for nothing.
+/// States that a rule that never fails requests nothing.
 pub fn quiet_rules_stay_quiet()
     ensures { QuietRulesStayQuiet }
 {}
 
-/// A sequence that only rules request that never fail is requested by nobody, whatever packets come.
+/// States that a sequence is never requested, whatever packets come, if only rules that never fail request it.
 pub fn nobody_requests_quiet_sequences()
     ensures start_by_texts { (layouts : List Layout) → StartsQuiet (as_halves layouts) }
     ensures start_by_bytes { (layouts : List Layout) → StartsQuiet (as_bytes layouts) }
@@ -35,13 +36,14 @@ pub fn nobody_requests_quiet_sequences()
     ensures bytes { (layouts : List Layout) → NobodyRequests (as_bytes layouts) }
 {}
 
-/// Where in each of its texts each rule with a sequence never fails, no request of this sequence is among those that the texts
-/// of a mission call for, whatever the stream.
+/// States the same of a mission: if each rule with a sequence never fails in any of its texts, its texts call for no request of that
+/// sequence, whatever the stream.
 pub fn quiet_sequences_are_not_called_for()
     ensures { (mission : Mission) → IsNeverCalledFor mission }
 {}
 
-/// And so, where a run writes what is called for (`run`'s promise `by_texts`), no packet that it writes requests this sequence.
+/// States the same of a run that writes what the texts call for (`run`'s promise `by_texts`): none of its packets requests that
+/// sequence.
 pub fn quiet_sequences_are_not_written()
     ensures { IsNeverWritten }
 {}

@@ -1,4 +1,4 @@
-//! What can be said of a rule before any packet comes.
+//! Judges rules before any packet comes: whether they can fail and pass, and how they are related.
 #![tactic(auto)]
 
 mod bits;

@@ -2,7 +2,7 @@
 
 ghost use Rattle.rule_analysis.specs.Numbers.{IsNextBits};
 
-/// The least number from `from` on that has no bit outside the mask.
+/// The least number that is at least `from` and has no bit outside the mask; `None` if there is none.
 pub(crate) fn next_bits(mask: u64, from: u64) -> Option<u64>
     ensures { IsNextBits mask from result }
 {

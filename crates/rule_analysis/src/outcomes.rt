@@ -1,4 +1,4 @@
-//! What a comparison says of a field's bits.
+//! The outcome of a comparison for a field's bits.
 
 ghost use Rattle.std.specs.Prelude.{◌≡◌, Some};
 ghost use Rattle.rule_analysis.specs.Classes.{truth_there};
@@ -6,7 +6,7 @@ ghost use Rattle.rule_analysis.specs.Steps.{holds_of, says_alike};
 
 use lc_model::{Term, Truth};
 
-/// What the term's comparison says of these bits.
+/// The outcome of the term's comparison for these bits.
 pub(crate) fn outcome(term: &Term, bits: u32) -> Truth
     ensures { result ≡ truth_there term.now (Some bits) }
 {
@@ -18,7 +18,7 @@ pub(crate) fn outcome(term: &Term, bits: u32) -> Truth
     }
 }
 
-/// Whether the term's comparison holds of these bits.
+/// Whether the term's comparison is true for these bits.
 fn holds(term: &Term, bits: u32) -> bool
     ensures { result ≡ holds_of term.now bits }
 {
@@ -26,7 +26,7 @@ fn holds(term: &Term, bits: u32) -> bool
     term.op.holds(value, term.value)
 }
 
-/// Whether all these comparisons say the same of two numbers' bits.
+/// Whether each of these comparisons has the same outcome for both.
 pub(crate) fn says_the_same(terms: &[Term], one: u32, other: u32) -> bool
     ensures { result ≡ says_alike terms.now one other }
 {

@@ -14,14 +14,14 @@ use std::alloc::{AllocError, Global};
 /// The bytes of telemetry's headers.
 const HEADERS: usize = 12;
 
-/// A field, and the bits that it is to have.
+/// A field, and the bits chosen for it.
 #[derive(Clone, Copy, Debug)]
 pub(crate) struct Chosen {
     pub(crate) field: Field,
     pub(crate) bits: u32,
 }
 
-/// The field joins those before, if there are bits for it.
+/// Appends the field with the next of these bits, if there are any.
 fn pair(chosen: &mut Vec<Chosen>, field: &Field, bits: &[u32]) -> Result<(), AllocError>
     ensures { OnOk result ((before : List AnyField) →
         chosen.old.items ≡ chosen_of before bits.now →
@@ -37,7 +37,7 @@ fn pair(chosen: &mut Vec<Chosen>, field: &Field, bits: &[u32]) -> Result<(), All
     })?)
 }
 
-/// Fields with their bits, as far as there are both.
+/// Fields with their bits, up to the end of the shorter list.
 fn pair_bits(alloc: Global, fields: &[Field], bits: &[u32]) -> Result<Vec<Chosen>, AllocError>
     ensures { IfOk result (λ chosen. chosen.items ≡ chosen_of fields.now bits.now) }
 {
@@ -48,7 +48,7 @@ fn pair_bits(alloc: Global, fields: &[Field], bits: &[u32]) -> Result<Vec<Chosen
     Ok(chosen)
 }
 
-/// The byte at this place of the packet, once the field has its bits in it; its other bits stay.
+/// The byte at this place of the packet after the field's bits are written; its other bits stay.
 fn laid_over(mid: u16, place: usize, byte: u8, one: &Chosen) -> u8
     ensures { result ≡ laid_over mid place byte one.now }
 {
@@ -86,7 +86,7 @@ fn packet_byte(chosen: &[Chosen], mid: u16, size: usize, place: usize) -> u8
     }
 }
 
-/// The bytes that a packet has, once it has room for the field, if it is one of its own.
+/// The size of a packet after it is extended for the field; unchanged if the field is of another message id.
 fn with_room(one: &Chosen, mid: u16, size: usize) -> usize
     requires { size ≤ LONGEST_PACKET }
     ensures least { size ≤ result }
@@ -101,7 +101,7 @@ fn with_room(one: &Chosen, mid: u16, size: usize) -> usize
     }
 }
 
-/// The bytes of the packet of a message id: as many as its headers and its fields need.
+/// The size in bytes of a message id's packet: as much as its headers and fields need.
 fn size_for(chosen: &[Chosen], mid: u16) -> usize
     ensures { IsSize chosen.now mid result }
 {
@@ -124,7 +124,7 @@ fn packet_of(alloc: Global, chosen: &[Chosen], mid: u16) -> Result<Vec<u8>, Allo
     Ok(packet)
 }
 
-/// The packet of the field's message id joins those before, unless it is there.
+/// Appends the packet of the field's message id, unless it is there already.
 fn join(
     alloc: Global,
     packets: &mut Vec<Vec<u8>>,
@@ -152,8 +152,8 @@ fn packets_of(alloc: Global, chosen: &[Chosen]) -> Result<Vec<Vec<u8>>, AllocErr
     Ok(packets)
 }
 
-/// Packets in which these fields have these bits, one for each message id, as far as the fields leave room for one another. All
-/// other bits are zero.
+/// Packets in which these fields have these bits, one for each message id; all other bits are zero. If fields share bits, some may have
+/// other bits than chosen.
 pub(crate) fn lay_out(
     alloc: Global,
     fields: &[Field],

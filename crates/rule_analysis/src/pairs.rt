@@ -1,4 +1,4 @@
-//! Rules judged two by two.
+//! Judges pairs of rules.
 
 ghost use Rattle.std.specs.Prelude.{◌≡◌, ◌+◌, ◌<◌, ℕ, Contains, IfOk, IfSome, IsFalse, IsTrue, None, OnOk, Some, false, length, true};
 ghost use Rattle.std.specs.List.{AllByRecursion};
@@ -21,14 +21,15 @@ use std::alloc::{AllocError, Global};
 /// The most steps for one question about two rules.
 const PAIR_STEPS: u32 = 1 << 14;
 
-/// The steps that each question has, also where those for all pairs are used up: enough for eight different comparisons.
+/// The steps that each question has even after `TEXT_STEPS` is used up: enough for eight different comparisons.
 const LEAST_PAIR_STEPS: u32 = 1 << 8;
 
-/// The steps for all pairs of a text, beyond the least that each question has.
+/// The steps shared by all questions of one call, about pairs or about spare comparisons. A question gets at least 2^8 steps even
+/// after these are used up.
 pub const TEXT_STEPS: u32 = 1 << 21;
 
-/// Whether some numbers make the condition true; none where it is not known. At most `PAIR_STEPS` of the steps are taken; the
-/// least number of steps may be taken in any case.
+/// Whether some values make the condition true; `None` if it isn't known. Takes at most `PAIR_STEPS` of the steps; `least` steps may
+/// be taken even if fewer are left.
 pub(crate) fn ask(
     alloc: Global,
     cond: &Cond,
@@ -46,7 +47,7 @@ pub(crate) fn ask(
     Ok(some)
 }
 
-/// Whether for some numbers the first condition is true and the second one false; none where it is not known.
+/// Whether for some values the first condition is true and the second one false; `None` if it isn't known.
 fn are_apart(
     alloc: Global,
     first: &Cond,
@@ -65,7 +66,7 @@ fn are_apart(
     ask(alloc, &apart, LEAST_PAIR_STEPS, steps)
 }
 
-/// Whether the second condition is known to be true wherever the first one is and all is known.
+/// Whether the second condition is known to be true whenever the first one is true and all fields are known.
 fn follows(alloc: Global, first: &Cond, second: &Cond, steps: &mut u32) -> Result<bool, AllocError>
     ensures follows { IfOk result (λ follows. IsTrue follows →
         FailsWherever (condition_of first.now) (condition_of second.now)) }
@@ -78,7 +79,7 @@ fn follows(alloc: Global, first: &Cond, second: &Cond, steps: &mut u32) -> Resul
     }
 }
 
-/// How the conditions go together, where that is known.
+/// How the conditions are related; `None` if they aren't, or if it isn't known.
 fn relation(
     alloc: Global,
     first: &Cond,
@@ -121,7 +122,7 @@ fn are_near(alloc: Global, first: &Rule, second: &Rule) -> Result<bool, AllocErr
     Ok(first.sequence == second.sequence || read_one_field(&own, &other))
 }
 
-/// The two rules join the pairs, if they are near and it is known how they go together.
+/// Appends the two rules to the pairs, if they are near and known to be related.
 fn judge_pair(
     alloc: Global,
     rules: &[Rule],
@@ -153,7 +154,7 @@ fn judge_pair(
     }
 }
 
-/// A rule's pairs with the rules before it join the others.
+/// Appends a rule's pairs with the rules before it.
 fn judge_with_earlier(
     alloc: Global,
     rules: &[Rule],
@@ -177,9 +178,9 @@ fn judge_with_earlier(
     Ok(())
 }
 
-/// The pairs of rules with one sequence or a common field of which it is found that one fails wherever the other does. Each
-/// pair is found that has at most eight different comparisons; of others as many as in `TEXT_STEPS` steps for all. Each is told
-/// once, in the order of the second rule, and of those with one second rule in that of the first.
+/// The pairs of rules where one fails whenever the other does, among those that request the same sequence or share a field. A pair with
+/// at most eight different comparisons is always found; others only within `TEXT_STEPS` steps for all. Each pair is listed once, by
+/// the second rule and then by the first. The only error is a lack of memory.
 pub fn judge_pairs(alloc: Global, rules: &Rules) -> Result<Vec<PairJudgement>, AllocError>
     ensures sound { IfOk result (λ pairs. AllByRecursion (IsPair rules.now) pairs.items) }
     ensures settled { IfOk result (λ pairs. AreSettled rules.now pairs.items) }

@@ -1,4 +1,4 @@
-//! Which rules sample requests reach.
+//! Which rules the sample requests sample.
 
 ghost use Rattle.std.specs.Prelude.{◌≡◌, IfOk, filter, not};
 ghost use Rattle.lc_model.specs.Tables.Image.{numbers_below};
@@ -7,7 +7,7 @@ ghost use Rattle.rule_analysis.specs.Reach.{is_sampled};
 use lc_model::SampleRequest;
 use std::alloc::{AllocError, Global};
 
-/// Whether one of the requests takes the rule of this number.
+/// Whether one of the requests samples the rule with this number.
 fn is_sampled(samples: &[SampleRequest], rule: usize) -> bool
     ensures { result ≡ is_sampled samples.now rule }
 {
@@ -19,7 +19,8 @@ fn is_sampled(samples: &[SampleRequest], rule: usize) -> bool
     false
 }
 
-/// Of so many rules those that none of these sample requests takes, by their numbers from 0.
+/// The rules that none of these sample requests samples, by number from 0; `rules` is the number of rules. The only error is a lack of
+/// memory.
 pub fn never_sampled(
     alloc: Global,
     rules: usize,

@@ -1,4 +1,4 @@
-//! What a condition is found to be with some packets.
+//! The truth of a condition after some packets.
 
 ghost use Rattle.std.specs.Prelude.{◌≡◌, IsTrue, option_map};
 ghost use Rattle.std.specs.List.{AllByRecursion};
@@ -11,7 +11,7 @@ ghost use Rattle.rule_analysis.specs.Came.{history_of};
 use lc_model::packet::{padded_message_id, stream_fault};
 use lc_model::{Cond, Term, Truth, mids};
 
-/// The value of the term's field in a packet; none where the packet ends before the field does.
+/// The value of the term's field in a packet; `None` if the packet ends before the field does.
 fn value(term: &Term, packet: &[u8]) -> Option<i64>
     ensures { result ≡ value_of term.now packet.now }
 {
@@ -24,7 +24,7 @@ fn value(term: &Term, packet: &[u8]) -> Option<i64>
     Some(term.kind.signed_value(bits & term.mask))
 }
 
-/// The last packet of a message id, where the first of these came last.
+/// The latest packet of a message id. The packets are listed latest first.
 pub(crate) fn last_of(packets: &[Vec<u8>], mid: u16) -> Option<&[u8]>
     ensures { last_packet mid (history_of packets.now) ≡ option_map (λ packet.
         (packet.now, 0)) result }
@@ -37,8 +37,8 @@ pub(crate) fn last_of(packets: &[Vec<u8>], mid: u16) -> Option<&[u8]>
     None
 }
 
-/// The value of the term's field in the last of these packets that has its message id, where the first of them came last; none
-/// where there is no such packet, or it ends before the field does.
+/// The value of the term's field in the latest packet of its message id; packets are listed latest first. `None` if there is no such
+/// packet, or if it ends before the field does.
 pub fn value_with(term: &Term, packets: &[Vec<u8>]) -> Option<i64>
     ensures { result ≡ value_seen term.now (last_packet term.now.mid (history_of packets.now)) }
 {
@@ -48,7 +48,7 @@ pub fn value_with(term: &Term, packets: &[Vec<u8>]) -> Option<i64>
     }
 }
 
-/// What the term is found to be with these packets.
+/// The truth of the term after these packets.
 fn term_with(term: &Term, packets: &[Vec<u8>]) -> Truth
     ensures { result ≡ truth_of_term term.now (history_of packets.now) }
 {
@@ -65,7 +65,7 @@ fn term_with(term: &Term, packets: &[Vec<u8>]) -> Truth
     }
 }
 
-/// What the condition is found to be with these packets.
+/// The truth of the condition after these packets.
 fn truth_with(cond: &Cond, packets: &[Vec<u8>]) -> Truth
     ensures { result ≡ truth_of (condition_of cond.now) (history_of packets.now) }
 {
@@ -84,7 +84,7 @@ fn truth_with(cond: &Cond, packets: &[Vec<u8>]) -> Truth
     }
 }
 
-/// Whether a stream may bring the packet, as telemetry.
+/// Whether the packet is telemetry that a stream may bring.
 fn is_telemetry(packet: &[u8]) -> bool
     ensures only { IsTrue result → IsTelemetry packet.now }
     ensures all { IsTelemetry packet.now → IsTrue result }
@@ -92,7 +92,7 @@ fn is_telemetry(packet: &[u8]) -> bool
     stream_fault(packet).is_none() && mids::is_telemetry(padded_message_id(packet))
 }
 
-/// Whether it may bring all these.
+/// Whether all these packets are such telemetry.
 fn are_telemetry(packets: &[Vec<u8>]) -> bool
     ensures only { IsTrue result → AllByRecursion (λ packet. IsTelemetry packet.items) packets.now }
     ensures all { AllByRecursion (λ packet. IsTelemetry packet.items) packets.now → IsTrue result }
@@ -105,7 +105,7 @@ fn are_telemetry(packets: &[Vec<u8>]) -> bool
     true
 }
 
-/// Whether these are packets that make the condition true.
+/// Whether these packets may come and make the condition true.
 pub(crate) fn shows(cond: &Cond, packets: &[Vec<u8>]) -> bool
     ensures only { IsTrue result → Shows (condition_of cond.now) packets.now }
     ensures all { Shows (condition_of cond.now) packets.now → IsTrue result }

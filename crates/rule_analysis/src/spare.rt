@@ -18,10 +18,10 @@ use crate::pairs::{TEXT_STEPS, ask};
 use lc_model::{Cond, Rule, Rules, Term};
 use std::alloc::{AllocError, Global};
 
-/// The steps that each question has, also where those for all are used up: enough for eight different comparisons.
+/// The steps that each question has even after `TEXT_STEPS` is used up: enough for eight different comparisons.
 const LEAST_SPARE_STEPS: u32 = 1 << 8;
 
-/// Whether the terms are one.
+/// Whether the terms are equal.
 fn are_one(one: &Term, other: &Term) -> bool
     ensures { result ≡ same_term one.now other.now }
 {
@@ -34,7 +34,7 @@ fn are_one(one: &Term, other: &Term) -> bool
         && one.value == other.value
 }
 
-/// True, or false, wherever the term is known.
+/// A condition that has this value whenever the term is known.
 fn constant(alloc: Global, term: &Term, value: bool) -> Result<Cond, AllocError>
     ensures { IfOk result (λ cond. condition_of cond ≡ constant value term.now) }
 {
@@ -47,7 +47,7 @@ fn constant(alloc: Global, term: &Term, value: bool) -> Result<Cond, AllocError>
     }
 }
 
-/// The condition with a term taken as true, or as false.
+/// The condition with this value in the place of a term.
 fn replace_term(alloc: Global, cond: &Cond, term: &Term, value: bool) -> Result<Cond, AllocError>
     ensures { IfOk result (λ other. condition_of other ≡
         replaced term.now (constant value term.now) (condition_of cond.now)) }
@@ -80,7 +80,7 @@ fn replace_term(alloc: Global, cond: &Cond, term: &Term, value: bool) -> Result<
     }
 }
 
-/// True where the condition and the one with a term taken as true, or as false, differ.
+/// The condition that a fixed value in the place of a term changes the result.
 fn difference(alloc: Global, cond: &Cond, term: &Term, value: bool) -> Result<Cond, AllocError>
     ensures { IfOk result (λ both. condition_of both ≡ Join Xor (condition_of cond.now)
         (replaced term.now (constant value term.now) (condition_of cond.now))) }
@@ -90,7 +90,7 @@ fn difference(alloc: Global, cond: &Cond, term: &Term, value: bool) -> Result<Co
     Ok(Cond::Xor(Box::new(alloc, (first, second))?))
 }
 
-/// Whether it is known that no numbers make the condition true.
+/// Whether it is known that no values make the condition true.
 fn is_never_true(alloc: Global, cond: &Cond, steps: &mut u32) -> Result<bool, AllocError>
     ensures never { IfOk result (λ never. IsTrue never → NeverFails (condition_of cond.now)) }
     ensures other { IfOk result (λ never. IsFalse never →
@@ -103,7 +103,7 @@ fn is_never_true(alloc: Global, cond: &Cond, steps: &mut u32) -> Result<bool, Al
     }
 }
 
-/// Whether the rule is known to say the same with the term taken so.
+/// Whether the rule is known to have the same result with this value in the place of the term.
 fn does_without(
     alloc: Global,
     cond: &Cond,
@@ -121,7 +121,7 @@ fn does_without(
     is_never_true(alloc, &both, steps)
 }
 
-/// As which of both the rule can take the term, if as one.
+/// The value that can stand in the place of the term; `None` if none is known.
 fn taken_as(
     alloc: Global,
     cond: &Cond,
@@ -143,7 +143,7 @@ fn taken_as(
     Ok(None)
 }
 
-/// The term joins the others, if it is known that the rule can do without it.
+/// Appends the term if it is known that the rule can do without it.
 fn judge_term(
     alloc: Global,
     rules: &[Rule],
@@ -187,7 +187,7 @@ fn is_again(terms: &[Term], at: usize) -> bool
     false
 }
 
-/// One of a rule's terms joins the others, if it is known that the rule can do without it, unless it stands before already.
+/// Appends one of a rule's terms if it is known that the rule can do without it, unless the same term came before.
 fn judge_at(
     alloc: Global,
     rules: &[Rule],
@@ -217,7 +217,7 @@ fn judge_at(
     Ok(())
 }
 
-/// The terms of a rule that it can do without join the others.
+/// Appends the terms of a rule that it can do without.
 fn judge_terms(
     alloc: Global,
     rules: &[Rule],
@@ -242,9 +242,8 @@ fn judge_terms(
     Ok(())
 }
 
-/// The comparisons of a text's rules without which these say the same, each taken as true or as false. Each is found of rules
-/// that have at most eight different comparisons; of others as many as in `TEXT_STEPS` steps for all. Each is told once, rule by
-/// rule.
+/// The comparisons that their rules can do without, rule by rule, each once. In a rule with at most eight different comparisons each is
+/// found; in others only within `TEXT_STEPS` steps for all. The only error is a lack of memory.
 pub fn spare_comparisons(alloc: Global, rules: &Rules) -> Result<Vec<SpareComparison>, AllocError>
     ensures sound { IfOk result (λ spare. AllByRecursion (IsSpare rules.now) spare.items) }
     ensures told { IfOk result (λ spare. AreToldOrNeeded rules.now spare.items) }

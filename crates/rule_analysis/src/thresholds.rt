@@ -1,4 +1,4 @@
-//! The numbers from which on a comparison says something else.
+//! The numbers at which the outcome of a comparison changes.
 
 ghost use Rattle.std.specs.Prelude.{◌≡◌, ◌≤◌, ◌<◌, ◌^◌, ◌-ℤ◌, ℕ, int_le, int_lt, nat_le, pos, IfOk, OnOk};
 ghost use Rattle.std.specs.List.{AllByRecursion};
@@ -8,17 +8,17 @@ ghost use Rattle.rule_analysis.specs.Classes.{Separates};
 use lc_model::Term;
 use std::alloc::{AllocError, Global};
 
-/// More than any 32 bits say, of either sign.
+/// Greater than any value of a field, of either sign.
 const BEYOND: i64 = 1 << 33;
 
-/// The number, or 0 where it is less.
+/// The number, or 0 if it is negative.
 fn at_least_zero(number: i64) -> u64
     ensures { (n : ℕ) → nat_le result n ≡ int_le number (pos n) }
 {
     if number < 0 { 0 } else { number as u64 }
 }
 
-/// The number from which on 32 bits, less the shift, are no less than what the term compares with.
+/// The least number that, less the shift, is at least the term's value; 2^32 or more if no 32-bit number is.
 fn first_from(term: &Term, shift: u64) -> u64
     requires { shift ≤ 2 ^ 32 }
     ensures { (n : ℕ) → n < 2 ^ 32 → nat_le result n ≡ int_le term.now.value (pos n -ℤ pos shift) }
@@ -33,7 +33,7 @@ fn first_from(term: &Term, shift: u64) -> u64
     }
 }
 
-/// The number from which on 32 bits, less the shift, are more than what the term compares with.
+/// The least number that, less the shift, is greater than the term's value; 2^32 or more if no 32-bit number is.
 fn first_above(term: &Term, shift: u64) -> u64
     requires { shift ≤ 2 ^ 32 }
     ensures { (n : ℕ) → n < 2 ^ 32 → nat_le result n ≡ int_lt term.now.value (pos n -ℤ pos shift) }
@@ -48,7 +48,7 @@ fn first_above(term: &Term, shift: u64) -> u64
     }
 }
 
-/// The numbers from which on the term's comparison may say something else.
+/// The numbers at which the outcome of the term's comparison may change.
 fn thresholds(term: &Term) -> [u64; 5]
     ensures { Separates result term.now }
 {
@@ -63,7 +63,7 @@ fn thresholds(term: &Term) -> [u64; 5]
     ]
 }
 
-/// They join those before.
+/// Appends a term's thresholds.
 fn push_thresholds(term: &Term, all: &mut Vec<u64>) -> Result<(), AllocError>
     ensures own { OnOk result (Separates all.new.items term.now) }
     ensures others { OnOk result ((t : Comparison) → Separates all.old.items t →
@@ -73,7 +73,7 @@ fn push_thresholds(term: &Term, all: &mut Vec<u64>) -> Result<(), AllocError>
     Ok(())
 }
 
-/// The numbers from which on some of the comparisons may say something else.
+/// The numbers at which the outcome of one of the comparisons may change.
 pub(crate) fn thresholds_of(alloc: Global, terms: &[Term]) -> Result<Vec<u64>, AllocError>
     ensures { IfOk result (λ thresholds. AllByRecursion (λ t.
         Separates thresholds.items t) terms.now) }

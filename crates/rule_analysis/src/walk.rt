@@ -1,4 +1,4 @@
-//! A walk over the fields of a condition, with some numbers for each.
+//! A walk over the fields of a condition, with a few candidate values for each.
 
 ghost use Rattle.std.specs.Prelude.{◌≡◌, ◌≤◌, ◌<◌, ◌+◌, length, IfOk, IsFalse, IsTrue, None, Some, false, true};
 ghost use Rattle.std.specs.List.{AllByRecursion};
@@ -16,18 +16,18 @@ use crate::outcomes::outcome;
 use lc_model::{Cond, Truth};
 use std::alloc::AllocError;
 
-/// What a walk comes to.
+/// The result of a walk.
 #[derive(Clone, Copy, Debug, PartialEq, Eq)]
 pub(crate) enum Outcome {
-    /// The numbers make the condition true.
+    /// The chosen bits make the condition true.
     Found,
-    /// No numbers do.
+    /// No candidates make the condition true.
     Excluded,
-    /// It would take more steps than it may.
+    /// The walk needs more steps than are left.
     Spent,
 }
 
-/// The truth of a condition where the first fields have these bits, and the others are stale.
+/// The truth of a condition if the first fields have these bits and the others are stale.
 pub(crate) fn evaluate(cond: &Cond, fields: &[Field], chosen: &[u32]) -> Truth
     ensures { result ≡
         truth_by (found_so_far (field_number fields.now) chosen.now) (condition_of cond.now) }
@@ -50,7 +50,7 @@ pub(crate) fn evaluate(cond: &Cond, fields: &[Field], chosen: &[u32]) -> Truth
     }
 }
 
-/// What the bits so far say already, if anything; else a field is left that has none.
+/// Whether the bits chosen so far make the condition true or false; `None` if neither, and then a field without bits is left.
 fn known_result(cond: &Cond, fields: &[Field], chosen: &[u32]) -> Option<bool>
     requires { AllByRecursion (λ t. HasField fields.now t) (mentions (condition_of cond.now)) }
     ensures found { result ≡ Some true →
@@ -68,7 +68,7 @@ fn known_result(cond: &Cond, fields: &[Field], chosen: &[u32]) -> Option<bool>
     }
 }
 
-/// Takes a step, if one is left, where there is a choice: two numbers or more.
+/// Takes a step if there are two candidates or more; returns false if no step is left for it.
 fn may_choose(numbers: usize, steps: &mut u32) -> bool
     ensures some { IsTrue result → 1 ≤ numbers → steps.old < steps.new + numbers }
     ensures none { IsTrue result → numbers ≡ 0 → steps.new ≡ steps.old }
@@ -84,8 +84,8 @@ fn may_choose(numbers: usize, steps: &mut u32) -> bool
     true
 }
 
-/// Goes on from the bits so far: finds bits for the next fields that make the condition true, or shows that none do, in so many
-/// choices at most.
+/// Continues from the bits chosen so far: finds bits for the next fields that make the condition true, or shows that none do, in at most
+/// `steps` steps.
 pub(crate) fn walk(
     cond: &Cond,
     fields: &[Field],

@@ -53,7 +53,7 @@ StandsFor code text message =
     either true A B = A
     either false A B = B
 
--- the message stands where the refusal is: at its place, and that of a rule at the name of the rule
+-- the message has the place of the refusal; the refusal of a rule has the place of the rule's name
 abbrev pub Stands : List ℕ → TextRefusal → Message → Type 0
 Stands text (ForText code) message = StandsFor code text message
 Stands text (AtPlace fault) message =
@@ -70,12 +70,12 @@ abbrev pub TellsOf : List ℕ → Option TextRefusal → Message → Type 0
 TellsOf text None message = ⊤
 TellsOf text (Some refusal) message = Tells text refusal message
 
--- the first message tells of the refusal
+-- the first message is that of the refusal
 abbrev pub BeginsWith : List ℕ → TextRefusal → List Message → Type 0
 BeginsWith text refusal [] = ⊥
 BeginsWith text refusal (message ∷ messages) = Tells text refusal message
 
--- what is told of a token that begins at a place, by what is wrong with it
+-- the message for a token that begins at a place, by its fault
 abbrev pub TellsReason : List ℕ → LexReason → ℕ → Message → Type 0
 TellsReason text (NoToken at) begin message = IsAt 1 at message
 TellsReason text (NotANumber at) begin message = IsAt 2 at message

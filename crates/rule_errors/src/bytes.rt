@@ -2,17 +2,17 @@
 
 use diagnostics::{behind, front, front_character};
 
-/// So many bytes from a place on, as far as there are as many.
+/// At most `size` bytes from place `at` on; fewer at the end.
 pub fn part(bytes: &[u8], at: usize, size: usize) -> &[u8] {
     front(behind(bytes, at), size)
 }
 
-/// An ASCII letter, `_` or a digit.
+/// Whether a byte is an ASCII letter, a digit or `_`.
 pub fn is_word_byte(byte: u8) -> bool {
     byte.is_ascii_alphanumeric() || byte == b'_'
 }
 
-/// The letters, digits and `_` in front.
+/// The number of letters, digits and `_` in front.
 pub fn word_size(bytes: &[u8]) -> usize {
     bytes.iter().take_while(|byte| is_word_byte(**byte)).count()
 }
@@ -27,7 +27,7 @@ pub fn last_word(bytes: &[u8]) -> &[u8] {
     behind(bytes, bytes.len().saturating_sub(size))
 }
 
-/// The character in front, or a blank where there is none, with its bytes.
+/// The character in front and its size in bytes; a blank and 0 if the bytes are empty.
 pub fn character(bytes: &[u8]) -> (char, usize) {
     if bytes.is_empty() {
         return (' ', 0);

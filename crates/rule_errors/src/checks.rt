@@ -1,4 +1,4 @@
-//! What is said of items whose names, places or numbers aren't right.
+//! Messages for errors of items: names, places and numbers that aren't valid.
 
 ghost use Rattle.std.specs.Prelude.{◌≡◌, IfOk};
 ghost use Rattle.rpn_compiler.specs.declared.error.CompileError.TheVariants.{Check};
@@ -15,7 +15,7 @@ use field_checker::CheckError;
 use rule_lexer::{Token, TokenKind};
 use std::alloc::{AllocError, Global};
 
-/// The place that an error of items names.
+/// The place of an error of items, in bytes from the text's first; 0 for `Memory`.
 pub fn check_place(error: CheckError) -> usize
     ensures { result ≡ place_of_check error }
 {
@@ -33,7 +33,7 @@ pub fn check_place(error: CheckError) -> usize
     }
 }
 
-/// The token with this number, as the one at this place.
+/// The token with this number, placed at `at`.
 fn token_at<'a>(source: &Source<'a>, number: usize, at: usize) -> Token<'a>
     ensures { result.at ≡ at }
 {
@@ -51,7 +51,7 @@ fn token_at<'a>(source: &Source<'a>, number: usize, at: usize) -> Token<'a>
     }
 }
 
-/// What is said of an error of items.
+/// The message for an error of items.
 pub fn check_message(
     alloc: Global,
     source: &Source<'_>,

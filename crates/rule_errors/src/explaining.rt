@@ -1,4 +1,4 @@
-//! What is said of a refusal.
+//! Messages for refusals.
 
 ghost use Rattle.std.specs.Prelude.{IfOk};
 ghost use Rattle.rpn_compiler.specs.declared.error.CompileError.TheVariants.{Parse};
@@ -16,7 +16,7 @@ use rpn_compiler::{CompileError, RuleText};
 use rule_parser::ParseError;
 use std::alloc::{AllocError, Global};
 
-/// What is said of an error of the grammar.
+/// The message for an error of the grammar.
 fn parse_message(
     alloc: Global,
     source: &Source<'_>,
@@ -31,8 +31,8 @@ fn parse_message(
     }
 }
 
-/// What is said of a refusal of a text that can't be read: its number, its place where it has one, and what to do. A limit is one
-/// of rules that were read (`explain_limit`), and want of memory is no refusal.
+/// The message for the refusal of a text that can't be read: its number, its place if it has one, and what to do. A limit of the tables
+/// is explained by `explain_limit`; a lack of memory isn't a refusal.
 pub fn explain(
     alloc: Global,
     source: &Source<'_>,
@@ -51,7 +51,7 @@ pub fn explain(
     }
 }
 
-/// What is said of a limit of the tables that the rules of a text don't keep to: its number, its place, and what to do.
+/// The message for a limit of the tables that a text's rules exceed: its number, its place, and what to do.
 pub fn explain_limit(
     alloc: Global,
     source: &Source<'_>,

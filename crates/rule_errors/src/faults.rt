@@ -24,7 +24,7 @@ use rule_lexer::{LexError, lex};
 use rule_parser::ParseError;
 use std::alloc::{AllocError, Global};
 
-/// The rules that are too long, by their numbers.
+/// The numbers of the rules that are too long.
 fn long_rules(alloc: Global, source: &Source<'_>) -> Result<Vec<usize>, AllocError> {
     let mut rules = Vec::new(alloc);
     for (rule, item) in rule_parts(alloc, source)?.iter().enumerate() {
@@ -100,8 +100,8 @@ fn all_errors(
     Ok(all)
 }
 
-/// All errors, in the order of the compiler's parts. Where the compiler's first may follow from another of them, nobody knows which of the
-/// two is the mistake, and there are none beside it.
+/// All errors, in the order of the compiler's parts. Empty if the compiler's first error isn't among them: then it may follow from another
+/// one, and only it is reported.
 fn errors(
     alloc: Global,
     source: &Source<'_>,
@@ -115,7 +115,7 @@ fn errors(
     Ok(Vec::new(alloc))
 }
 
-/// This message alone.
+/// A list of this message.
 fn alone(alloc: Global, message: Message) -> Result<Vec<Message>, AllocError>
     ensures { IfOk result (λ told. told.items ≡ message ∷ []) }
 {
@@ -124,7 +124,7 @@ fn alone(alloc: Global, message: Message) -> Result<Vec<Message>, AllocError>
     Ok(told)
 }
 
-/// Adds what is said of each other error, up to so many that it is known that there are more than are told of.
+/// Adds a message for each other error, until there are more messages than are shown.
 fn add_others(
     alloc: Global,
     source: &Source<'_>,
@@ -145,7 +145,7 @@ fn add_others(
     Ok(())
 }
 
-/// What is said of a text that is too long, which has no tokens.
+/// The message for a text that is too long; it has no tokens.
 fn told_of_all(alloc: Global, text: &[u8], first: CompileError) -> Result<Vec<Message>, AllocError>
     ensures { IfOk result (λ told. (message : Message) × (more : List Message)
         × (told.items ≡ message ∷ more) × TellsOf text.now (refusal_of first) message) }
@@ -155,7 +155,7 @@ fn told_of_all(alloc: Global, text: &[u8], first: CompileError) -> Result<Vec<Me
     alone(alloc, message)
 }
 
-/// What is said of a text with tokens and its first error, and of the errors that don't follow from it.
+/// The messages for the first error of a text with tokens, and for the errors that don't follow from it.
 fn told_of_parts(
     alloc: Global,
     text: &[u8],
@@ -176,7 +176,7 @@ fn told_of_parts(
     Ok(told)
 }
 
-/// Adds what is said of each other rule that is too long, up to so many that it is known that there are more than are told of.
+/// Adds a message for each other rule that is too long, until there are more messages than are shown.
 fn add_long_rules(
     alloc: Global,
     source: &Source<'_>,
@@ -198,7 +198,7 @@ fn add_long_rules(
     Ok(())
 }
 
-/// Adds what is said beside a first limit: of other rules that are too long, where one is.
+/// Adds the messages for other rules that are too long, if the first limit is a rule that is too long.
 fn add_beside_limit(
     alloc: Global,
     source: &Source<'_>,
@@ -215,7 +215,7 @@ fn add_beside_limit(
     }
 }
 
-/// What is said of a text that was read, whose rules don't keep to this limit first.
+/// The messages for a text that was read, whose rules exceed this limit first.
 fn told_of_limit(
     alloc: Global,
     text: &RuleText<'_>,
@@ -233,7 +233,7 @@ fn told_of_limit(
     Ok(told)
 }
 
-/// What is said of a text that was read: nothing, where its rules keep to the limits of the tables.
+/// The messages for a text that was read; none if its rules keep to the limits of the tables.
 fn told_of_read(alloc: Global, text: &RuleText<'_>) -> Result<Vec<Message>, AllocError>
     requires { IsRuleText text.now }
     ensures quiet { limit_refusal limits text.now.rules.rules ≡ None →
@@ -249,7 +249,7 @@ fn told_of_read(alloc: Global, text: &RuleText<'_>) -> Result<Vec<Message>, Allo
     }
 }
 
-/// What is said of a text that can't be read, and has this first error.
+/// The messages for a text that can't be read, and has this first error.
 fn told_of(alloc: Global, text: &[u8], first: CompileError) -> Result<Vec<Message>, AllocError>
     ensures { IfOk result (λ told. (message : Message) × (more : List Message)
         × (told.items ≡ message ∷ more) × TellsOf text.now (refusal_of first) message) }
@@ -261,13 +261,11 @@ fn told_of(alloc: Global, text: &[u8], first: CompileError) -> Result<Vec<Messag
     }
 }
 
-/// What is said of a text that doesn't compile: first of the compiler's refusal, by its number and its place, and then of faults that
-/// don't follow from it or from one another, in the order of the compiler's parts. Nothing is said of a text that compiles.
+/// The messages for a text that doesn't compile: first the compiler's refusal with its number and place, then faults that don't follow
+/// from it or from one another, in the order of the compiler's parts. Empty for a text that compiles.
 ///
-/// A fault of a quoted text is told at the character that may not stand there, and else at the quote; a refusal without a place is told
-/// at the comparison or the rule that is too much.
-///
-/// Errors: there is no memory for what is said, or for compiling.
+/// A fault of a quoted text is placed at the forbidden character, or else at the quote. A refusal without a place is placed at the first
+/// comparison or rule too many. The only error is a lack of memory.
 pub fn messages(alloc: Global, text: &[u8]) -> Result<Vec<Message>, AllocError>
     ensures quiet { (rules : List NamedRule) → Compiles limits text.now rules →
         IfOk result (λ told. told.items ≡ []) }

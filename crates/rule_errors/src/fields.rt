@@ -1,4 +1,4 @@
-//! What is said of where fields lie, and of their masks.
+//! Messages for fields outside their packets, and for bad masks.
 
 ghost use Rattle.std.specs.Prelude.{◌≡◌, IfOk};
 ghost use Rattle.diagnostics.specs.Message.{IsAt};
@@ -14,7 +14,9 @@ use std::alloc::{AllocError, Global};
 /// The token of a field's type, and the type.
 #[derive(Clone, Copy)]
 pub struct Typed<'a> {
+    /// The token of the type.
     pub word: Token<'a>,
+    /// The type.
     pub kind: FieldType,
 }
 
@@ -34,7 +36,7 @@ fn type_if<'a>(source: &Source<'a>, field: Option<Declaration<'a>>) -> Option<Ty
     type_of(source, field?)
 }
 
-/// The packet that the field of this item lies in, where it is declared.
+/// The declared packet of the field in the item with this token number; `None` if it isn't declared.
 pub fn packet_of<'a>(source: &Source<'a>, number: usize) -> Option<Declaration<'a>> {
     let part = source.part_of(number);
     let name = source.token(part.from.saturating_add(3))?;
@@ -46,12 +48,12 @@ fn length_if<'a>(source: &Source<'a>, packet: Option<Declaration<'a>>) -> Option
     source.value_in(packet?, TokenKind::Length)
 }
 
-/// The number of the last byte at which a field of this type may begin in so many bytes.
+/// The last offset at which a field of this type fits into a packet of this length.
 fn last_place(length: i64, kind: FieldType) -> Signed {
     Signed(length.saturating_sub(kind.width() as i64).max(0))
 }
 
-/// What to do about a field that ends behind its packet.
+/// What to do about a field that ends after its packet.
 fn shorter(alloc: Global, typed: Typed<'_>, length: i64) -> Result<String, AllocError> {
     let width = typed.kind.width();
     let most = last_place(length, typed.kind);
@@ -78,7 +80,7 @@ fn later(
     }
 }
 
-/// The number that a token is, 0 where there is none.
+/// The value of a number token; 0 if there is none.
 fn value_if(token: Option<Token<'_>>) -> i64 {
     match token {
         Some(token) => value_of(token),
@@ -110,7 +112,7 @@ fn bytes_label(
     format!(in alloc; "{name} has {bytes} bytes")
 }
 
-/// A mark under the length of a packet, where there is one.
+/// A mark under the length of a packet, if there is one.
 fn length_mark(
     alloc: Global,
     packet: Option<Declaration<'_>>,
@@ -142,7 +144,7 @@ fn outside_head(
     }
 }
 
-/// A field that isn't inside its packet.
+/// The message for a field that isn't inside its packet.
 pub fn outside(
     alloc: Global,
     source: &Source<'_>,
@@ -193,7 +195,7 @@ fn bits_label(
     format!(in alloc; "{name} has {bits} bits")
 }
 
-/// A mark under the type of a field, where there is one.
+/// A mark under the type of a field, if there is one.
 fn bits_mark(
     alloc: Global,
     field: Option<Declaration<'_>>,
@@ -208,7 +210,7 @@ fn bits_mark(
     }
 }
 
-/// A mask without a bit of its field, or with one outside.
+/// The message for a mask that has no bit of its field, or has a bit outside it.
 pub fn bad_mask(
     alloc: Global,
     source: &Source<'_>,

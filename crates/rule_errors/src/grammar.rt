@@ -1,4 +1,4 @@
-//! What is said of a token that continues no item.
+//! Messages for tokens that don't continue an item.
 
 ghost use Rattle.std.specs.Prelude.{◌≡◌, IfOk};
 ghost use Rattle.diagnostics.specs.Message.{IsAt};
@@ -12,11 +12,11 @@ use rule_lexer::{Token, TokenKind};
 use rule_parser::{Sign, What};
 use std::alloc::{AllocError, Global};
 
-/// Where something else is wanted than what stands there.
+/// A place at which the grammar expects something else than what is there.
 #[derive(Drop)]
 struct Stop<'s, 'a> {
     source: &'s Source<'a>,
-    /// The number of the token that stands there.
+    /// The number of the token at that place.
     number: usize,
     what: What,
 }
@@ -49,7 +49,7 @@ fn exchanged_label(alloc: Global, meant: Exchanged<'_>) -> Result<String, AllocE
     format!(in alloc; "the field comes first: did you mean `{name} {op} {value}`?")
 }
 
-/// A mark where something is to be written, behind a token.
+/// A mark after a token, where something has to be written.
 fn behind_token(alloc: Global, token: Token<'_>, what: What) -> Result<Mark, AllocError> {
     let wanted = describe_wanted(alloc, what)?;
     Ok(Mark {
@@ -60,17 +60,17 @@ fn behind_token(alloc: Global, token: Token<'_>, what: What) -> Result<Mark, All
 }
 
 impl<'a> Stop<'_, 'a> {
-    /// The token that stands there.
+    /// The token at that place.
     fn token(&self) -> Option<Token<'a>> {
         self.source.token(self.number)
     }
 
-    /// The one before.
+    /// The token before that place.
     fn before(&self) -> Option<Token<'a>> {
         self.source.token_before(self.number)
     }
 
-    /// The item that is read there: that of the token before, unless it is at an end.
+    /// The item that is read at that place: that of the token before it, unless that item has ended.
     fn part(&self) -> crate::source::TokenRange {
         let before = self.number.saturating_sub(1);
         match self.source.token(before) {
@@ -79,7 +79,7 @@ impl<'a> Stop<'_, 'a> {
         }
     }
 
-    /// What is written there, where it is a name or a word of the language.
+    /// The text at that place, if it is a name or a word of the language.
     fn word(&self) -> Option<&'a [u8]> {
         let token = self.token()?;
         if token.kind == TokenKind::Name || is_reserved(token.kind) {
@@ -112,7 +112,7 @@ impl<'a> Stop<'_, 'a> {
         }
     }
 
-    /// The field that stands where its comparison wants a number.
+    /// The field at the place of a comparison's number.
     fn compared_field(&self) -> Option<Declaration<'a>> {
         let token = self.token()?;
         if !matches!(self.before()?.kind, TokenKind::Compare(_)) || token.kind != TokenKind::Name {
@@ -136,7 +136,7 @@ impl<'a> Stop<'_, 'a> {
         None
     }
 
-    /// Whether the next item begins there, or the text ends.
+    /// Whether the next item begins at that place, or the text ends.
     fn is_early(&self) -> bool {
         match self.token() {
             Some(token) => begins_item(token.kind),
@@ -144,7 +144,7 @@ impl<'a> Stop<'_, 'a> {
         }
     }
 
-    /// What to do, where nothing more fitting can be said.
+    /// What to do, if nothing more specific applies.
     fn plain_label(&self, alloc: Global) -> Result<String, AllocError> {
         let wanted = describe_wanted(alloc, self.what)?;
         let place = match self.what {
@@ -154,7 +154,7 @@ impl<'a> Stop<'_, 'a> {
         format!(in alloc; "write {wanted} {place}")
     }
 
-    /// What to do by the kind of what stands there.
+    /// What to do, by the kind of the token at that place.
     fn kind_label(&self) -> Option<&'static str> {
         match self.token() {
             Some(token) if self.what == What::Name && is_reserved(token.kind) => {
@@ -166,7 +166,7 @@ impl<'a> Stop<'_, 'a> {
         }
     }
 
-    /// What to do by the class that is wanted.
+    /// What to do, by the class of token that is expected.
     fn class_label(&self) -> Option<&'static str> {
         match self.what {
             What::FieldKind => Some(TYPES),
@@ -176,12 +176,12 @@ impl<'a> Stop<'_, 'a> {
         }
     }
 
-    /// Whether `=` stands there.
+    /// Whether the token at that place is `=`.
     fn is_equals(&self) -> bool {
         matches!(self.token(), Some(token) if token.kind == TokenKind::Equals)
     }
 
-    /// What to do about a sign or a field that stands there.
+    /// What to do about a sign or a field at that place.
     fn own_label(&self) -> Option<&'static str> {
         if self.what == What::Compare && self.is_equals() {
             Some("did you mean `==`?")
@@ -192,7 +192,7 @@ impl<'a> Stop<'_, 'a> {
         }
     }
 
-    /// What to do, where no word was meant.
+    /// What to do if no similar word is known.
     fn other_label(&self, alloc: Global) -> Result<String, AllocError> {
         match self.own_label() {
             Some(label) => String::from_str(alloc, label),
@@ -200,7 +200,7 @@ impl<'a> Stop<'_, 'a> {
         }
     }
 
-    /// What to do where an operand is wanted, and no word was meant.
+    /// What to do if an operand is expected and no similar word is known.
     fn operand_label(&self, alloc: Global) -> Result<String, AllocError> {
         match self.exchanged_sides() {
             Some(meant) if self.what == What::Operand => exchanged_label(alloc, meant),
@@ -216,7 +216,7 @@ impl<'a> Stop<'_, 'a> {
         }
     }
 
-    /// Where something is to be written, if the next item begins too early, or the text ends.
+    /// A mark where something is missing, if the next item begins too early or the text ends.
     fn missing(&self, alloc: Global) -> Result<Option<Mark>, AllocError> {
         if !self.is_early() {
             return Ok(None);
@@ -227,7 +227,7 @@ impl<'a> Stop<'_, 'a> {
         }
     }
 
-    /// The parenthesis that is to be closed, or the declaration of the field that stands where a number is wanted.
+    /// A mark at the open parenthesis, or at the declaration of the field in the place of a number.
     fn other(&self, alloc: Global) -> Result<Option<Mark>, AllocError> {
         match self.what {
             What::Sign(Sign::Close) => token_mark(alloc, self.open(), "opened here"),
@@ -236,7 +236,7 @@ impl<'a> Stop<'_, 'a> {
         }
     }
 
-    /// What is wanted, and what stands there.
+    /// The words for what is expected and what is there.
     fn head(&self, alloc: Global) -> Result<String, AllocError> {
         let wanted = describe_wanted(alloc, self.what)?;
         let found = describe_found(alloc, self.token())?;
@@ -244,7 +244,7 @@ impl<'a> Stop<'_, 'a> {
     }
 }
 
-/// What is said where this is wanted and something else stands.
+/// The message for a place at which something else was expected.
 pub fn expected_message(
     alloc: Global,
     source: &Source<'_>,
@@ -266,7 +266,7 @@ pub fn expected_message(
         .with(stop.other(alloc)?)
 }
 
-/// What is said of the 65th token that nests in a condition.
+/// The message for the 65th nested token of a condition.
 pub fn nested_message(alloc: Global, source: &Source<'_>, at: usize) -> Result<Message, AllocError>
     ensures { IfOk result (IsAt 12 at) }
 {
@@ -280,7 +280,7 @@ pub fn nested_message(alloc: Global, source: &Source<'_>, at: usize) -> Result<M
     Message::at(alloc, 12, head, Mark { at, size, label }).with(begin_mark(alloc, source, number)?)
 }
 
-/// The `when` of the condition that the token with this number stands in.
+/// A mark at the `when` of the condition with the token of this number.
 fn begin_mark(
     alloc: Global,
     source: &Source<'_>,

@@ -1,4 +1,4 @@
-//! What the grammar says of each item of a text.
+//! The errors of grammar, item by item.
 
 use crate::bytes::part;
 use crate::source::{Source, TokenRange, begins_item};
@@ -9,7 +9,7 @@ use rule_lexer::{LexError, TokenKind, lex};
 use rule_parser::{ParseError, parse};
 use std::alloc::{AllocError, Global};
 
-/// The place behind an item's last token.
+/// The place after an item's last token.
 fn end_of(source: &Source<'_>, item: TokenRange) -> usize {
     match source.token(item.to.saturating_sub(1)) {
         Some(token) => token.at.saturating_add(token.text.len()),
@@ -25,7 +25,7 @@ fn begin_of(source: &Source<'_>, item: TokenRange) -> usize {
     }
 }
 
-/// Where what belongs to an item begins: with its first word, or behind the item before, where no first word begins it.
+/// The place from which tokens may belong to an item: its first word; without one, the last token of the item before it, or 0.
 fn reach_of(source: &Source<'_>, item: TokenRange) -> usize {
     match source.token(item.from) {
         Some(first) if begins_item(first.kind) => first.at,
@@ -36,7 +36,7 @@ fn reach_of(source: &Source<'_>, item: TokenRange) -> usize {
     }
 }
 
-/// Where it ends: before its `;`, or with the next one's first token.
+/// The place at which an item ends: before its `;`, or at the next item's first token.
 fn reach_end(source: &Source<'_>, item: TokenRange) -> usize {
     match source.token(item.to.saturating_sub(1)) {
         Some(token) if token.kind == TokenKind::Semicolon => token.at,
@@ -44,7 +44,7 @@ fn reach_end(source: &Source<'_>, item: TokenRange) -> usize {
     }
 }
 
-/// The errors that don't stand before this place.
+/// The errors from this place on.
 fn errors_from(errors: &[LexError], begin: usize) -> &[LexError] {
     let count = errors
         .iter()
@@ -57,7 +57,7 @@ fn errors_from(errors: &[LexError], begin: usize) -> &[LexError] {
     }
 }
 
-/// Whether the first of the errors, by place, that don't stand before an item stands in it.
+/// Whether the first of these errors is in the item. They are those from the item on, in the order of their places.
 fn has_bad_token(source: &Source<'_>, item: TokenRange, errors: &[LexError]) -> bool {
     let end = reach_end(source, item);
     match errors.first() {
@@ -66,7 +66,7 @@ fn has_bad_token(source: &Source<'_>, item: TokenRange, errors: &[LexError]) -> 
     }
 }
 
-/// The place of the first token behind an item, or the text's end.
+/// The place of the first token after an item, or the text's end.
 fn next_place(source: &Source<'_>, item: TokenRange) -> usize {
     match source.token(item.to) {
         Some(token) => token.at,
@@ -74,7 +74,8 @@ fn next_place(source: &Source<'_>, item: TokenRange) -> usize {
     }
 }
 
-/// The place in the whole text of an error at this place of an item: behind its last token it is the next one's, or the text's end.
+/// The place in the whole text of an error at this place of an item. After the item's last token it is that of the next token, or the
+/// text's end.
 fn place_in_text(source: &Source<'_>, item: TokenRange, size: usize, at: usize) -> usize {
     if at < size {
         begin_of(source, item).saturating_add(at)
@@ -83,7 +84,7 @@ fn place_in_text(source: &Source<'_>, item: TokenRange, size: usize, at: usize) 
     }
 }
 
-/// The error of an item of so many bytes, in the whole text.
+/// The error of an item of `size` bytes, with its place in the whole text.
 fn error_in_text(
     source: &Source<'_>,
     item: TokenRange,
@@ -121,30 +122,32 @@ fn grammar_error(
     }
 }
 
-/// The errors of grammar, and of each item whether it is whole.
+/// The errors of grammar, and which items are whole.
 #[derive(Drop)]
 pub struct Grammar {
+    /// The errors, in the order of their places.
     pub errors: Vec<ParseError>,
+    /// For each item whether it is whole: no bad token and no error of grammar.
     pub whole: Vec<bool>,
 }
 
-/// What is found of an item.
+/// The errors of an item, or of items that continue each other.
 #[derive(Clone, Copy)]
 struct ItemErrors {
-    /// Whether a bad token stands in it.
+    /// Whether it has a bad token.
     is_bad: bool,
     /// The error of its grammar.
     error: Option<ParseError>,
 }
 
-/// Nothing.
+/// No errors.
 const NOTHING: ItemErrors = ItemErrors {
     is_bad: false,
     error: None,
 };
 
 impl ItemErrors {
-    /// The same of items of which each may go on what the one before it began, so that their errors may follow from one another.
+    /// The errors of these items and the next, if the next may continue the one before it: their errors may follow from one another.
     fn with(self, next: ItemErrors) -> ItemErrors {
         ItemErrors {
             is_bad: self.is_bad || next.is_bad,
@@ -152,18 +155,18 @@ impl ItemErrors {
         }
     }
 
-    /// The error that is told of them: the first, and none beside bad tokens.
+    /// The error that is reported: the first, or `None` if there are bad tokens.
     fn first_error(self) -> Option<ParseError> {
         if self.is_bad { None } else { self.error }
     }
 
-    /// Whether nothing is.
+    /// Whether there is neither a bad token nor an error.
     fn is_whole(self) -> bool {
         !self.is_bad && self.error.is_none()
     }
 }
 
-/// What is found of an item by its grammar, if no bad token stands in it.
+/// The errors of an item; its grammar is read only if it has no bad token.
 fn read_item(
     alloc: Global,
     source: &Source<'_>,
@@ -180,7 +183,7 @@ fn read_item(
 }
 
 impl Grammar {
-    /// Adds the error that is told of some items.
+    /// Adds the error that is reported for some items.
     fn close(&mut self, items: ItemErrors) -> Result<(), AllocError> {
         if let Some(error) = items.first_error() {
             self.errors.push(error)?;
@@ -188,7 +191,7 @@ impl Grammar {
         Ok(())
     }
 
-    /// Adds an item, and gives what is found of those that belong together with it, where those before it are given.
+    /// Adds an item. Returns the errors of the items that belong together with it, from those before it.
     fn add(
         &mut self,
         before: ItemErrors,
@@ -204,7 +207,7 @@ impl Grammar {
     }
 }
 
-/// What the grammar says of each item. The errors of tokens stand by place.
+/// The errors of grammar of all items. The errors of tokens are in the order of their places.
 pub fn read_items(
     alloc: Global,
     source: &Source<'_>,
@@ -230,8 +233,8 @@ pub fn read_items(
     Ok(grammar)
 }
 
-/// Whether an item may go on what the one before it began: nothing that was meant to begin an item begins this one, or the one before
-/// has no `;`, and no bad token that may have been it.
+/// Whether an item may continue the one before it: its first token wasn't meant to begin an item, or the one before has neither a `;`
+/// nor a bad token that may have been one.
 fn goes_on(
     alloc: Global,
     source: &Source<'_>,

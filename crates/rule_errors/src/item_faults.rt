@@ -14,23 +14,23 @@ const SHORTEST_PACKET: i64 = 12;
 
 const LONGEST_PACKET: i64 = packet::LONGEST_PACKET as i64;
 
-/// The items of a text that are whole, by their numbers, and what is found of them.
+/// The items of a text, with which of them are whole.
 #[derive(Drop)]
 pub struct Checked<'s, 'a> {
     source: &'s Source<'a>,
     /// For each item whether it is whole.
     whole: &'s [bool],
-    /// Whether all packets, and all fields, that were meant to be declared are: no name was lost, and none has another's name.
+    /// Whether all packets, and all fields, are known: no declared name is lost, and no name is declared twice.
     knows_packets: bool,
     knows_fields: bool,
 }
 
-/// Whether the number isn't the least, the most or between them.
+/// Whether the number is less than `least` or greater than `most`.
 fn is_outside(value: i64, least: i64, most: i64) -> bool {
     value < least || most < value
 }
 
-/// The fault of a message id. Those of the host's own are telemetry, so there is one at most.
+/// Adds the fault of a message id, if it has one. The host's own message ids are telemetry, so it has at most one.
 fn check_mid(mid: Token<'_>, found: &mut Vec<CheckError>) -> Result<(), AllocError> {
     let value = value_of(mid);
     let least = i64::from(mids::FIRST_TELEMETRY);
@@ -44,7 +44,7 @@ fn check_mid(mid: Token<'_>, found: &mut Vec<CheckError>) -> Result<(), AllocErr
 }
 
 impl<'s, 'a> Checked<'s, 'a> {
-    /// Of a text, which of whose items are whole, and whether some stand in quoted texts that aren't right.
+    /// A text, which of its items are whole, and whether bad quoted texts may hide items.
     pub fn new(source: &'s Source<'a>, whole: &'s [bool], hides_items: bool) -> Checked<'s, 'a> {
         let mut checked = Checked {
             source,
@@ -82,8 +82,7 @@ impl<'s, 'a> Checked<'s, 'a> {
         false
     }
 
-    /// Whether an item that isn't whole, and that may declare a packet or a field, has no name before its `=`: what it declares isn't
-    /// known then.
+    /// Whether an item that isn't whole and may declare a packet or a field has no name before its `=`, so that its name is unknown.
     fn is_name_lost(&self) -> bool {
         for (number, part) in self.source.parts.iter().enumerate() {
             if self.is_whole_part(number) {
@@ -99,7 +98,7 @@ impl<'s, 'a> Checked<'s, 'a> {
         false
     }
 
-    /// Whether the name of a declaration is one that can be gone by: its item is whole, and it has no other.
+    /// Whether a declaration is reliable: its item is whole, and its name isn't declared twice.
     fn is_right(&self, name: Declaration<'a>) -> bool {
         self.is_whole(name)
             && !self
@@ -109,7 +108,7 @@ impl<'s, 'a> Checked<'s, 'a> {
                 .any(|other| other.text == name.text && other.at != name.at)
     }
 
-    /// Whether one of two declarations of a name is of this kind, so that it may have been meant to have another.
+    /// Whether a declaration of this kind has a name that is declared twice, so that another name may have been meant.
     fn is_name_taken(&self, kind: NameKind) -> bool {
         for name in &self.source.names {
             if let Some(first) = self.source.first_declared(name.text) {
@@ -121,7 +120,7 @@ impl<'s, 'a> Checked<'s, 'a> {
         false
     }
 
-    /// Whether the names that are declared as this are known.
+    /// Whether all names of this kind are known.
     fn knows(&self, kind: NameKind) -> bool {
         match kind {
             NameKind::Packet => self.knows_packets,
@@ -129,7 +128,7 @@ impl<'s, 'a> Checked<'s, 'a> {
         }
     }
 
-    /// The length of the packet that a field lies in, where that is right.
+    /// The length of this packet, if it is valid.
     fn right_length(&self, packet: Declaration<'a>) -> Option<i64> {
         let value = value_of(self.source.value_in(packet, TokenKind::Length)?);
         if is_outside(value, SHORTEST_PACKET, LONGEST_PACKET) {
@@ -167,7 +166,7 @@ impl<'s, 'a> Checked<'s, 'a> {
         Ok(())
     }
 
-    /// The fault of where a field lies.
+    /// The fault of a field's place.
     fn check_place(
         &self,
         number: usize,
@@ -196,7 +195,7 @@ impl<'s, 'a> Checked<'s, 'a> {
         Ok(())
     }
 
-    /// The fault of a mask, where one is written.
+    /// The fault of a mask, if there is one.
     fn check_mask(
         &self,
         token: Option<Token<'a>>,
@@ -232,8 +231,8 @@ impl<'s, 'a> Checked<'s, 'a> {
         self.check_behind(stale, RuleNumber::Stale, found)
     }
 
-    /// The fault of a name that nothing has, at its first use. It is not told where the declaration may be in an item that isn't whole, or
-    /// may have got another's name.
+    /// The fault of a name that isn't declared, at its first use. It isn't reported if the declaration may be in an item that isn't whole,
+    /// or may have another name by mistake.
     fn check_use(
         &self,
         token: Token<'a>,
@@ -252,7 +251,7 @@ impl<'s, 'a> Checked<'s, 'a> {
         Ok(())
     }
 
-    /// Whether no whole item before uses the name so.
+    /// Whether no earlier whole item uses the name as one of this kind.
     fn is_first_use(&self, token: Token<'a>, kind: NameKind) -> bool {
         for (number, part) in self.source.parts.iter().enumerate() {
             if self.is_whole_part(number) && self.uses_before(*part, token, kind) {
@@ -312,7 +311,7 @@ impl<'s, 'a> Checked<'s, 'a> {
         Ok(())
     }
 
-    /// The fault of the number so many tokens behind the first of this kind in an item, where there is one.
+    /// Adds the fault of the number in this token; nothing without a token.
     fn check_behind(
         &self,
         token: Option<Token<'a>>,

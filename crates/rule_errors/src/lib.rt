@@ -1,5 +1,5 @@
-//! What a rule author is told of a text that doesn't compile: the compiler's own refusal, with the place, what was found and what was
-//! wanted, and further faults that don't follow from it.
+//! The messages for a rule text that doesn't compile: the compiler's refusal, with the place, what was found and what was expected, and
+//! further faults that don't follow from it.
 #![tactic(auto)]
 
 mod bytes;

@@ -46,7 +46,7 @@ pub fn declared_mark(
     }
 }
 
-/// The bytes of a token, none where there is no token.
+/// The bytes of a token; empty for `None`.
 pub fn text_of<'a>(token: Option<Token<'a>>) -> &'a [u8] {
     match token {
         Some(token) => token.text,
@@ -54,7 +54,7 @@ pub fn text_of<'a>(token: Option<Token<'a>>) -> &'a [u8] {
     }
 }
 
-/// The number that a token is, 0 where it is none.
+/// The value of a number token; 0 for any other token.
 pub fn value_of(token: Token<'_>) -> i64 {
     match token.kind {
         TokenKind::Number(value) => value,

@@ -1,4 +1,4 @@
-//! What is said of names that are declared twice, or not at all.
+//! Messages for names that are declared twice, or not at all.
 
 ghost use Rattle.std.specs.Prelude.{◌≡◌, IfOk};
 ghost use Rattle.diagnostics.specs.Message.{IsAt};
@@ -21,7 +21,7 @@ pub fn declared_in<'a>(source: &Source<'a>, number: usize) -> Option<Declaration
         .copied()
 }
 
-/// Where a name is first declared, as what, where that is another kind than the second one's.
+/// The label of a name's first declaration, with its kind if the second one is of another kind.
 fn first_label(kind: Option<NameKind>, is_alike: bool) -> &'static str {
     if is_alike {
         return "first declared here";
@@ -43,7 +43,7 @@ fn twice_label(is_alike: bool) -> &'static str {
     }
 }
 
-/// A name that is declared twice.
+/// The message for a name that is declared twice.
 pub fn duplicate(
     alloc: Global,
     source: &Source<'_>,
@@ -86,7 +86,7 @@ fn other_kind(wanted: NameKind, kind: Option<NameKind>) -> &'static str {
     }
 }
 
-/// What has an unknown name as something else, or else has a name that may have been meant.
+/// A declaration of another kind with the unknown name, or else one with a similar name.
 fn near_name<'a>(
     alloc: Global,
     source: &Source<'a>,
@@ -102,7 +102,7 @@ fn near_name<'a>(
     }
 }
 
-/// What to do about an unknown name, by what is near.
+/// What to do about an unknown name, by the declaration that is near.
 fn advice(
     alloc: Global,
     near: Option<Declaration<'_>>,
@@ -126,7 +126,7 @@ pub fn names(source: &Source<'_>, number: usize, kind: NameKind) -> bool {
     }
 }
 
-/// Whether the token with this number is another use of the same name for the same.
+/// Whether the token with this number uses the same name for the same kind, in another place.
 fn is_other_use(
     source: &Source<'_>,
     number: usize,
@@ -140,7 +140,7 @@ fn is_other_use(
         && names(source, number, kind)
 }
 
-/// In how many other places the same name is used for the same.
+/// The number of other places that use the same name for the same kind.
 fn other_uses(source: &Source<'_>, token: Token<'_>, kind: NameKind) -> usize {
     let mut count = 0usize;
     for (number, other) in source.tokens.iter().enumerate() {
@@ -151,7 +151,7 @@ fn other_uses(source: &Source<'_>, token: Token<'_>, kind: NameKind) -> usize {
     count
 }
 
-/// The advice, with how often the name is used besides.
+/// The advice, with the number of other uses.
 fn with_uses(alloc: Global, advice: String, others: usize) -> Result<String, AllocError> {
     if others == 0 {
         return Ok(advice);
@@ -160,7 +160,7 @@ fn with_uses(alloc: Global, advice: String, others: usize) -> Result<String, All
     format!(in alloc; "{advice} (used here and in {more})")
 }
 
-/// What is wrong with a name that nothing of this kind has.
+/// What is wrong with a name that isn't declared as this kind.
 fn unknown_head(alloc: Global, wanted: NameKind, text: &[u8]) -> Result<String, AllocError> {
     let before = match wanted {
         NameKind::Packet => "no packet has the name ",
@@ -169,7 +169,7 @@ fn unknown_head(alloc: Global, wanted: NameKind, text: &[u8]) -> Result<String, 
     around(alloc, before, text, "")
 }
 
-/// What an item of this kind names: a field a packet, a rule fields.
+/// The kind of names that an item of this kind uses: packets in a field, fields in a rule.
 fn named_kind(kind: Option<NameKind>) -> NameKind {
     match kind {
         Some(NameKind::Field) => NameKind::Packet,
@@ -177,7 +177,7 @@ fn named_kind(kind: Option<NameKind>) -> NameKind {
     }
 }
 
-/// A name that nothing of its kind has.
+/// The message for a name that isn't declared as its kind.
 pub fn unknown(
     alloc: Global,
     source: &Source<'_>,

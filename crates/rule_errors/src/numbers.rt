@@ -1,4 +1,4 @@
-//! What is said of numbers that are compared, and of those of rules.
+//! Messages for numbers in comparisons and in rules.
 
 ghost use Rattle.std.specs.Prelude.{◌≡◌, IfOk};
 ghost use Rattle.diagnostics.specs.Message.{IsAt};
@@ -12,13 +12,13 @@ use lc_model::FieldType;
 use rule_lexer::{Token, TokenKind};
 use std::alloc::{AllocError, Global};
 
-/// The type's least and greatest number, as they are written.
+/// The least and the greatest number of the type, in words.
 fn range_label(alloc: Global, kind: FieldType) -> Result<String, AllocError> {
     let (least, most) = (Signed(kind.least()), Signed(kind.greatest()));
     format!(in alloc; "write {least} to {most}")
 }
 
-/// What to do about a number that its field never has.
+/// What to do about a number outside its field's type.
 fn compared_label(alloc: Global, typed: Option<Typed<'_>>) -> Result<String, AllocError> {
     match typed {
         Some(typed) => range_label(alloc, typed.kind),
@@ -26,7 +26,7 @@ fn compared_label(alloc: Global, typed: Option<Typed<'_>>) -> Result<String, All
     }
 }
 
-/// The first bytes, what stands between, and the other bytes, both in backticks.
+/// Two parts in backticks, with words between them.
 fn both(
     alloc: Global,
     before: &str,
@@ -39,7 +39,7 @@ fn both(
     Ok(text)
 }
 
-/// A mark under the type of the field of this name, where there is one.
+/// A mark under the type of the field of this name, if there is one.
 fn type_mark(
     alloc: Global,
     name: &[u8],
@@ -54,17 +54,17 @@ fn type_mark(
     }
 }
 
-/// The name of the field that is compared with the number that has this number among the tokens.
+/// The name of the field that is compared with the number in the token with this number.
 fn compared_name<'a>(source: &Source<'a>, number: usize) -> &'a [u8] {
     text_of(source.token(number.saturating_sub(2)))
 }
 
-/// The type of the field of this name, where there is one.
+/// The type of the field of this name, if there is one.
 fn named_type<'a>(source: &Source<'a>, name: &[u8]) -> Option<Typed<'a>> {
     type_of(source, source.find_declaration(NameKind::Field, name)?)
 }
 
-/// A number that its field never has.
+/// The message for a compared number outside its field's type.
 pub fn bad_compared(
     alloc: Global,
     source: &Source<'_>,
@@ -100,7 +100,7 @@ fn number_head(number: RuleNumber) -> &'static str {
     }
 }
 
-/// What to do about it.
+/// What to do about a number of an item.
 fn number_label(alloc: Global, number: RuleNumber) -> Result<String, AllocError> {
     let least = Grouped(u64::from(number.least()));
     let most = Grouped(u64::from(number.most()));
@@ -112,7 +112,7 @@ fn number_label(alloc: Global, number: RuleNumber) -> Result<String, AllocError>
     format!(in alloc; "write {least} to {most}{never}")
 }
 
-/// The kind of the token so many before the one with this number.
+/// The kind of the token that is `back` tokens before the one with this number.
 fn kind_before(source: &Source<'_>, number: usize, back: usize) -> Option<TokenKind> {
     match source.token(number.checked_sub(back)?) {
         Some(token) => Some(token.kind),
@@ -138,7 +138,7 @@ fn rule_number(source: &Source<'_>, number: usize) -> RuleNumber {
     }
 }
 
-/// A number that is out of its range.
+/// The message for a number that is out of its range.
 pub fn bad_number(
     alloc: Global,
     source: &Source<'_>,

@@ -1,4 +1,4 @@
-//! What is said of the numbers of packets.
+//! Messages for message ids and lengths of packets.
 
 ghost use Rattle.std.specs.Prelude.{◌≡◌, IfOk};
 ghost use Rattle.diagnostics.specs.Message.{IsAt};
@@ -23,7 +23,7 @@ fn telemetry_label(value: i64) -> &'static str {
     }
 }
 
-/// A message id that isn't one of telemetry.
+/// The message for a message id that isn't one of telemetry.
 pub fn no_telemetry(alloc: Global, token: Token<'_>) -> Result<Message, AllocError>
     ensures { IfOk result (IsAt 23 token.entry.at) }
 {
@@ -46,7 +46,7 @@ fn reserved_label(value: i64) -> &'static str {
     }
 }
 
-/// A message id of the host's own.
+/// The message for a message id that the host itself uses.
 pub fn reserved_mid(alloc: Global, token: Token<'_>) -> Result<Message, AllocError>
     ensures { IfOk result (IsAt 24 token.entry.at) }
 {
@@ -55,7 +55,7 @@ pub fn reserved_mid(alloc: Global, token: Token<'_>) -> Result<Message, AllocErr
     Ok(Message::at(alloc, 24, head, mark(token, label)))
 }
 
-/// A length that is out of its range.
+/// The message for a length that is out of its range.
 pub fn bad_length(alloc: Global, token: Token<'_>) -> Result<Message, AllocError>
     ensures { IfOk result (IsAt 29 token.entry.at) }
 {

@@ -1,4 +1,4 @@
-//! Where a text that can be read has more than the tables take: its rules by number, and its first comparison too many.
+//! The places at which a text exceeds the limits of the tables: its rules by number, and its first comparison too many.
 
 ghost use Rattle.std.specs.Prelude.{◌≡◌, ◌+◌, ◌++◌, ◌&&◌, ◌==◌, IfOk, OnOk, length, option_map};
 ghost use Rattle.lc_model.specs.Codes.{table_entries};
@@ -32,7 +32,7 @@ fn rule_among<'a>(items: &[Item<'a>], number: usize) -> Option<Name<'a>>
     None
 }
 
-/// The name of a text's rule with this number, counted from 0, which the text has.
+/// The name of a text's rule with this number, counted from 0. The text has to have that rule.
 pub fn rule_name<'a>(text: &RuleText<'a>, number: usize) -> Result<Name<'a>, AllocError>
     requires { IsRuleText text.now }
     ensures { IfOk result (λ name. IsRule text.now.bytes.now number name.at) }
@@ -86,7 +86,7 @@ fn add_mentions(condition: &Cond, found: &mut Vec<Term>) -> Result<(), AllocErro
     }
 }
 
-/// The watchpoints that rules mention, as often as they do.
+/// The watchpoints that rules mention, once for each mention.
 fn mentions_of(alloc: Global, rules: &[Rule]) -> Result<Vec<Term>, AllocError>
     ensures { IfOk result (λ found. found.items ≡ all_mentions (rules_of rules.now)) }
 {
@@ -97,7 +97,7 @@ fn mentions_of(alloc: Global, rules: &[Rule]) -> Result<Vec<Term>, AllocError>
     Ok(found)
 }
 
-/// Adds a watchpoint to different ones, and whether it is the first too many for a table.
+/// Adds a watchpoint to a set, and returns whether it is the first too many for a table.
 fn is_beyond(different: &mut IndexSet<Term>, term: Term) -> Result<bool, AllocError>
     ensures added { OnOk result (different.new.keys ≡ added different.old.keys term) }
     ensures beyond { IfOk result (λ is. is ≡ (length different.old.keys == table_entries
@@ -108,16 +108,16 @@ fn is_beyond(different: &mut IndexSet<Term>, term: Term) -> Result<bool, AllocEr
     Ok(before == TABLE_ENTRIES && different.len() == TABLE_ENTRIES + 1)
 }
 
-/// Mentions of watchpoints of which more are different than a table has entries.
+/// Counts of the watchpoints in mentions that need more entries than a table has.
 #[derive(Clone, Copy)]
 struct Different {
-    /// How many are different.
+    /// The number of different watchpoints.
     count: usize,
     /// The number of the first mention that is too many.
     beyond: usize,
 }
 
-/// How many of these watchpoints are different, and which one is the first too many.
+/// The number of different watchpoints, and the first mention that is too many.
 fn count_different(alloc: Global, mentions: &[Term]) -> Result<Different, AllocError>
     ensures count { IfOk result (λ found. found.count ≡ length (distinct mentions.now)) }
     ensures beyond { IfOk result (λ found. IsBeyond mentions.now found.beyond) }
@@ -138,16 +138,16 @@ fn count_different(alloc: Global, mentions: &[Term]) -> Result<Different, AllocE
     }
 }
 
-/// What a text has of comparisons of which more are different than a table has entries.
+/// The comparisons of a text that needs more watchpoints than a table has entries.
 #[derive(Clone, Copy)]
 pub struct Excess {
-    /// How many are different.
+    /// The number of different comparisons.
     pub count: usize,
-    /// The place of the first that is too many.
+    /// The place of the first comparison too many, in bytes from the text's first.
     pub at: usize,
 }
 
-/// The comparisons of a text that mentions too many watchpoints.
+/// Counts the comparisons of a text that needs too many watchpoints. The only error is a lack of memory.
 pub fn comparisons(alloc: Global, text: &RuleText<'_>) -> Result<Excess, AllocError>
     requires { IsRuleText text.now }
     ensures { IfOk result (λ found. IsComparisonBeyond text.now.bytes.now found.at) }

@@ -1,41 +1,53 @@
-//! A text's tokens, in items, with the names that these declare.
+//! A text's tokens, grouped into items, with the names that the items declare.
 
 ghost use Rattle.std.specs.Prelude.{◌≡◌, IfOk};
 
 use rule_lexer::{Token, TokenKind};
 use std::alloc::{AllocError, Global};
 
-/// What declares a name.
+/// The kind of a declared name.
 #[derive(Clone, Copy, PartialEq, Eq)]
 pub enum NameKind {
+    /// A packet.
     Packet,
+    /// A field.
     Field,
+    /// A rule.
     Rule,
 }
 
-/// Tokens of one item, by their numbers: from the first to the one behind the last.
+/// The tokens of one item, by their numbers.
 #[derive(Clone, Copy)]
 pub struct TokenRange {
+    /// The number of the first token.
     pub from: usize,
+    /// The number after that of the last token.
     pub to: usize,
 }
 
-/// A name that an item declares. Of an item that isn't whole it isn't known what it is.
+/// A name that an item declares.
 #[derive(Clone, Copy)]
 pub struct Declaration<'a> {
+    /// Its kind; `None` if the item's first word isn't known.
     pub kind: Option<NameKind>,
+    /// The place of the name, in bytes from the text's first.
     pub at: usize,
+    /// The name.
     pub text: &'a [u8],
-    /// Which item declares it.
+    /// The number of the item that declares it.
     pub part: usize,
 }
 
 /// A text with its tokens.
 #[derive(Drop)]
 pub struct Source<'a> {
+    /// The text's bytes.
     pub text: &'a [u8],
+    /// The tokens, in order.
     pub tokens: Vec<Token<'a>>,
+    /// The items, in order.
     pub parts: Vec<TokenRange>,
+    /// The declared names, in order.
     pub names: Vec<Declaration<'a>>,
 }
 
@@ -44,7 +56,7 @@ pub fn begins_item(kind: TokenKind) -> bool {
     matches!(kind, TokenKind::Packet | TokenKind::Field | TokenKind::Rule)
 }
 
-/// What an item that begins so declares.
+/// The kind of name that an item with this first token declares.
 fn kind_of(kind: TokenKind) -> Option<NameKind> {
     match kind {
         TokenKind::Packet => Some(NameKind::Packet),
@@ -80,7 +92,7 @@ fn parts_of(alloc: Global, tokens: &[Token<'_>]) -> Result<Vec<TokenRange>, Allo
     Ok(parts)
 }
 
-/// The names that items declare: the second token of each, where it is a name.
+/// The names that items declare: the second token of each, if it is a name.
 fn names_of<'a>(
     alloc: Global,
     tokens: &[Token<'a>],
@@ -107,7 +119,7 @@ fn names_of<'a>(
 }
 
 impl<'a> Source<'a> {
-    /// Of a text that has these tokens.
+    /// A text with these tokens. The only error is a lack of memory.
     pub fn new(
         alloc: Global,
         text: &'a [u8],
@@ -135,7 +147,7 @@ impl<'a> Source<'a> {
         self.token(number.checked_sub(1)?)
     }
 
-    /// The number of the token at this place of the text, or how many there are.
+    /// The number of the token at this place of the text, or the number of tokens if there is none.
     pub fn number_at(&self, at: usize) -> usize {
         self.tokens
             .iter()
@@ -163,12 +175,12 @@ impl<'a> Source<'a> {
         &tokens[from..to]
     }
 
-    /// What an item declares.
+    /// The kind of name that an item declares.
     pub fn kind_of(&self, part: TokenRange) -> Option<NameKind> {
         kind_of(self.token(part.from)?.kind)
     }
 
-    /// The first that declares this name as this.
+    /// The first declaration of this name as this kind.
     pub fn find_declaration(&self, kind: NameKind, text: &[u8]) -> Option<Declaration<'a>> {
         self.names
             .iter()
@@ -176,12 +188,12 @@ impl<'a> Source<'a> {
             .copied()
     }
 
-    /// The first that declares this name.
+    /// The first declaration of this name.
     pub fn first_declared(&self, text: &[u8]) -> Option<Declaration<'a>> {
         self.names.iter().find(|name| name.text == text).copied()
     }
 
-    /// The token so many behind the first of this kind in an item.
+    /// The token that is `count` tokens after the first of this kind in an item.
     pub fn behind_first(
         &self,
         part: TokenRange,
@@ -198,12 +210,12 @@ impl<'a> Source<'a> {
         self.behind_first(part, kind, 0)
     }
 
-    /// The number behind the first word of this kind in an item.
+    /// The token after the first of this kind in an item.
     pub fn first_number(&self, part: TokenRange, kind: TokenKind) -> Option<Token<'a>> {
         self.behind_first(part, kind, 1)
     }
 
-    /// The token behind the first of this kind in the item that declares a name.
+    /// The token after the first of this kind in the item that declares a name.
     pub fn value_in(&self, name: Declaration<'a>, kind: TokenKind) -> Option<Token<'a>> {
         self.behind_first(*self.parts.get(name.part)?, kind, 1)
     }

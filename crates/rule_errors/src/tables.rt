@@ -1,4 +1,4 @@
-//! What is said of rules that are too much for the tables.
+//! Messages for rules that exceed the limits of the tables.
 
 ghost use Rattle.std.specs.Prelude.{◌≡◌, IfOk};
 ghost use Rattle.rpn_compiler.specs.declared.error.CompileError.TheVariants.{EquationTooLong, TooManyRules, TooManyWatchpoints};
@@ -16,14 +16,16 @@ use rule_lexer::TokenKind;
 use rule_parser::Name;
 use std::alloc::{AllocError, Global};
 
-/// Comparisons and operators of a condition.
+/// The size of a condition.
 #[derive(Clone, Copy)]
 pub struct ConditionSize {
+    /// The number of its comparisons.
     pub comparisons: usize,
+    /// The number of its operators.
     pub operators: usize,
 }
 
-/// The comparisons and operators of an item.
+/// Counts the comparisons and operators of an item.
 pub fn words_of(source: &Source<'_>, part: TokenRange) -> ConditionSize {
     let mut words = ConditionSize {
         comparisons: 0,
@@ -40,7 +42,7 @@ pub fn words_of(source: &Source<'_>, part: TokenRange) -> ConditionSize {
     words
 }
 
-/// Whether there are too many of them for one rule.
+/// Whether a condition is too long for one rule.
 pub fn is_too_long(words: ConditionSize) -> bool {
     words.comparisons.saturating_add(words.operators) >= EQUATION_WORDS
 }
@@ -67,13 +69,13 @@ fn name_mark(name: Name<'_>, label: String) -> Mark
     }
 }
 
-/// What is wrong with a text that has so many of a thing.
+/// What is wrong with a text that has too many of a thing; `count` is their number.
 fn count_head(alloc: Global, count: usize, name: &str) -> Result<String, AllocError> {
     let count = Many(count, name);
     format!(in alloc; "the file has {count}, at most 176 are allowed")
 }
 
-/// Over 176 rules.
+/// The message for a text of over 176 rules.
 pub fn rules_message(alloc: Global, text: &RuleText<'_>) -> Result<Message, AllocError>
     requires { IsRuleText text.now }
     ensures { IfOk result (TellsOf text.now.bytes.now (refusal_of TooManyRules)) }
@@ -93,7 +95,7 @@ fn rule_part(alloc: Global, source: &Source<'_>, rule: usize) -> Result<TokenRan
     }
 }
 
-/// What is wrong with a rule whose condition has so many comparisons and operators.
+/// What is wrong with a rule whose condition has `count` comparisons and operators.
 fn length_head(alloc: Global, name: Name<'_>, count: usize) -> Result<String, AllocError> {
     let name = quote(alloc, name.text)?;
     format!(in alloc;
@@ -101,7 +103,7 @@ fn length_head(alloc: Global, name: Name<'_>, count: usize) -> Result<String, Al
     )
 }
 
-/// A rule of over 31 comparisons and operators.
+/// The message for a rule of over 31 comparisons and operators.
 pub fn length_message(
     alloc: Global,
     source: &Source<'_>,
@@ -121,14 +123,14 @@ pub fn length_message(
     Message::at(alloc, 42, head, name_mark(name, label)).with(other)
 }
 
-/// What a condition has, in words.
+/// The size of a condition, in words.
 fn words_label(alloc: Global, words: ConditionSize) -> Result<String, AllocError> {
     let comparisons = Many(words.comparisons, "comparison");
     let operators = Many(words.operators, "operator");
     format!(in alloc; "{comparisons} and {operators}")
 }
 
-/// The `when` of a rule, with what its condition has.
+/// A mark at the `when` of a rule, with the size of its condition.
 fn condition_mark(
     alloc: Global,
     source: &Source<'_>,
@@ -141,7 +143,7 @@ fn condition_mark(
     }
 }
 
-/// Over 176 different comparisons.
+/// The message for a text of over 176 different comparisons.
 pub fn comparisons_message(
     alloc: Global,
     source: &Source<'_>,

@@ -1,4 +1,4 @@
-//! What is said of tokens that are none, and of a text that is too long.
+//! Messages for invalid tokens, and for a text that is too long.
 
 ghost use Rattle.std.specs.Prelude.{◌≡◌, None, drop, if◌then◌else◌, IfOk};
 ghost use Rattle.rule_lexer.specs.declared.error.LexError.{LexError};
@@ -19,7 +19,7 @@ const LONGEST_STRING: usize = 31;
 
 const LARGEST_NUMBER: u64 = 0xFFFF_FFFF;
 
-/// Whether a token begins with what would else be one more of a run: `!=`, or a negative number.
+/// Whether a token begins here that ends a run of one character: `!=`, or a negative number.
 fn begins_token(rest: &[u8]) -> bool {
     match rest {
         [b'!', b'=', ..] => true,
@@ -28,7 +28,7 @@ fn begins_token(rest: &[u8]) -> bool {
     }
 }
 
-/// The bytes of the run of one character in front.
+/// The size in bytes of the run of one character in front.
 fn run_size(rest: &[u8]) -> usize {
     let (_, size) = character(rest);
     let one = front(rest, size);
@@ -43,7 +43,7 @@ fn run_size(rest: &[u8]) -> usize {
     run.min(rest.len())
 }
 
-/// Blanks that aren't ASCII, byte order marks, and other characters without width, from the first to the last of each row.
+/// Blanks that aren't ASCII, byte order marks, and other invisible characters: the first and the last of each range.
 const UNSEEN: &[(u32, u32)] = &[
     (0xA0, 0xA0),
     (0xAD, 0xAD),
@@ -56,7 +56,7 @@ const UNSEEN: &[(u32, u32)] = &[
     (0xFEFF, 0xFEFF),
 ];
 
-/// Single quotes, slanted quotes and angle quotes.
+/// Single quotes, slanted quotes and angle quotes: the first and the last of each range.
 const OTHER_QUOTES: &[(u32, u32)] = &[
     (0x27, 0x27),
     (0x60, 0x60),
@@ -67,7 +67,7 @@ const OTHER_QUOTES: &[(u32, u32)] = &[
     (0x2039, 0x203A),
 ];
 
-/// Whether one of the rows has the character.
+/// Whether one of the ranges has the character.
 fn is_among(character: char, rows: &[(u32, u32)]) -> bool {
     let code = character as u32;
     rows.iter().any(|row| row.0 <= code && code <= row.1)
@@ -130,18 +130,18 @@ fn bad_byte(alloc: Global, text: &[u8], at: usize) -> Result<Message, AllocError
     Ok(Message::at(alloc, 1, head, Mark { at, size, label }))
 }
 
-/// How many bytes the sign in front has.
+/// The size of the sign in front in bytes: 0 or 1.
 fn sign_size(rest: &[u8]) -> usize {
     usize::from(matches!(rest, [b'-', ..]))
 }
 
-/// The bytes of the number in front, right or wrong, with its sign.
+/// The size in bytes of the number in front, valid or not, with its sign.
 fn number_size(rest: &[u8]) -> usize {
     let sign = sign_size(rest);
     word_size(behind(rest, sign)).saturating_add(sign)
 }
 
-/// The decimal digits in front.
+/// The number of decimal digits in front.
 fn digit_count(text: &[u8]) -> usize {
     text.iter().take_while(|byte| byte.is_ascii_digit()).count()
 }
@@ -150,7 +150,7 @@ fn are_hexadecimal(text: &[u8]) -> bool {
     !text.is_empty() && text.iter().all(|byte| byte.is_ascii_hexdigit())
 }
 
-/// The digits in front where only letters stand behind them.
+/// The digits in front, if only letters follow them.
 fn without_unit(digits: &[u8]) -> Option<&[u8]> {
     let count = digit_count(digits);
     let unit = behind(digits, count);
@@ -160,7 +160,7 @@ fn without_unit(digits: &[u8]) -> Option<&[u8]> {
     Some(front(digits, count))
 }
 
-/// What stands behind `0X`, or before an `h`.
+/// The digits after `0X`, or before an `h`.
 fn inner_digits(digits: &[u8]) -> &[u8] {
     match digits {
         [b'0', b'X', inner @ ..] => inner,
@@ -169,7 +169,7 @@ fn inner_digits(digits: &[u8]) -> &[u8] {
     }
 }
 
-/// A number, as it may have been meant, of what is written without a sign.
+/// The number that was probably meant, without a sign.
 fn intended_number(alloc: Global, digits: &[u8]) -> Result<Vec<u8>, AllocError> {
     let inner = inner_digits(digits);
     if are_hexadecimal(inner) {
@@ -181,14 +181,14 @@ fn intended_number(alloc: Global, digits: &[u8]) -> Result<Vec<u8>, AllocError> 
     }
 }
 
-/// The digits behind `0x`.
+/// The digits with `0x` before them.
 fn hexadecimal(alloc: Global, digits: &[u8]) -> Result<Vec<u8>, AllocError> {
     let mut number = Vec::from_slice(alloc, b"0x")?;
     number.extend_from_slice(digits)?;
     Ok(number)
 }
 
-/// All bytes but each `_`.
+/// The bytes without each `_`.
 fn without_lines(alloc: Global, digits: &[u8]) -> Result<Vec<u8>, AllocError> {
     let mut number = Vec::new(alloc);
     for byte in digits {
@@ -208,7 +208,7 @@ fn is_number(alloc: Global, text: &[u8]) -> bool {
     }
 }
 
-/// The same with the sign that is written.
+/// The number that was probably meant, with the sign that is written.
 fn with_sign(alloc: Global, written: &[u8]) -> Result<Vec<u8>, AllocError> {
     let sign = sign_size(written);
     let mut whole = Vec::from_slice(alloc, front(written, sign))?;
@@ -217,7 +217,7 @@ fn with_sign(alloc: Global, written: &[u8]) -> Result<Vec<u8>, AllocError> {
     Ok(whole)
 }
 
-/// What to write in the place of a number that is none.
+/// What to write in the place of an invalid number.
 fn number_advice(alloc: Global, written: &[u8]) -> Result<String, AllocError> {
     if matches!(behind(written, sign_size(written)), b"0x") {
         return String::from_str(alloc, "write hexadecimal digits behind `0x`");
@@ -229,7 +229,7 @@ fn number_advice(alloc: Global, written: &[u8]) -> Result<String, AllocError> {
     String::from_str(alloc, "write digits, or hexadecimal digits behind `0x`")
 }
 
-/// What to do about a number that is none, or that is too large.
+/// What to do about an invalid number, or one that is too large.
 fn number_label(alloc: Global, written: &[u8], is_too_large: bool) -> Result<String, AllocError> {
     if !is_too_large {
         return number_advice(alloc, written);
@@ -270,7 +270,7 @@ fn long_name(alloc: Global, text: &[u8], at: usize) -> Result<Message, AllocErro
     Ok(Message::at(alloc, 3, head, Mark { at, size, label }))
 }
 
-/// The bytes up to the line's end, without the carriage return that may end it.
+/// The number of bytes up to the line's end, without a carriage return before it.
 pub fn line_rest(rest: &[u8]) -> usize {
     let size = rest.iter().take_while(|byte| **byte != b'\n').count();
     match front(rest, size) {
@@ -279,7 +279,7 @@ pub fn line_rest(rest: &[u8]) -> usize {
     }
 }
 
-/// The bytes between a quote and the next one on its line, or up to its line's end, and whether there is a next one.
+/// The number of bytes after a quote up to the next one on its line, or up to the line's end, and whether there is a next one.
 fn inside(rest: &[u8]) -> (usize, bool) {
     let size = rest
         .iter()
@@ -312,7 +312,7 @@ fn long_string(alloc: Global, text: &[u8], at: usize) -> Result<Message, AllocEr
     Ok(Message::at(alloc, 4, head, Mark { at, size, label }))
 }
 
-/// What is wrong with a character, of these bytes, that stands in a quoted text.
+/// What is wrong with a character of a quoted text; `found` has its bytes.
 fn forbidden_head(alloc: Global, first: char, found: &[u8]) -> Result<String, AllocError> {
     if first == '\t' {
         return String::from_str(alloc, "a tab may not stand in a quoted text");
@@ -333,7 +333,7 @@ fn forbidden_byte(alloc: Global, text: &[u8], at: usize) -> Result<Message, Allo
     Ok(Message::at(alloc, 4, head, Mark { at, size, label }))
 }
 
-/// Whether a carriage return stands here right before its line's end.
+/// Whether a carriage return is here, directly before the line's end.
 fn is_line_end(text: &[u8], at: usize) -> bool
     ensures { result ≡ ends_line (drop at text.now) }
 {
@@ -358,8 +358,7 @@ fn long_text(alloc: Global, text: &[u8]) -> Result<Message, AllocError>
     })
 }
 
-/// What is said of a quoted text that begins at a place and has a character at another that may not stand there. A carriage return at
-/// the line's end is none: that text isn't closed.
+/// The message for a quoted text with a forbidden character. A carriage return at the line's end isn't one: then the text isn't closed.
 fn forbidden_or_unclosed(
     alloc: Global,
     text: &[u8],
@@ -375,7 +374,7 @@ fn forbidden_or_unclosed(
     }
 }
 
-/// What is said of the fault of a token that begins at this place.
+/// The message for the fault of a token that begins at this place.
 fn describe_fault(
     alloc: Global,
     text: &[u8],
@@ -397,7 +396,7 @@ fn describe_fault(
     }
 }
 
-/// Where the token with this error begins.
+/// The place at which the token with this error begins, in bytes from the text's first.
 pub fn place(error: LexError) -> usize
     ensures { result ≡ place_of error }
 {
@@ -410,14 +409,14 @@ pub fn place(error: LexError) -> usize
     }
 }
 
-/// What is said of an error of tokens.
+/// The message for an error of tokens.
 pub fn token_message(alloc: Global, text: &[u8], error: LexError) -> Result<Message, AllocError>
     ensures { IfOk result (TellsOf text.now (refusal_of (Lex error))) }
 {
     describe_fault(alloc, text, error.reason(text), place(error))
 }
 
-/// The bytes that the bad token has, from its first one on. Of a quoted text these go to its closing quote, or to its line's end.
+/// The size of the bad token in bytes. A quoted text goes to its closing quote, or to its line's end.
 pub fn bad_size(text: &[u8], error: LexError) -> usize {
     let rest = behind(text, place(error));
     let size = match error {

@@ -6,15 +6,16 @@ use diagnostics::behind;
 use rule_lexer::{LexError, lex};
 use std::alloc::{AllocError, Global};
 
-/// A text in which blanks stand for each token that is none.
+/// A text with blanks in the place of each bad token.
 #[derive(Drop)]
 pub struct Mended {
+    /// The text with the blanks; it has the size of the original.
     pub text: Vec<u8>,
-    /// The errors of the tokens that were none, each with its place in the whole text.
+    /// The errors of the bad tokens, each with its place in the text.
     pub errors: Vec<LexError>,
 }
 
-/// The error with so many bytes more before it.
+/// The error with its place moved by `by` bytes.
 fn shift_error(error: LexError, by: usize) -> LexError {
     match error {
         LexError::BadByte { at } => LexError::BadByte {
@@ -33,7 +34,7 @@ fn shift_error(error: LexError, by: usize) -> LexError {
     }
 }
 
-/// Puts blanks in the place of so many bytes. Line feeds stay.
+/// Puts blanks in the place of `size` bytes from `at` on. Line feeds stay.
 pub fn blank(text: &mut [u8], at: usize, size: usize) {
     let to = at.saturating_add(size).min(text.len());
     let from = at.min(to);
@@ -54,24 +55,24 @@ fn are_on_one_line(text: &[u8], before: usize, at: usize) -> bool {
     !part(text, before, at.saturating_sub(before)).contains(&b'\n')
 }
 
-/// An error, as one before others.
+/// An error, with what matters to the errors after it.
 #[derive(Clone, Copy)]
 struct Before {
     error: LexError,
-    /// Whether it, or one before it on its line, is of a quoted text.
+    /// Whether it, or an earlier error on its line, is of a quoted text.
     has_text: bool,
-    /// Whether it may follow from one before it on its line.
+    /// Whether it may follow from an earlier error on its line.
     follows: bool,
 }
 
-/// Whether an error may follow from one before it on its line: it touches that one, or one of the two is of a quoted text, so that a
-/// quote that closes may have been read for one that opens. Bad tokens stand apart, so it can touch the last one alone.
+/// Whether an error may follow from an earlier one on its line: it touches that one, or one of the two is of a quoted text, so that a
+/// closing quote may have been read as an opening one. Bad tokens don't overlap, so it can only touch the last one.
 fn follows(text: &[u8], before: Before, error: LexError) -> bool {
     let end = place(before.error).saturating_add(bad_size(text, before.error));
     before.has_text || is_of_text(error) || end == place(error)
 }
 
-/// An error behind the last one before it.
+/// An error after the last one before it.
 fn next(text: &[u8], last: Option<Before>, error: LexError) -> Before {
     match last {
         Some(before) if are_on_one_line(text, place(before.error), place(error)) => Before {
@@ -87,8 +88,8 @@ fn next(text: &[u8], last: Option<Before>, error: LexError) -> Before {
     }
 }
 
-/// Those of a text's errors, by place, that don't follow from one before them. Each byte is looked at a few times, however many errors
-/// a line has.
+/// The errors of a text, in the order of their places, that don't follow from an earlier one. Each byte is read only a few times, however
+/// many errors a line has.
 pub fn own_errors(
     alloc: Global,
     text: &[u8],
@@ -106,7 +107,7 @@ pub fn own_errors(
     Ok(own)
 }
 
-/// Whether a word stands among the bytes.
+/// Whether the bytes contain a word.
 fn has_word(bytes: &[u8], word: &[u8]) -> bool {
     for at in 0..bytes.len() {
         if behind(bytes, at).starts_with(word) {
@@ -116,13 +117,13 @@ fn has_word(bytes: &[u8], word: &[u8]) -> bool {
     false
 }
 
-/// Whether an item that declares a name for others may begin in a bad quoted text.
+/// Whether a bad quoted text may hide the declaration of a packet or a field.
 pub fn hides_items(text: &[u8], error: LexError) -> bool {
     let hidden = part(text, place(error), bad_size(text, error));
     is_of_text(error) && (has_word(hidden, b"packet") || has_word(hidden, b"field"))
 }
 
-/// The first error behind so many bytes of a text, none where all that follows are tokens.
+/// The first error from byte `from` of a text on; `None` if the rest is valid tokens.
 fn next_error(alloc: Global, text: &[u8], from: usize) -> Result<Option<LexError>, AllocError> {
     match lex(alloc, behind(text, from)) {
         Ok(_) => Ok(None),

@@ -1,4 +1,4 @@
-//! What the grammar wants at a place, and what stands there, in an author's words.
+//! The words for what the grammar expects at a place, and for what is there.
 
 use crate::source::{NameKind, Source, TokenRange};
 use diagnostics::{around, printable};
@@ -7,7 +7,7 @@ use rule_lexer::{Token, TokenKind};
 use rule_parser::{Sign, What, Word};
 use std::alloc::{AllocError, Global};
 
-/// The types, as a list.
+/// The field types, as a list in words.
 pub const TYPES: &str =
     "a type is `u8`, `i8`, `u16be`, `u16le`, `i16be`, `i16le`, `u32be`, `u32le`, `i32be` or `i32le`";
 
@@ -18,7 +18,7 @@ const JOINING_WORDS: &[&[u8]] = &[b"or", b"xor", b"and"];
 
 const OPERAND_WORDS: &[&[u8]] = &[b"not"];
 
-/// What is wanted, in words, where the parser has others for it.
+/// The words for what is expected, if they differ from the parser's.
 fn own_words(what: What) -> Option<&'static str> {
     match what {
         What::Text => Some("a quoted text"),
@@ -29,7 +29,7 @@ fn own_words(what: What) -> Option<&'static str> {
     }
 }
 
-/// What is wanted, in words.
+/// The words for what is expected.
 pub fn describe_wanted(alloc: Global, what: What) -> Result<String, AllocError> {
     match own_words(what) {
         Some(words) => String::from_str(alloc, words),
@@ -58,7 +58,7 @@ pub fn is_reserved(kind: TokenKind) -> bool {
         )
 }
 
-/// What a token is, before what is written there.
+/// The word for the class of a token, which comes before its text.
 fn class_of(kind: TokenKind) -> &'static str {
     match kind {
         TokenKind::Name => "the name ",
@@ -68,13 +68,13 @@ fn class_of(kind: TokenKind) -> &'static str {
     }
 }
 
-/// A quoted text that stands there, in words.
+/// The words for a quoted text that is found.
 fn found_text(alloc: Global, text: &[u8]) -> Result<String, AllocError> {
     let text = printable(alloc, text)?;
     format!(in alloc; "the quoted text {text}")
 }
 
-/// What stands there, in words.
+/// The words for the token that is found, or for the text's end.
 pub fn describe_found(alloc: Global, token: Option<Token<'_>>) -> Result<String, AllocError> {
     match token {
         None => String::from_str(alloc, "the end of the file"),
@@ -83,7 +83,7 @@ pub fn describe_found(alloc: Global, token: Option<Token<'_>>) -> Result<String,
     }
 }
 
-/// The words that may stand before the `;` of a field, where it is wanted.
+/// The words that may come before the `;` of a field, if that is expected.
 fn before_end(source: &Source<'_>, part: TokenRange) -> &'static [&'static [u8]] {
     let has_stale = source.first_of(part, TokenKind::Stale).is_some();
     let has_mask = source.first_of(part, TokenKind::Mask).is_some();
@@ -96,7 +96,7 @@ fn before_end(source: &Source<'_>, part: TokenRange) -> &'static [&'static [u8]]
     }
 }
 
-/// The words that the grammar takes where this is wanted, those that may be left out among them.
+/// The words that the grammar accepts if this is expected, including optional ones.
 pub fn words_for(source: &Source<'_>, part: TokenRange, what: What) -> &'static [&'static [u8]] {
     match what {
         What::Item => ITEM_WORDS,
@@ -115,7 +115,7 @@ pub fn words_for(source: &Source<'_>, part: TokenRange, what: What) -> &'static 
     }
 }
 
-/// The word, and before `when` the one that may be left out.
+/// The word; for `when` also the optional word before it.
 fn words_of(word: Word) -> &'static [&'static [u8]] {
     match word {
         Word::Mid => &[b"mid"],

@@ -37,7 +37,7 @@ fn scan<'a>(alloc: Global, text: &'a [u8]) -> Result<Vec<Token<'a>>, LexError>
 
 /// Splits a rule text into its tokens, in order; each takes the longest text that fits, a slice of `text`. Blanks
 /// and comments (`#` to the end of its line) separate tokens. Errors: `TextTooLong` first, then the first bad
-/// token with its place, or `Memory` if the list finds no room. This project's own language (docs/RULES.md).
+/// token with its place, or `Memory` if there is none for the list. This project's own language (docs/RULES.md).
 pub fn lex<'a>(alloc: Global, text: &'a [u8]) -> Result<Vec<Token<'a>>, LexError>
     ensures splits { IfOk result (λ found. Splits text.now (tokens_of found.items)) }
     ensures kinds { IfOk result (λ found. All HasItsKind found.items) }

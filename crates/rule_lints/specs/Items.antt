@@ -78,6 +78,6 @@ of_item items (Packet p) = warn_if (not (is_packet_used items p.name.text)) lint
 of_item items (Field f) = warn_if (not (is_field_used items f.name.text)) lint.UnusedField f.name.at 0
 of_item items (Rule r) = of_rule items r
 
--- those of all items of a text of so many bytes, in its order; where there is no rule, that is told first, at its end
+-- the warnings of all items of a text, in its order; the warning that there is no rule comes first, at the text's end
 abbrev pub declared : List Item → ℕ → List Warning
 declared items end = warn_if (not (list_any is_rule items)) lint.NoRules end 0 ++ flat_map (of_item items) items

@@ -69,7 +69,7 @@ abbrev pub of_comparison : ℕ → Option ℕ → Option ComparisonJudgement →
 of_comparison number (Some place) (Some j) = warn_if (is_constant j.says) lint.ConstantComparison place number
 of_comparison number place j = []
 
--- those of the first so many comparisons
+-- the warnings of the first comparisons
 abbrev pub comparisons_below : ℕ → List ℕ → List ComparisonJudgement → ℕ → List Warning
 comparisons_below number ats js zero = []
 comparisons_below number ats js (suc n) =
@@ -84,7 +84,7 @@ abbrev pub of_found : ℕ → Option RuleItem → Option RuleJudgement → List 
 of_found number (Some r) (Some j) = of_judged number r j
 of_found number r j = []
 
--- those of the first so many rules
+-- the warnings of the first rules
 abbrev pub rules_below : List Item → List RuleJudgement → ℕ → List Warning
 rules_below items js zero = []
 rules_below items js (suc n) = rules_below items js n ++ of_found n (rule_at items n) (slice_get js n)
@@ -96,7 +96,7 @@ abbrev pub goes_both_ways : Option RuleJudgement → Bool
 goes_both_ways None = false
 goes_both_ways (Some j) = not (is_never j.fails) && not (is_never j.passes)
 
--- the rule of a pair that is told of, and the other one: the later one where both fail alike, and else the one that fails less often
+-- the rule at which a pair is reported, and the other one: the later one if both fail alike, else the one that fails less often
 abbrev pub told_first : Relation → Bool
 told_first relation.Same = false
 told_first relation.FirstFollows = false
@@ -113,7 +113,7 @@ lint_of_relation relation.Same = lint.FailsAlike
 lint_of_relation relation.FirstFollows = lint.FailsWherever
 lint_of_relation relation.SecondFollows = lint.FailsWherever
 
--- rules that always or never fail are told of already
+-- rules that always or never fail are reported already
 abbrev pub of_pair : List Item → List RuleJudgement → PairJudgement → List Warning
 of_pair items js p =
     if goes_both_ways (slice_get js p.first) && goes_both_ways (slice_get js p.second)
@@ -121,7 +121,7 @@ of_pair items js p =
 
 -- ---- comparisons that can be done without
 
--- no comparison of the rule says the same of all numbers: those are told of already
+-- no comparison of the rule has the same outcome for all values; such comparisons are reported already
 abbrev pub all_vary : Option RuleJudgement → Bool
 all_vary None = false
 all_vary (Some j) = list_all (λ (c : ComparisonJudgement). not (is_constant c.says)) j.comparisons.items

@@ -28,7 +28,7 @@ opening = codes "# quiet:"
 abbrev pub most_names : ℕ
 most_names = 16
 
--- behind the blanks in front of a line
+-- a line without the blanks in front
 abbrev pub unindented : List ℕ → List ℕ
 unindented line = drop (prefix_len is_gap line) line
 
@@ -51,7 +51,7 @@ abbrev pub above : List ℕ → ℕ → List ℕ
 above text zero = []
 above text (suc end) = line_of text end
 
--- where the line of a place begins; what lies behind the text stands at its end
+-- the place at which the line of a place begins; a place after the text counts as its end
 abbrev pub start_of : List ℕ → ℕ → ℕ
 start_of text at = line_start text (min at (length text))
 
@@ -63,7 +63,7 @@ line_above text at = above text (start_of text at)
 abbrev pub is_quieted : List ℕ → Warning → Bool
 is_quieted text w = list_any (bytes_eq (name_of w.lint)) (quiet_names (line_above text w.at))
 
--- those that are told
+-- the warnings that are reported
 abbrev pub kept : List ℕ → List Warning → List Warning
 kept text found = filter (λ w. not (is_quieted text w)) found
 
@@ -76,7 +76,7 @@ placed_at text w = record { lint = w.lint; line = start_of text w.at }
 abbrev pub placed : List ℕ → List Warning → List Placed
 placed text found = map (placed_at text) found
 
--- some warning of this name stands in the line that begins here
+-- the line that begins here has a warning of this name
 abbrev pub is_met : List Placed → ℕ → List ℕ → Bool
 is_met all line name = list_any (λ (p : Placed). bytes_eq (name_of p.lint) name && p.line == line) all
 

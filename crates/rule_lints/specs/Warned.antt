@@ -1,4 +1,4 @@
--- What is told of a valid rule text. This project's own.
+-- The warnings about a valid rule text. This project's own.
 use Rattle.std.specs.Prelude.{◌≡◌, ℕ, not, List, [], ◌++◌, filter, length, map, Option, Some, None, option_map}
 use Rattle.std.specs.List.{AllByRecursion}
 use denote.Ref.{Bor}
@@ -20,7 +20,7 @@ use Rattle.rule_lints.specs.Items.{declared}
 use Rattle.rule_lints.specs.Judged.{judged}
 use Rattle.rule_lints.specs.Quiet.{kept, spare_quiets}
 
--- of so many rules those that the schedule never samples; none without a schedule
+-- the numbers of the rules that the schedule never samples; none without a schedule
 abbrev pub unsampled : Option (Bor Schedule) → ℕ → List ℕ
 unsampled None rules = []
 unsampled (Some plan) rules = filter (λ rule. not (is_sampled (requests_of plan.now) rule)) (numbers_below rules)
@@ -42,7 +42,7 @@ found text items all =
     declared items (length text)
     ++ judged items all.rules.items all.pairs.items all.spare.items all.unsampled.items
 
--- those that are told: the others, and the comments that keep nothing quiet
+-- the warnings that are reported: those not kept quiet, and those of comments that keep nothing quiet
 abbrev pub told : List ℕ → List Item → Judged → List Warning
 told text items all = kept text (found text items all) ++ spare_quiets text (found text items all)
 
@@ -53,7 +53,7 @@ named w = (Some (name_of w.lint), Some w.at)
 abbrev pub seen : Message → Option (List ℕ) × Option ℕ
 seen message = (option_map (λ (text : Bor (List ℕ)). text.now) message.warning, first_place message)
 
--- the messages are those of the warnings that are told, in their order
+-- the messages are those of the reported warnings, in their order
 pub record AreWarned (text : List ℕ) (plan : Option (Bor Schedule)) (messages : List Message) : Type 0 where
   pub items : List Item
   pub rules : List NamedRule

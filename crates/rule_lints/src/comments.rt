@@ -12,24 +12,24 @@ use crate::warning::Warning;
 use diagnostics::{behind, front, line_of, line_start};
 use std::alloc::{AllocError, Global};
 
-/// The most names that are taken of one comment.
+/// The most names that are read from one comment.
 const MOST_NAMES: usize = 16;
 
-/// A kind of warning, and where the line begins in which there is one.
+/// A kind of warning, and the place at which its line begins.
 #[derive(Clone, Copy)]
 pub(crate) struct Placed {
     pub lint: Lint,
     pub line: usize,
 }
 
-/// Space, tab, carriage return and comma part names.
+/// Whether a byte separates names: space, tab, carriage return or comma.
 fn is_gap(byte: u8) -> bool
     ensures { result ≡ is_gap byte }
 {
     byte == b' ' || byte == b'\t' || byte == b'\r' || byte == b','
 }
 
-/// How many gaps stand in front.
+/// The number of separators in front.
 fn gaps(line: &[u8]) -> usize
     ensures count { result ≡ prefix_len is_gap line.now }
     ensures inside { result ≤ length line.now }
@@ -37,7 +37,7 @@ fn gaps(line: &[u8]) -> usize
     line.iter().take_while(|byte| is_gap(**byte)).count()
 }
 
-/// How many other bytes stand in front.
+/// The number of bytes in front that aren't separators.
 fn name_length(line: &[u8]) -> usize
     ensures place { result ≡ position_or_len is_gap line.now }
     ensures inside { result ≤ length line.now }
@@ -73,14 +73,14 @@ fn first_names(alloc: Global, bytes: &[u8]) -> Result<Vec<&[u8]>, AllocError>
     Ok(names)
 }
 
-/// What stands behind the gaps in front of a line.
+/// The line without the separators in front.
 fn without_indent(line: &[u8]) -> &[u8]
     ensures { result.now ≡ unindented line.now }
 {
     line.split_at(gaps(line)).1
 }
 
-/// What stands behind the beginning of a quiet comment, if the line is one.
+/// The part of a line after `# quiet:`, if the line is such a comment.
 fn behind_opening(line: &[u8]) -> Option<&[u8]>
     ensures { option_map (λ rest. rest.now) result ≡ behind_opening line.now }
 {
@@ -93,7 +93,7 @@ fn behind_opening(line: &[u8]) -> Option<&[u8]>
     }
 }
 
-/// The names that a line keeps quiet in the next one.
+/// The names of warnings that a line keeps quiet in the next line.
 pub(crate) fn quiet_names(alloc: Global, line: &[u8]) -> Result<Vec<&[u8]>, AllocError>
     ensures { IfOk result (λ names. texts_of names.items ≡ quiet_names line.now) }
 {
@@ -103,7 +103,7 @@ pub(crate) fn quiet_names(alloc: Global, line: &[u8]) -> Result<Vec<&[u8]>, Allo
     }
 }
 
-/// Where the line of a place begins. What lies behind the text stands at its end.
+/// The place at which the line of a place begins. A place after the text counts as its end.
 fn start_of(text: &[u8], at: usize) -> usize
     ensures value { result ≡ start_of text.now at }
     ensures within { result ≤ length text.now }
@@ -142,7 +142,7 @@ fn is_quieted(alloc: Global, text: &[u8], warning: Warning) -> Result<bool, Allo
     Ok(is_among(warning.lint.name().as_bytes(), &names))
 }
 
-/// Those of the warnings that are told.
+/// The warnings that no comment keeps quiet.
 pub(crate) fn without_quiet(
     alloc: Global,
     text: &[u8],
@@ -173,14 +173,14 @@ fn place_all(alloc: Global, text: &[u8], found: &[Warning]) -> Result<Vec<Placed
     Ok(all)
 }
 
-/// Whether the warning is of this name, and in the line that begins here.
+/// Whether the warning has this name, and is in the line that begins here.
 fn meets(placed: Placed, line: usize, name: &[u8]) -> bool
     ensures { result ≡ (bytes_eq (name_of placed.lint) name.now && placed.line == line) }
 {
     placed.lint.name().as_bytes() == name && placed.line == line
 }
 
-/// Whether some warning of this name stands in the line that begins here.
+/// Whether the line that begins here has a warning of this name.
 fn is_met(all: &[Placed], line: usize, name: &[u8]) -> bool
     ensures { result ≡ is_met all.now line name.now }
 {
@@ -223,7 +223,7 @@ fn add_name(
     }
 }
 
-/// Adds those of all names of a comment.
+/// Adds the warnings of all names of a comment that keep nothing quiet.
 fn add_names(
     all: &[Placed],
     at: usize,
@@ -240,7 +240,7 @@ fn add_names(
     Ok(())
 }
 
-/// Adds those of a line that begins at this place.
+/// Adds the warnings of the line that begins at this place.
 fn add_line(
     alloc: Global,
     all: &[Placed],
@@ -263,7 +263,7 @@ fn begins_line(text: &[u8], at: usize) -> bool
     at == 0 || text[at - 1] == b'\n'
 }
 
-/// Adds those of the line that begins at this place, if one does.
+/// Adds the warnings of the line that begins at this place, if one does.
 fn add_place(
     alloc: Global,
     text: &[u8],
@@ -280,7 +280,7 @@ fn add_place(
     add_line(alloc, all, at, line_of(text, at), found)
 }
 
-/// Adds those of all lines.
+/// Adds the warnings of all lines.
 fn add_places(
     alloc: Global,
     text: &[u8],
@@ -296,7 +296,7 @@ fn add_places(
     Ok(())
 }
 
-/// Adds the warnings of comments that keep none of these quiet.
+/// Adds the warnings of comments that keep none of `all` quiet.
 pub(crate) fn spare_quiets(
     alloc: Global,
     text: &[u8],

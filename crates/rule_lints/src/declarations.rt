@@ -1,4 +1,4 @@
-//! The warnings of what is declared.
+//! The warnings about declarations.
 
 ghost use Rattle.std.specs.Prelude.{◌≡◌, ◌++◌, IfOk, OnOk, length};
 ghost use Rattle.std.specs.List.{list_any};
@@ -24,7 +24,7 @@ fn compares(condition: &Expression<'_>, name: &[u8]) -> bool
     }
 }
 
-/// Whether the item is a rule that does.
+/// Whether the item is a rule that compares the field of this name.
 fn uses_field(item: &Item<'_>, name: &[u8]) -> bool
     ensures { result ≡ uses_field name.now (item_of item.now) }
 {
@@ -75,7 +75,7 @@ fn is_debug(kind: EventKind) -> bool
     matches!(kind, EventKind::Debug)
 }
 
-/// Whether the item is a rule at a lesser place that requests the sequence of this one.
+/// Whether the item is an earlier rule that requests the same sequence as this rule.
 fn requests_before(rule: &RuleItem<'_>, item: &Item<'_>) -> bool
     ensures { result ≡ requests_before (rule_of rule.now) (item_of item.now) }
 {
@@ -86,7 +86,7 @@ fn requests_before(rule: &RuleItem<'_>, item: &Item<'_>) -> bool
     }
 }
 
-/// Whether a rule before it requests the same sequence.
+/// Whether an earlier rule requests the same sequence.
 fn is_requested_before(items: &[Item<'_>], rule: &RuleItem<'_>) -> bool
     ensures { result ≡ is_requested_before (items_of items.now) (rule_of rule.now) }
 {
@@ -117,7 +117,7 @@ fn has_rule(items: &[Item<'_>]) -> bool
     false
 }
 
-/// Adds this warning, where the test holds.
+/// Adds this warning if the test is true.
 pub(crate) fn warn_if(
     found: &mut Vec<Warning>,
     test: bool,
@@ -171,7 +171,7 @@ fn add_item(items: &[Item<'_>], item: &Item<'_>, found: &mut Vec<Warning>) -> Re
     }
 }
 
-/// The warnings of all items of a text of so many bytes, in its order.
+/// The warnings of all items of a text of `end` bytes, in its order.
 pub(crate) fn declaration_warnings(
     alloc: Global,
     items: &[Item<'_>],

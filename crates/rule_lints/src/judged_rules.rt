@@ -1,4 +1,4 @@
-//! What is judged of the rules of a text.
+//! The judgements of a text's rules.
 
 ghost use Rattle.std.specs.Prelude.{◌≡◌, IfOk};
 ghost use Rattle.rule_lints.specs.Warned.{IsJudged, unsampled};
@@ -10,7 +10,7 @@ use rule_analysis::{judge, judge_pairs, spare_comparisons};
 use schedules::Schedule;
 use std::alloc::{AllocError, Global};
 
-/// Of so many rules those that the schedule never samples.
+/// The numbers of the rules that the schedule never samples; none without a schedule.
 fn unsampled_numbers(
     alloc: Global,
     plan: Option<&Schedule>,
@@ -24,7 +24,7 @@ fn unsampled_numbers(
     }
 }
 
-/// What is judged of rules.
+/// Judges rules by themselves, in pairs and by a schedule. The only error is a lack of memory.
 pub(crate) fn judge_all(
     alloc: Global,
     rules: &Rules,

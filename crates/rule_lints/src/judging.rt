@@ -1,4 +1,4 @@
-//! The warnings of what is judged.
+//! The warnings about judgements.
 
 ghost use Rattle.std.specs.Prelude.{◌≡◌, ◌++◌, Some, OnOk, IfOk, flat_map, length, not, option_map, slice_get};
 ghost use Rattle.std.specs.List.{list_all};
@@ -17,7 +17,7 @@ use rule_analysis::{
 use rule_parser::{Expression, Item, RuleItem};
 use std::alloc::{AllocError, Global};
 
-/// What is judged of the rules of a text.
+/// The judgements of a text's rules.
 #[derive(Drop)]
 pub(crate) struct Judged {
     pub rules: Vec<RuleJudgement>,
@@ -43,7 +43,7 @@ pub(crate) fn rule_at<'f, 'a>(items: &'f [Item<'a>], number: usize) -> Option<&'
     None
 }
 
-/// The place of its name.
+/// The place of the name of the rule with this number.
 fn name_at(items: &[Item<'_>], number: usize) -> Option<usize>
     ensures { result ≡ name_at (items_of items.now) number }
 {
@@ -107,7 +107,7 @@ fn warn_at(
     Ok(())
 }
 
-/// What a rule is warned of by itself, if anything.
+/// The warning about a rule by itself, if there is one.
 fn lint_of(judged: &RuleJudgement) -> Option<Lint>
     ensures { result ≡ lint_of (line_of judged.now.fails judged.now.passes) }
 {
@@ -120,7 +120,7 @@ fn lint_of(judged: &RuleJudgement) -> Option<Lint>
     }
 }
 
-/// Whether a comparison says the same of all numbers.
+/// Whether a comparison has the same outcome for all values.
 fn is_constant(says: Constancy) -> bool
     ensures { result ≡ is_constant says }
 {
@@ -150,7 +150,7 @@ fn add_comparison(
     }
 }
 
-/// Adds those of all comparisons of a rule.
+/// Adds the warnings of all comparisons of a rule.
 fn add_comparisons(
     number: usize,
     places: &[usize],
@@ -216,7 +216,7 @@ fn add_rules(
     Ok(())
 }
 
-/// Whether the rule with this number both can fail and can pass, or may.
+/// Whether the rule with this number may both fail and pass, as far as is known.
 fn is_open(rules: &[RuleJudgement], number: usize) -> bool
     ensures { result ≡ goes_both_ways (slice_get rules.now number) }
 {
@@ -226,14 +226,14 @@ fn is_open(rules: &[RuleJudgement], number: usize) -> bool
     }
 }
 
-/// Whether a pair is told of at its first rule: where that one fails less often.
+/// Whether a pair is reported at its first rule: if only the second follows.
 fn told_first(relation: Relation) -> bool
     ensures { result ≡ told_first relation }
 {
     matches!(relation, Relation::SecondFollows)
 }
 
-/// The rule of a pair that is told of.
+/// The rule at which a pair is reported.
 fn told_of(pair: PairJudgement) -> usize
     ensures { result ≡ told_of pair }
 {
@@ -244,7 +244,7 @@ fn told_of(pair: PairJudgement) -> usize
     }
 }
 
-/// The other one.
+/// The other rule of a pair.
 fn other_of(pair: PairJudgement) -> usize
     ensures { result ≡ other_of pair }
 {
@@ -255,7 +255,7 @@ fn other_of(pair: PairJudgement) -> usize
     }
 }
 
-/// What a pair is warned of.
+/// The warning about a pair with this relation.
 fn lint_of_relation(relation: Relation) -> Lint
     ensures { result ≡ lint_of_relation relation }
 {
@@ -287,7 +287,7 @@ fn add_pair(
     )
 }
 
-/// Adds those of all pairs.
+/// Adds the warnings of all pairs.
 fn add_pairs(
     items: &[Item<'_>],
     rules: &[RuleJudgement],
@@ -303,7 +303,7 @@ fn add_pairs(
     Ok(())
 }
 
-/// Whether no comparison says the same of all numbers.
+/// Whether no comparison has the same outcome for all values.
 fn all_comparisons_vary(judged: &[ComparisonJudgement]) -> bool
     ensures { result ≡ list_all (λ c. not (is_constant c.says)) judged.now }
 {
@@ -315,7 +315,7 @@ fn all_comparisons_vary(judged: &[ComparisonJudgement]) -> bool
     true
 }
 
-/// Whether no comparison of the rule with this number does.
+/// Whether no comparison of the rule with this number has the same outcome for all values.
 fn all_vary(rules: &[RuleJudgement], number: usize) -> bool
     ensures { result ≡ all_vary (slice_get rules.now number) }
 {
@@ -343,7 +343,7 @@ fn add_spare(
     warn_at(found, place, Lint::SpareComparison, number)
 }
 
-/// Adds that of the one with this number.
+/// Adds the warning of the spare comparison with this number.
 fn add_spare_at(
     items: &[Item<'_>],
     rules: &[RuleJudgement],
@@ -360,7 +360,7 @@ fn add_spare_at(
     }
 }
 
-/// Adds those of all such comparisons.
+/// Adds the warnings of all spare comparisons.
 fn add_spares(
     items: &[Item<'_>],
     rules: &[RuleJudgement],
@@ -391,7 +391,7 @@ fn add_unsampled(
     Ok(())
 }
 
-/// Adds the warnings of all that is judged.
+/// Adds the warnings of all judgements.
 pub(crate) fn add_judged(
     alloc: Global,
     items: &[Item<'_>],

@@ -1,5 +1,4 @@
-//! What the author of a valid rule text is warned of, each warning with its place and its name, by which a comment keeps it
-//! quiet.
+//! The warnings about a valid rule text. Each has a place, and a name by which a comment keeps it quiet.
 #![tactic(auto)]
 
 mod comments;

@@ -1,9 +1,9 @@
-//! What warnings are called.
+//! The kinds of warnings and their names.
 
 ghost use Rattle.std.specs.Prelude.{◌≡◌};
 ghost use Rattle.rule_lints.specs.Names.{name_of};
 
-/// A kind of warning. Its name stays as it is: comments of rule texts go by it.
+/// A kind of warning. Its name never changes, since comments of rule texts use it.
 #[derive(Clone, Copy)]
 pub enum Lint {
     /// The text has no rule.
@@ -14,21 +14,21 @@ pub enum Lint {
     UnusedPacket,
     /// The rule's event is of type `debug`, which is off until a command turns it on.
     DebugEvent,
-    /// A rule before requests the same sequence.
+    /// An earlier rule requests the same sequence.
     SameSequence,
     /// The rule never fails.
     NeverFails,
-    /// It always fails.
+    /// The rule fails whenever its fields are known.
     AlwaysFails,
-    /// It never passes, and it isn't known whether it fails.
+    /// The rule never passes, and it isn't known whether it fails.
     NeverPasses,
-    /// It isn't known whether it fails, or whether it passes.
+    /// It isn't known whether the rule fails, or whether it passes.
     NotKnown,
-    /// The comparison says the same of all numbers.
+    /// The comparison has the same outcome for all values of its field.
     ConstantComparison,
-    /// The rule fails where another one does, and that one where it does.
+    /// The rule and another one always fail together, if the fields of both are known.
     FailsAlike,
-    /// Another rule fails wherever this one does.
+    /// Another rule fails whenever this one fails, if its own fields are known.
     FailsWherever,
     /// The rule can do without one of its comparisons.
     SpareComparison,
@@ -39,7 +39,7 @@ pub enum Lint {
 }
 
 impl Lint {
-    /// Its name.
+    /// The name of the warning, as comments have it.
     pub fn name(self) -> &'static str
         ensures { result.now ≡ name_of self }
     {

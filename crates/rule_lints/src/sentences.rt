@@ -19,7 +19,7 @@ use rule_lexer::{Token, TokenKind};
 use rule_parser::{Item, RuleItem};
 use std::alloc::{AllocError, Global};
 
-/// A text with what is judged of it, and the names of its fields.
+/// A text with its judgements and the names of its fields.
 #[derive(Drop)]
 pub(crate) struct Subject<'s, 'a> {
     text: &'s RuleText<'a>,
@@ -27,7 +27,7 @@ pub(crate) struct Subject<'s, 'a> {
     names: FieldNames<'a>,
 }
 
-/// What is said of a warning.
+/// The words of a warning: its head, its label, and a mark at another place.
 #[derive(Drop)]
 struct WarningWords {
     head: String,
@@ -57,7 +57,7 @@ fn of_name(
 }
 
 impl<'s, 'a> Subject<'s, 'a> {
-    /// Of a text, and what is judged of it.
+    /// A text with its judgements. The only error is a lack of memory.
     pub fn new(
         alloc: Global,
         text: &'s RuleText<'a>,
@@ -70,7 +70,7 @@ impl<'s, 'a> Subject<'s, 'a> {
         })
     }
 
-    /// The number of the token at this place, or how many there are.
+    /// The number of the token at this place, or the number of tokens if there is none.
     fn number_at(&self, at: usize) -> usize {
         self.text
             .tokens
@@ -84,7 +84,7 @@ impl<'s, 'a> Subject<'s, 'a> {
         self.text.tokens.get(number).copied()
     }
 
-    /// What stands at this place.
+    /// The text of the token at this place.
     fn text_at(&self, at: usize) -> &'a [u8] {
         match self.token(self.number_at(at)) {
             Some(token) => token.text,
@@ -154,7 +154,7 @@ fn debug_event(
     Ok(words)
 }
 
-/// A rule whose sequence one before it requests.
+/// A rule whose sequence an earlier rule requests.
 fn same_sequence(
     alloc: Global,
     subject: &Subject<'_, '_>,
@@ -174,7 +174,7 @@ fn same_sequence(
     Ok(words)
 }
 
-/// The rule whose sequence stands at this place.
+/// The rule whose sequence number is at this place.
 fn rule_asking<'f, 'a>(items: &'f [Item<'a>], at: usize) -> Option<&'f RuleItem<'a>> {
     for item in items {
         if let Item::Rule(rule) = item {
@@ -199,7 +199,7 @@ fn first_asking<'f, 'a>(items: &'f [Item<'a>], value: i64) -> Option<&'f RuleIte
 }
 
 impl<'s, 'a> Subject<'s, 'a> {
-    /// A mark under the event's type of the rule whose name stands at this place.
+    /// A mark under the event's type of the rule whose name is at this place.
     fn level_mark(&self, alloc: Global, at: usize) -> Result<Option<Mark>, AllocError> {
         let from = self.number_at(at);
         let level = self
@@ -230,7 +230,7 @@ impl<'s, 'a> Subject<'s, 'a> {
         }
     }
 
-    /// What the fields of a rule are in packets.
+    /// The values of a rule's fields in packets, in words.
     fn values(
         &self,
         alloc: Global,
@@ -262,7 +262,7 @@ fn shown_term(
     format!(in alloc; "`{shown}`{behind}")
 }
 
-/// What is known of a rule that never fails, or always.
+/// The label of a rule that never or always fails.
 fn rule_label(
     alloc: Global,
     subject: &Subject<'_, '_>,
@@ -280,7 +280,7 @@ fn rule_label(
     }
 }
 
-/// What stands before and behind the name of a rule that is judged.
+/// The words before and after the name of a judged rule.
 fn rule_head(judged: &RuleJudgement) -> (&'static str, &'static str) {
     match said_of(judged) {
         RuleFindings::NeverFails(_) => ("", " never fails"),
@@ -324,7 +324,7 @@ impl<'s, 'a> Subject<'s, 'a> {
         }
     }
 
-    /// The bytes of the comparison that begins at this place.
+    /// The size in bytes of the comparison that begins at this place.
     fn comparison_size(&self, at: usize) -> usize {
         match self.token(self.number_at(at).saturating_add(2)) {
             Some(value) => value.at.saturating_add(value.text.len()).saturating_sub(at),
@@ -332,7 +332,7 @@ impl<'s, 'a> Subject<'s, 'a> {
         }
     }
 
-    /// A mark under the first comparison of a rule that says this.
+    /// A mark under the first comparison of a rule with this term.
     fn term_mark(
         &self,
         alloc: Global,
@@ -362,7 +362,7 @@ impl<'s, 'a> Subject<'s, 'a> {
     }
 }
 
-/// A comparison that says the same of all numbers.
+/// A comparison with the same outcome for all values.
 fn constant_comparison(
     alloc: Global,
     subject: &Subject<'_, '_>,
@@ -380,7 +380,7 @@ fn constant_comparison(
     Ok(plain(head, String::from_str(alloc, label)?))
 }
 
-/// Two names, with what stands between and behind them.
+/// Two names, with the words between and after them.
 fn two_names(
     alloc: Global,
     first: &[u8],
@@ -394,7 +394,7 @@ fn two_names(
     Ok(text)
 }
 
-/// Two rules that fail alike.
+/// Two rules that always fail together.
 fn fails_alike(
     alloc: Global,
     subject: &Subject<'_, '_>,
@@ -413,7 +413,7 @@ fn fails_alike(
     Ok(words)
 }
 
-/// A rule wherever it fails another one does.
+/// A rule with another one that fails whenever it fails.
 fn fails_wherever(
     alloc: Global,
     subject: &Subject<'_, '_>,
@@ -433,7 +433,7 @@ fn fails_wherever(
     Ok(words)
 }
 
-/// What a rule does without.
+/// The head for a rule that can do without a comparison.
 fn spare_head(
     alloc: Global,
     subject: &Subject<'_, '_>,
@@ -505,7 +505,7 @@ fn unused_quiet(
     )
 }
 
-/// What is said of a warning of what is declared.
+/// The words of a warning about a declaration.
 fn declared_words(
     alloc: Global,
     subject: &Subject<'_, '_>,
@@ -523,7 +523,7 @@ fn declared_words(
     }
 }
 
-/// What is said of a warning.
+/// The words of a warning.
 fn words_of(
     alloc: Global,
     subject: &Subject<'_, '_>,
@@ -543,7 +543,7 @@ fn words_of(
     }
 }
 
-/// How many bytes are marked.
+/// The number of bytes that a warning marks.
 fn size_of(subject: &Subject<'_, '_>, warning: Warning) -> usize {
     match warning.lint {
         Lint::ConstantComparison => subject.comparison_size(warning.at),

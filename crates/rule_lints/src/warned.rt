@@ -19,7 +19,7 @@ use rule_parser::Item;
 use schedules::Schedule;
 use std::alloc::{AllocError, Global};
 
-/// All warnings, those that are kept quiet among them.
+/// All warnings, including those that are kept quiet.
 fn all_warnings(
     alloc: Global,
     text: &[u8],
@@ -33,7 +33,7 @@ fn all_warnings(
     Ok(found)
 }
 
-/// Those that are told, with the comments that keep nothing quiet.
+/// The warnings that are reported, with those of comments that keep nothing quiet.
 fn reported_warnings(
     alloc: Global,
     text: &[u8],
@@ -63,12 +63,11 @@ fn explain_all(
     Ok(messages)
 }
 
-/// What is to be looked at in a valid rule text: fields and packets that no rule uses, rules whose events are off or whose
-/// sequence another one has, what is judged of rules before any packet comes, and rules that a schedule never samples, if one is
-/// given. A comment `# quiet: NAME, ..` alone on the line above keeps the warnings of these names quiet; one that keeps nothing quiet
-/// is told of itself. Condition: the text compiles, as one does that `RuleText::read_valid` read.
+/// The warnings about a valid rule text: unused fields and packets, rules whose events are off or whose sequence another rule has, the
+/// judgements of rules before any packet comes, and with a schedule the rules that it never samples. A comment `# quiet: NAME, ..`
+/// alone on the line above keeps the warnings of these names quiet; one that keeps nothing quiet has a warning itself.
 ///
-/// Errors: there is no memory.
+/// Condition: the text compiles, as any text that `RuleText::read_valid` returns. The only error is a lack of memory.
 pub fn warnings(
     alloc: Global,
     text: &RuleText<'_>,

@@ -2,13 +2,14 @@
 
 use crate::lint::Lint;
 
-/// Which warning, and where.
+/// A warning and its place.
 #[derive(Clone, Copy)]
 pub struct Warning {
+    /// The kind of warning.
     pub lint: Lint,
-    /// Bytes of the text before the place.
+    /// The place, in bytes from the text's first.
     pub at: usize,
-    /// What it is about, where that is judged: the number of a rule, a pair of rules or a comparison that can be done without; of a
-    /// comment the number of its name. Else 0.
+    /// The index of what it is about: of the rule, pair of rules or spare comparison among the judgements, or of the name in a comment;
+    /// else 0.
     pub about: usize,
 }

@@ -16,13 +16,21 @@ use lc_model::{ApMode, EventKind};
 /// A rule's parts before its condition, as in `RuleItem`.
 #[derive(Clone, Copy)]
 pub struct RuleHead<'a> {
+    /// The rule's name.
     pub name: Name<'a>,
+    /// The state that the rule begins in.
     pub mode: ApMode,
+    /// The failures in a row that lead to the sequence request.
     pub fails: Number,
+    /// The number of the command sequence.
     pub sequence: Number,
+    /// The type of the event.
     pub event_kind: EventKind,
+    /// The event's id.
     pub event_id: Number,
+    /// The event's text: the bytes between the quotes.
     pub text: &'a [u8],
+    /// The most events of each kind; `None` if not written.
     pub report: Option<ReportItem>,
 }
 

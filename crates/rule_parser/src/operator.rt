@@ -12,8 +12,11 @@ use std::alloc::{AllocError, Global};
 /// An operator between operands, the loosest first.
 #[derive(Clone, Copy)]
 pub enum Operator {
+    /// `or`
     Or,
+    /// `xor`
     Xor,
+    /// `and`
     And,
 }
 

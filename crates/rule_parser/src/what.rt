@@ -36,23 +36,36 @@ pub enum What {
 /// A reserved word inside an item that has no value; each variant stands for the word in lower case.
 #[derive(Clone, Copy, Debug, PartialEq, Eq)]
 pub enum Word {
+    /// `mid`
     Mid,
+    /// `length`
     Length,
+    /// `at`
     At,
+    /// `mask`
     Mask,
+    /// `stale`
     Stale,
+    /// `fails`
     Fails,
+    /// `sequence`
     Sequence,
+    /// `event`
     Event,
+    /// `report`
     Report,
+    /// `when`
     When,
 }
 
 /// A sign without a value: `=`, `;` or `)`.
 #[derive(Clone, Copy, Debug, PartialEq, Eq)]
 pub enum Sign {
+    /// `=`
     Equals,
+    /// `;`
     Semicolon,
+    /// `)`
     Close,
 }
 

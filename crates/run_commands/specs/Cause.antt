@@ -1,4 +1,4 @@
--- Which fault each failure of a run is. This project's own.
+-- The fault for each failure of a run. This project's own.
 use Rattle.std.specs.Prelude.{◌≡◌, Bool, not, ◌&&◌, ◌||◌, if◌then◌else◌, nat_lt, length, ◌==◌, List, ℕ, Option, Some, None, Result, Ok, Err, unwrap_or, slice_get}
 use Rattle.std.specs.Borrow.{Bor}
 use Rattle.std_io.specs.declared.io.kind.ErrorKind.{ErrorKind}
@@ -35,12 +35,13 @@ use Rattle.tool_faults.specs.declared.fault.Fault.{Fault}
 use Rattle.tool_faults.specs.declared.fault.Fault.TheVariants as fault
 use Rattle.run_commands.specs.declared.comparing.ComparedFiles.{ComparedFiles}
 
--- of a file of this name, which failed by an error of this kind, if it was noted
+-- the fault for a file with this name that failed, with this kind of error if it is known
 abbrev pub fault_of_device : Bor (List ℕ) → Option ErrorKind → Fault
 fault_of_device name (Some kind) = fault.File name (why_of kind)
 fault_of_device name None = fault.File name why.Failed
 
--- of a page of a stream, which failed by errors of these kinds, if they were noted; a rule text that is refused is told by its file's name
+-- the fault for a page that wasn't made, with the kinds of errors of the stream and the page if they are known; a refused rule text is
+-- reported with its file's name
 abbrev pub fault_of_page : (name stream : Bor (List ℕ)) → (rules : List (Bor (List ℕ))) → ReportError → (read written : Option ErrorKind) → Fault
 fault_of_page name stream rules page.Memory read written = fault.Memory
 fault_of_page name stream rules page.Read read written = fault_of_device stream read
@@ -48,20 +49,20 @@ fault_of_page name stream rules page.Bound read written = fault.Stream stream ru
 fault_of_page name stream rules page.Write read written = fault_of_device name written
 fault_of_page name stream rules (page.Rules text error) read written = fault.Rules (unwrap_or (slice_get rules text) name) error
 
--- a stream in a file of this name that ends early is a fault, which says where
+-- the result of a run over the stream in a file with this name: a fault with the place if the stream ends early
 abbrev pub answer_of_ending : Bor (List ℕ) → Ending → Result (Unit {0}) Fault
 answer_of_ending name (ending.Whole records) = Ok tt
 answer_of_ending name (ending.NoRecord n) = Err (fault.Stream name (run.BadRecord n))
 answer_of_ending name (ending.Cut n) = Err (fault.Stream name (run.Truncated n))
 answer_of_ending name ending.Bound = Err (fault.Stream name run.ReadBound)
 
--- of a rule text of a comparison of files of these names that is refused
+-- the fault for a refused rule text of a comparison of files with these names
 abbrev pub fault_of_comparison_text : ComparedFiles → Which → CompileError → Fault
 fault_of_comparison_text files which.Old error = fault.Rules files.old error
 fault_of_comparison_text files which.New error = fault.Rules files.new error
 fault_of_comparison_text files (which.Further text) error = fault.Rules (unwrap_or (slice_get files.further.now text) files.new) error
 
--- of a comparison that isn't made, or not to its end, where the stream and the output failed by errors of these kinds, if they were noted
+-- the fault for a comparison that failed, with the kinds of errors of the stream and the output if they are known
 abbrev pub IsOfComparison : ComparedFiles → ComparisonError → (read written : Option ErrorKind) → Fault → Type 0
 IsOfComparison files (comparison.Rules which error) read written found = found ≡ fault_of_comparison_text files which error
 IsOfComparison files comparison.Memory read written found = found ≡ fault.Memory
@@ -69,17 +70,17 @@ IsOfComparison files comparison.Read read written found = found ≡ fault_of_dev
 IsOfComparison files comparison.Bound read written found = found ≡ fault.Stream files.stream run.ReadBound
 IsOfComparison files comparison.Write read written found = IsOfWrite written found
 
--- of a scenario whose words say no plain script
+-- the fault for a scenario with an invalid line in a rule text's words
 abbrev pub IsOfScenario : ScenarioError → Fault → Type 0
 IsOfScenario scenario.Memory found = found ≡ fault.Memory
 IsOfScenario (scenario.Line n reason) found = IsToldFault found
 
--- of one whose expectations can't be read
+-- the fault for a scenario with an invalid expectation
 abbrev pub IsOfReading : ReadError → Fault → Type 0
 IsOfReading reading.Memory found = found ≡ fault.Memory
 IsOfReading (reading.Line n reason) found = IsToldFault found
 
--- the line of a scenario that says no stream; none where there was no memory
+-- the faulty line of a refused scenario; none if memory ran out
 abbrev pub line_in : LineError → Option ℕ
 line_in (line.Words (scenario.Line n reason)) = Some n
 line_in (line.Words scenario.Memory) = None
@@ -88,13 +89,13 @@ line_in (line.Expectation reading.Memory) = None
 line_in (line.Script (script.Line n reason)) = Some n
 line_in (line.Script script.Memory) = None
 
--- of such a scenario
+-- the fault for a refused scenario
 abbrev pub IsOfLine : LineError → Fault → Type 0
 IsOfLine (line.Words error) found = IsOfScenario error found
 IsOfLine (line.Expectation error) found = IsOfReading error found
 IsOfLine (line.Script error) found = IsOfScript error found
 
--- of a scenario in a file of this name that isn't tried with rule texts in these files
+-- the fault for a failed trial of the scenario in a file with this name, with rule texts in these files
 abbrev pub IsOfTrial : (script : Bor (List ℕ)) → (rules : List (Bor (List ℕ))) → TrialError → Option ErrorKind → Fault → Type 0
 IsOfTrial script rules (trial.Scenario error) noted found = IsOfScenario error found
 IsOfTrial script rules (trial.Expectation error) noted found = IsOfReading error found
@@ -102,10 +103,12 @@ IsOfTrial script rules (trial.Script error) noted found = IsOfScript error found
 IsOfTrial script rules (trial.Rules text error) noted found = found ≡ fault.Rules (unwrap_or (slice_get rules text) script) error
 IsOfTrial script rules (trial.NoRule n) noted found = IsToldFault found
 IsOfTrial script rules (trial.Stopped n) noted found = IsToldFault found
+IsOfTrial script rules (trial.Unsettled n) noted found = IsToldFault found
 IsOfTrial script rules trial.Memory noted found = found ≡ fault.Memory
 IsOfTrial script rules trial.Write noted found = IsOfWrite noted found
 
--- a stream in a file of this name that ends early is a fault, which says where and why; else a difference is one
+-- the result of a comparison: a fault with the place and the reason if the stream in a file with this name ends early, else a fault if
+-- the runs differ
 abbrev pub answer_by_stop : Bor (List ℕ) → LineCounts → Option Stop → Result (Unit {0}) Fault
 answer_by_stop name counts (Some (stop.NoText n text)) = Err (fault.TextMissing name n text)
 answer_by_stop name counts (Some (stop.NoRecord n)) = Err (fault.Stream name (run.BadRecord n))
@@ -119,11 +122,11 @@ abbrev pub named_fault : Option (Bor (List ℕ)) → ℕ → CompileError → Fa
 named_fault (Some name) text error = fault.Rules name error
 named_fault None text error = fault.Run (run.Compile text error)
 
--- of a rule text that is refused, which is told by its file's name among these
+-- the fault for a refused rule text, with its file's name among these
 abbrev pub fault_of_text : List (Bor (List ℕ)) → ℕ → CompileError → Fault
 fault_of_text rules text error = named_fault (slice_get rules text) text error
 
--- of a run from standard input to standard output, which failed by errors of these kinds, if they were noted
+-- the result of a run from standard input to standard output, with the kinds of their errors if they are known
 abbrev pub IsAnswered : (rules : List (Bor (List ℕ))) → Result Report RunError → Option ErrorKind → Option ErrorKind → Result Report Fault → Type 0
 IsAnswered rules (Ok report) read written answer = answer ≡ Ok report
 IsAnswered rules (Err run.Memory) read written answer = answer ≡ Err fault.Memory
@@ -132,7 +135,7 @@ IsAnswered rules (Err run.Read) (Some kind) written (Err found) = IsOfInput kind
 IsAnswered rules (Err (run.Write sent)) read (Some kind) (Err found) = IsOfOutput kind found
 IsAnswered rules (Err error) read written answer = answer ≡ Err (fault.Run error)
 
--- how a trial ends that came to this: where an expectation isn't met, and, where it is strict, with a warning
+-- the result of a trial: a fault if an expectation isn't met, or, in a strict trial, if there is a warning
 abbrev pub ending_of : TrialOutcome → Bool → Result (Unit {0}) Fault
 ending_of outcome is_strict =
     if nat_lt 0 outcome.tried.unmet then Err fault.Unmet

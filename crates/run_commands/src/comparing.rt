@@ -4,7 +4,6 @@ ghost use Rattle.std.specs.Prelude.{◌≡◌};
 ghost use Rattle.run_commands.specs.Cause.{answer_of_comparison, fault_of_comparison_text, IsOfComparison};
 
 use crate::report::{failed_file, stream_of};
-use crate::rule_texts::rule_text_of;
 use flight_core::RunError;
 use lc_model::Reading;
 use program_io::Noting;
@@ -17,9 +16,12 @@ use std::alloc::Global;
 use std::cell::Cell;
 use std::fs::Files;
 use std::io::{ErrorKind, Read, Write};
-use tool_faults::{Fault, listing_result, read_text, schedule_in, texts_in, written_fault};
+use tool_faults::{
+    Fault, listing_result, read_text, rule_text_of, rule_texts_of, schedule_in, texts_in,
+    written_fault,
+};
 
-/// The files of a comparison, by their names.
+/// The names of a comparison's files.
 #[derive(Clone, Copy)]
 struct ComparedFiles<'a, 'f> {
     stream: &'a str,
@@ -28,7 +30,7 @@ struct ComparedFiles<'a, 'f> {
     further: &'f [&'a str],
 }
 
-/// A rule text in one of these files that is refused.
+/// The fault for a refused rule text in one of these files.
 fn text_fault<'a>(files: ComparedFiles<'a, '_>, which: Which, error: CompileError) -> Fault<'a>
     ensures { result ≡ fault_of_comparison_text files.entry which error }
 {
@@ -42,7 +44,7 @@ fn text_fault<'a>(files: ComparedFiles<'a, '_>, which: Which, error: CompileErro
     }
 }
 
-/// Why rule texts in these files aren't compared, where the stream and the output failed by these kinds of errors, if they did.
+/// The fault for a comparison that failed. `read` and `written` are the kinds of errors of the stream and the output, if there are any.
 fn comparison_fault<'a>(
     files: ComparedFiles<'a, '_>,
     error: ComparisonError,
@@ -60,8 +62,8 @@ fn comparison_fault<'a>(
     }
 }
 
-/// What a comparison over a stream in a file of this name comes to: a stream that ends early is a fault, which says where, and so
-/// is a difference.
+/// The result of a comparison over the stream in a file with this name: a fault with the place if the stream ends early, or a fault if
+/// the runs differ.
 fn answer_of<'a>(stream: &'a str, found: Compared) -> Result<(), Fault<'a>>
     ensures { result ≡ answer_of_comparison stream.entry found }
 {
@@ -79,7 +81,7 @@ fn answer_of<'a>(stream: &'a str, found: Compared) -> Result<(), Fault<'a>>
     }
 }
 
-/// Runs two rule texts over a stream, and lists the requests and events that came of one alone.
+/// Runs two rule texts over a stream, and lists the requests and events that only one of them leads to.
 fn list_differences<'a, I: Read + Drop, W: Write>(
     alloc: Global,
     plan: &Schedule,
@@ -100,19 +102,6 @@ fn list_differences<'a, I: Read + Drop, W: Write>(
     }
 }
 
-/// The valid rule texts in files of these names.
-fn further_texts<'a, 't>(
-    alloc: Global,
-    names: &[&'a str],
-    texts: &'t [Vec<u8>],
-) -> Result<Vec<RuleText<'t>>, Fault<'a>> {
-    let mut further = Vec::new(alloc);
-    for (name, text) in names.iter().zip(texts.iter()) {
-        further.push(rule_text_of(alloc, name, text.as_slice())?)?;
-    }
-    Ok(further)
-}
-
 /// The bytes of the rule texts of a comparison.
 #[derive(Clone, Copy)]
 struct ComparedBytes<'t> {
@@ -121,7 +110,7 @@ struct ComparedBytes<'t> {
     further: &'t [Vec<u8>],
 }
 
-/// Reads the new rule text, and compares the old one with it, where both runs get these further texts.
+/// Reads the new rule text, and compares the old one with it. Both runs get the further texts.
 fn compare_with<'a, 't, I: Read + Drop, W: Write>(
     alloc: Global,
     plan: &Schedule,
@@ -147,7 +136,7 @@ fn compare_with<'a, 't, I: Read + Drop, W: Write>(
     list_differences(alloc, plan, files, sides, input, out)
 }
 
-/// Reads the old rule text, and compares it with the new one, where both runs get these further texts.
+/// Reads the old rule text, and compares it with the new one. Both runs get the further texts.
 fn compare_texts<'a, 't, I: Read + Drop, W: Write>(
     alloc: Global,
     plan: &Schedule,
@@ -170,12 +159,13 @@ fn compare_bytes<'a, 't, I: Read + Drop, W: Write>(
     input: I,
     out: &mut W,
 ) -> Result<(), Fault<'a>> {
-    let further = further_texts(alloc, files.further, bytes.further)?;
+    let further = rule_texts_of(alloc, files.further, bytes.further)?;
     compare_texts(alloc, plan, files, bytes, further.as_slice(), input, out)
 }
 
-/// Runs each of two rule texts over a stream, and lists the requests and events that came of one alone. Both runs get the further
-/// texts. The stream is read in pieces.
+/// Runs each of two rule texts over a stream, and lists the requests and events that only one of them leads to. Both runs get the
+/// further texts. The stream is read in pieces. Errors: `Differs` if there is such a line; `Stream` or `TextMissing` if the stream ends
+/// early or brings a text that isn't given; and the faults of files and texts.
 pub fn compare<'a, R: Files + AllocGlobal, W: Write>(
     rt: &R,
     schedule: &'a str,

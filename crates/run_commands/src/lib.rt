@@ -1,12 +1,11 @@
-//! The commands that make runs: streams from scenarios and what is expected of them, two rule texts over one stream, the page of a
-//! run, and runs as they come.
+//! The commands about runs: `scenario` and `try` for scenarios and their expectations, `compare` for two rule texts over one stream,
+//! `report` for the page of a run, and `live` for a run while its stream arrives.
 #![tactic(auto)]
 
 mod comparing;
 mod line_error;
 mod live;
 mod report;
-mod rule_texts;
 mod scenario;
 mod trying;
 

@@ -1,4 +1,4 @@
-//! Why a scenario says no stream: of its faults the one on the first line.
+//! Why a scenario is refused: its fault on the first faulty line.
 
 ghost use Rattle.std.specs.Prelude.{◌≡◌, IfOk};
 ghost use Rattle.run_commands.specs.Cause.{IsOfLine, line_in};
@@ -14,14 +14,14 @@ use std::alloc::{AllocError, Global};
 use stream_script::{ScriptError, read_script};
 use tool_faults::{Fault, expectation_fault, scenario_fault, script_fault};
 
-/// Why a scenario says no stream, at a line of it.
+/// Why a scenario is refused, at one of its lines.
 #[derive(Clone, Copy)]
 pub enum LineError {
-    /// A line says no lines of a plain script.
+    /// A line in a rule text's words is invalid.
     Words(ScenarioError),
-    /// A line says no expectation.
+    /// An expectation is invalid.
     Expectation(ReadError),
-    /// A line says nothing of a stream.
+    /// A line of the plain script is invalid.
     Script(ScriptError),
 }
 
@@ -34,7 +34,7 @@ impl From<AllocError> for LineError {
 }
 
 impl LineError {
-    /// The line, from 1; none where there was no memory.
+    /// The number of the line, from 1; none if memory ran out.
     fn line(self) -> Option<usize>
         ensures { result ≡ line_in self }
     {
@@ -46,7 +46,7 @@ impl LineError {
         }
     }
 
-    /// Whether it is a repetition that doesn't end, as it is where the lines behind it are left out.
+    /// Whether the fault is a repetition without an end, which cutting off the lines after it can cause.
     fn is_unended(self) -> bool {
         matches!(
             self,
@@ -57,13 +57,14 @@ impl LineError {
         )
     }
 
-    /// Whether it is at a line before the one with this number, and would be there with the lines behind it, too.
+    /// Whether the fault is on a line before the one with this number, and isn't caused by cutting off later lines.
     fn is_before(self, number: usize) -> bool {
         !self.is_unended() && self.line().is_some_and(|line| line < number)
     }
 }
 
-/// The stream that a scenario says in these words. What it expects of a run says nothing of the stream.
+/// The stream of a scenario, with these declared names. Expectations are checked, and add nothing to the stream. Error: a fault of the
+/// scenario, not always on its first faulty line.
 pub fn read_scenario(
     alloc: Global,
     scenario: &[u8],
@@ -94,7 +95,7 @@ fn lines_before(scenario: &[u8], number: usize) -> &[u8] {
     scenario
 }
 
-/// Of the faults of a scenario in these words, one of which is this, the one on the first line.
+/// The fault on the first faulty line of a scenario with these declared names, which has this fault.
 fn first_error(
     alloc: Global,
     scenario: &[u8],
@@ -114,7 +115,7 @@ fn first_error(
     first
 }
 
-/// The fault of a scenario in a file of this name that says no stream for this reason, where rule texts declare these names.
+/// The fault for the scenario in a file with this name, refused with this error. The names are those that rule texts declare.
 fn fault_of(
     alloc: Global,
     name: &str,
@@ -139,7 +140,7 @@ fn fault_of(
     }
 }
 
-/// What a scenario's author is told, where the words of these rule texts may be used.
+/// The fault with the message about the first faulty line. The scenario may use the names of these rule texts.
 fn told(
     alloc: Global,
     name: &str,
@@ -155,7 +156,7 @@ fn told(
     Ok(fault_of(alloc, name, scenario, &names, first))
 }
 
-/// The fault of a scenario in a file of this name that says no stream in the words of these rule texts, for this reason or for another at
+/// The fault for the scenario in a file with this name, which is refused with the names of these rule texts: for this error, or for one on
 /// an earlier line.
 pub fn line_error_fault(
     alloc: Global,

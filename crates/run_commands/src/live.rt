@@ -13,7 +13,7 @@ use std::fs::Files;
 use std::io::{self, Eprint, ErrorKind, Read, Write};
 use tool_faults::{Fault, input_fault, output_fault, schedule_in, texts_in};
 
-/// A rule text that is refused, by its file's name among these.
+/// The fault for the refused rule text with this number, by its file's name among these.
 fn refused_text<'a>(rules: &[&'a str], text: usize, error: CompileError) -> Fault<'a>
     ensures { result ≡ fault_of_text rules.now text error }
 {
@@ -23,7 +23,7 @@ fn refused_text<'a>(rules: &[&'a str], text: usize, error: CompileError) -> Faul
     }
 }
 
-/// How a run of rule texts in these files ended, where its input and its output failed by these kinds of errors, if they did.
+/// The result of a run of the rule texts in these files. `read` and `written` are the kinds of errors of its input and output, if any.
 fn run_result<'a>(
     rules: &[&'a str],
     answer: Result<Report, RunError>,
@@ -42,7 +42,7 @@ fn run_result<'a>(
     }
 }
 
-/// Writes to a writer that keeps nothing back.
+/// A writer that flushes after each write.
 #[derive(Drop)]
 struct Prompt<'a, W> {
     writer: &'a mut W,
@@ -60,8 +60,9 @@ impl<W: Write> Write for Prompt<'_, W> {
     }
 }
 
-/// A host runs over a stream as it comes, and writes packets as they come: before it waits for more of the stream, all that its
-/// records so far led to is written and flushed. How much that was is said on standard error at the end of the stream.
+/// Runs a host over a stream while it arrives: before it waits for more of the stream, the packets of all records so far are
+/// written and flushed. At the end of the stream the numbers of records and bytes go to standard error.
+/// Errors: `Run` if the stream is cut or a record is bad; `Gone` if the output's reader closed it; and the faults of files and texts.
 pub fn run<'a, R: Files + Eprint + AllocGlobal, I: Read + Drop, W: Write>(
     rt: &R,
     schedule: &'a str,

@@ -15,25 +15,25 @@ use std::fs::{File, Files, OpenFile};
 use std::io::{BufWriter, Eprint, ErrorKind, Read, Write};
 use tool_faults::{Fault, check_apart, epoch_of, fault_at, read_whole_text, schedule_of, texts_in};
 
-/// In how many parts a stream is told of.
+/// Progress is reported once for each of this number of parts of the stream.
 const PARTS: u64 = 20;
 
-/// The bytes of a part of a stream whose length isn't known.
+/// The bytes between two reports of progress, if the stream's length isn't known.
 const PART: u64 = 16_777_216;
 
-/// Tells on standard error how far a report is, where a person looks at it.
+/// Reports the progress of a page on standard error, if `is_watched`.
 #[derive(Drop)]
 struct ProgressLine<'a, R> {
     rt: &'a R,
     is_watched: bool,
-    /// The bytes of the stream, where they are known.
+    /// The length of the stream in bytes, if it is known.
     of: Option<u64>,
-    /// Behind how many bytes it is told next.
+    /// The number of bytes at which progress is reported next.
     next: u64,
 }
 
 impl<R> ProgressLine<'_, R> {
-    /// The bytes of a part, behind which it is told again.
+    /// The number of bytes between two reports.
     fn part(&self) -> u64 {
         match self.of {
             Some(of) => of / PARTS,
@@ -55,8 +55,7 @@ impl<R: Eprint> Progress for ProgressLine<'_, R> {
     }
 }
 
-/// Why there is no page of this name of a stream and rule texts in these files, where the stream and the page failed by these kinds
-/// of errors, if they did.
+/// The fault for a page that wasn't made. `read` and `written` are the kinds of errors of the stream and the page, if there are any.
 fn page_fault<'a>(
     page: &'a str,
     stream: &'a str,
@@ -79,7 +78,7 @@ fn page_fault<'a>(
     }
 }
 
-/// A file that failed by this kind of error, if it was noted.
+/// The fault for a file that failed, with this kind of error if it is known.
 pub fn failed_file<'a>(name: &'a str, kind: Option<ErrorKind>) -> Fault<'a>
     ensures { result ≡ fault_of_device name.entry kind }
 {
@@ -89,7 +88,7 @@ pub fn failed_file<'a>(name: &'a str, kind: Option<ErrorKind>) -> Fault<'a>
     }
 }
 
-/// Writes the page, and all of it is with the device. Answers how the run ended.
+/// Writes and flushes the page. Returns how the run ended.
 fn write_to<R: Eprint, I: Read + Drop, F: Write + Drop>(
     alloc: Global,
     schedule: &Schedule,
@@ -110,7 +109,7 @@ fn write_to<R: Eprint, I: Read + Drop, F: Write + Drop>(
     Ok(ending)
 }
 
-/// What a run over a stream in a file of this name comes to: one that ends early is a fault.
+/// The result of a run over the stream in a file with this name: a fault with the place if the stream ends early.
 fn answer_of<'a>(stream: &'a str, ending: Ending) -> Result<(), Fault<'a>>
     ensures { result ≡ answer_of_ending stream.entry ending }
 {
@@ -122,7 +121,7 @@ fn answer_of<'a>(stream: &'a str, ending: Ending) -> Result<(), Fault<'a>>
     }
 }
 
-/// The instant of second 0 in UTC, where it is named.
+/// The instant of second 0 in UTC, as text, if the option names one.
 fn epoch_text<'a>(alloc: Global, word: Option<&'a str>) -> Result<Option<String>, Fault<'a>> {
     match epoch_of(word)? {
         Some(epoch) => Ok(Some(format!(in alloc; "{epoch}")?)),
@@ -130,7 +129,7 @@ fn epoch_text<'a>(alloc: Global, word: Option<&'a str>) -> Result<Option<String>
     }
 }
 
-/// The file of a stream, and how many bytes it has, where it is one whose length the system knows.
+/// Opens the file of a stream. Returns it with its length in bytes, if it is a regular file. Error: `File`.
 pub fn stream_of<'a, R: Files>(rt: &R, name: &'a str) -> Result<(R::File, Option<u64>), Fault<'a>> {
     let file = match File::open(rt, name) {
         Ok(file) => file,
@@ -143,7 +142,7 @@ pub fn stream_of<'a, R: Files>(rt: &R, name: &'a str) -> Result<(R::File, Option
     Ok((file, length))
 }
 
-/// The rule texts, each with the name of its file.
+/// Pairs each rule text with the name of its file.
 fn sources_of<'a, 't>(
     alloc: Global,
     rules: &[&'a str],
@@ -159,7 +158,7 @@ fn sources_of<'a, 't>(
     Ok(sources)
 }
 
-/// Writes the page beside its name, which it takes at the end. Where there is none the old page stays.
+/// Writes the page to a draft file, which replaces the old page at the end. If an error occurs, the old page stays.
 fn put_page<'a, R: Files + Eprint + AllocGlobal, I: Read + Drop>(
     told: &mut ProgressLine<'_, R>,
     plan: &Schedule,
@@ -187,8 +186,9 @@ fn put_page<'a, R: Files + Eprint + AllocGlobal, I: Read + Drop>(
     }
 }
 
-/// A run of these rule texts over a stream, as a page, which is written beside its name and takes it at the end. The stream is
-/// read in pieces. One that ends early has a page, and is a fault, which says where; one that can't be read leaves the old page.
+/// Runs rule texts over a stream and writes the page of the run, which replaces the old page at the end. The stream is read in
+/// pieces. Errors: `Stream` with the place for a stream that ends early, after the page is made; with any other fault the old page
+/// stays. Progress goes to standard error if `is_watched`.
 pub fn make_page<'a, R: Files + Eprint + AllocGlobal>(
     rt: &R,
     schedule: &'a str,

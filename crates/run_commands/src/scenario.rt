@@ -1,7 +1,6 @@
 //! `scenario [--rules RULES] SCRIPT STREAM`
 
 use crate::line_error::{line_error_fault, read_scenario};
-use crate::rule_texts::rule_text_of;
 use diagnostics::warnings_page_of;
 use program_io::{begin, discard, fault_of, keep};
 use rpn_compiler::RuleText;
@@ -10,9 +9,9 @@ use script_errors::script_warnings;
 use std::alloc::Global;
 use std::fs::Files;
 use std::io::{Eprint, Write};
-use tool_faults::{Fault, LONGEST_WHOLE, check_apart, fault_at, read, read_text};
+use tool_faults::{Fault, LONGEST_WHOLE, check_apart, fault_at, read, read_text, rule_text_of};
 
-/// The stream that a scenario in a file of this name says, in the words of these rule texts.
+/// The stream of the scenario in a file with this name, which may use the names of these rule texts.
 fn stream_of<'a>(
     alloc: Global,
     name: &'a str,
@@ -26,7 +25,7 @@ fn stream_of<'a>(
     }
 }
 
-/// The stream that a scenario in a file of this name says, in the words of the rule text in another one.
+/// The stream of the scenario in a file with this name, which may use the names of the rule text in the file `rules`.
 fn stream_by_rules<'a, R: Files + AllocGlobal>(
     rt: &R,
     name: &'a str,
@@ -38,7 +37,7 @@ fn stream_by_rules<'a, R: Files + AllocGlobal>(
     stream_of(rt.alloc(), name, scenario, &[text])
 }
 
-/// Says on standard error what is to be looked at in a script in a file of this name that says a stream.
+/// Writes the warnings about the script in a file with this name to standard error.
 fn warn<R: Eprint + AllocGlobal>(rt: &R, script: &str, text: &[u8]) -> Result<(), Fault<'static>> {
     let told = script_warnings(rt.alloc(), text)?;
     let page = warnings_page_of(rt.alloc(), script, text, told.as_slice())?;
@@ -46,7 +45,8 @@ fn warn<R: Eprint + AllocGlobal>(rt: &R, script: &str, text: &[u8]) -> Result<()
     Ok(())
 }
 
-/// The script's file is read, and the stream that it says is written beside its name, which it takes at the end.
+/// Reads a script and writes its stream to a draft file, which replaces the old stream at the end. Warnings go to standard error.
+/// Errors: `Lines` for a refused script, `Rules` for a refused rule text, `File`, `Memory`; the old stream then stays.
 pub fn make_stream<'a, R: Files + Eprint + AllocGlobal>(
     rt: &R,
     script: &'a str,

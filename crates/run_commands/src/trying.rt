@@ -18,13 +18,13 @@ use tool_faults::{
     written_fault,
 };
 
-/// The number of a line whose record stops the run.
+/// The number of the message about a line whose record stops the run, or at which the text in force can't be settled.
 const STOPPED: u8 = 171;
 
-/// The number of an expectation about a rule that no text has.
+/// The number of the message about an expectation of a rule that no text has.
 const NO_RULE: u8 = 172;
 
-/// The fault of a script in a file of this name that says no stream in the words of these rule texts.
+/// The fault for a script, a file's name and text, that is refused with this error. It may use the names of these rule texts.
 fn unsaid_fault(
     alloc: Global,
     script: (&str, &[u8]),
@@ -39,7 +39,8 @@ fn unsaid_fault(
     }
 }
 
-/// Why a script in a file of this name isn't tried with rule texts in files of these names.
+/// The fault for a trial that failed, of a script, a file's name and text, with rule texts in files with these names. `kind` is that of
+/// the output's error, if there is one.
 fn trial_fault<'a>(
     alloc: Global,
     script: (&'a str, &[u8]),
@@ -73,12 +74,13 @@ fn trial_fault<'a>(
         },
         TrialError::NoRule { n } => line_fault(alloc, name, text, NO_RULE, n, &error),
         TrialError::Stopped { n } => line_fault(alloc, name, text, STOPPED, n, &error),
+        TrialError::Unsettled { n } => line_fault(alloc, name, text, STOPPED, n, &error),
         TrialError::Memory => Fault::Memory,
         TrialError::Write => written_fault(kind),
     }
 }
 
-/// What is said of a script in which there is this to be looked at.
+/// The message for a warning about a script.
 fn warning_message(
     alloc: Global,
     text: &[u8],
@@ -101,8 +103,8 @@ fn warning_message(
     Ok(Message::warning(alloc, name, head, line_mark(alloc, text, n)))
 }
 
-/// Says on standard error what is to be looked at in a script in a file of this name, and answers whether something is in the script
-/// itself, whatever came of it.
+/// Writes the warnings about the script in a file with this name, and those of its trial, to standard error. Returns whether there are
+/// warnings about the script itself.
 fn warn<R: Eprint + AllocGlobal>(
     rt: &R,
     script: &str,
@@ -119,7 +121,7 @@ fn warn<R: Eprint + AllocGlobal>(
     Ok(has_own)
 }
 
-/// How a trial ends that came to this: unmet expectations come before warnings.
+/// The result of a trial: `Unmet` before `Warned`. A warning is a fault only if the trial is strict.
 fn ending_of(outcome: &TrialOutcome, strict: bool) -> Result<(), Fault<'static>>
     ensures { result ≡ ending_of outcome.now strict }
 {
@@ -132,8 +134,9 @@ fn ending_of(outcome: &TrialOutcome, strict: bool) -> Result<(), Fault<'static>>
     Ok(())
 }
 
-/// Runs rule texts over the stream that a script says, and says which of its expectations aren't met, and on standard error what is to be
-/// looked at. Without expectations the packets that came are listed. Where a trial is strict, a warning is a fault.
+/// Runs rule texts over the stream of a script, and lists its unmet expectations, or all packets of the run if it has no expectations.
+/// Warnings go to standard error. Errors: `Unmet`; `Warned` if the trial is strict and there are warnings; `Lines` for a refused script or
+/// a stopped run; and the faults of files and texts.
 pub fn try_out<'a, R: Files + Eprint + AllocGlobal, W: Write>(
     rt: &R,
     script: &'a str,

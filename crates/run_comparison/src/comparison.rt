@@ -11,16 +11,16 @@ ghost use Rattle.run_comparison.specs.Counted.{CountsRecord};
 ghost use Rattle.run_comparison.specs.Course.{AreNew, ComparesTaken, IsBad, IsComparison, run_sources, stop_at};
 
 use crate::arriving::handle_next;
+use crate::command_said::CommandNames;
 use crate::counts::{LineCounts, RecordPlace, TextNames, write_record};
 use crate::error::{ComparisonError, Which};
 use crate::inflow::Inflow;
 use crate::lines::lines_of;
-use crate::naming::{RuleNames, rules_of};
 use crate::stop::Stop;
 use flight_core::laws::{records_are_handed_out, the_rest_says_the_end};
 use lc_model::stream::{self, HALF, HEADER, PIECE};
 use lc_model::{ByteSource, Moment, u16_at};
-use packet_listing::Time;
+use packet_listing::{TextRules, Time, rules_of};
 use rpn_compiler::RuleText;
 use run_stepper::laws::steps_are_a_run;
 use run_stepper::{Handled, Stepping};
@@ -43,13 +43,14 @@ pub struct Compared {
     pub stop: Option<Stop>,
 }
 
-/// What is compared: the texts' names, how events speak of the rules of each, and how many texts each run has.
+/// What is compared: the texts' names, how events and commands speak of the rules of each, and how many texts each run has.
 #[derive(Clone, Copy)]
 struct Comparison<'a> {
     alloc: Global,
     names: TextNames<'a>,
-    old: &'a [RuleNames<'a>],
-    new: &'a [RuleNames<'a>],
+    old: &'a [TextRules<'a>],
+    new: &'a [TextRules<'a>],
+    commands: &'a CommandNames<'a>,
     texts: usize,
 }
 
@@ -80,8 +81,8 @@ fn brings_other_rules(record: &[u8]) -> bool {
 }
 
 /// These rules where they may be named, and none else: events then speak of rules by their numbers.
-fn named<'r, 'a>(is_named: bool, rules: &'r [RuleNames<'a>]) -> &'r [RuleNames<'a>] {
-    if is_named { rules } else { &[] }
+fn named<'r, 'a>(is_named: bool, texts: &'r [TextRules<'a>]) -> &'r [TextRules<'a>] {
+    if is_named { texts } else { &[] }
 }
 
 impl Comparison<'_> {
@@ -98,9 +99,16 @@ impl Comparison<'_> {
     ) -> Result<LineCounts, ComparisonError>
         ensures { IfOk result (CountsRecord (written_by old.now) (written_by new.now) counts) }
     {
+        let command = self
+            .commands
+            .words(self.alloc, old.last_record(), is_named)?;
         let place = RecordPlace {
             time: Time::at(moment_of(old.last_record())),
             record: number,
+            command: match &command {
+                Some(words) => Some(words.as_slice()),
+                None => None,
+            },
         };
         let olds = lines_of(self.alloc, old.packets(), named(is_named, self.old))?;
         let news = lines_of(self.alloc, new.packets(), named(is_named, self.new))?;
@@ -219,6 +227,13 @@ pub struct Sides<'a, 't> {
     pub further: &'a [RuleText<'t>],
 }
 
+/// The rules of one text, alone among texts.
+fn rules_alone<'t>(alloc: Global, text: &RuleText<'t>) -> Result<Vec<TextRules<'t>>, AllocError> {
+    let mut texts = Vec::new(alloc);
+    texts.push(rules_of(alloc, text)?)?;
+    Ok(texts)
+}
+
 /// Writes what differs between two runs to which nothing has come.
 fn compare_runs<R: ByteSource, W: Write>(
     alloc: Global,
@@ -239,8 +254,9 @@ fn compare_runs<R: ByteSource, W: Write>(
         (R.source reader.old).rest (R.source reader.new).rest) }
 {
     steps_are_a_run();
-    let olds = rules_of(alloc, sides.old.text)?;
-    let news = rules_of(alloc, sides.new.text)?;
+    let olds = rules_alone(alloc, sides.old.text)?;
+    let news = rules_alone(alloc, sides.new.text)?;
+    let commands = CommandNames::new(alloc, sides.old.text.bytes, sides.new.text.bytes)?;
     let comparison = Comparison {
         alloc,
         names: TextNames {
@@ -249,6 +265,7 @@ fn compare_runs<R: ByteSource, W: Write>(
         },
         old: olds.as_slice(),
         new: news.as_slice(),
+        commands: &commands,
         texts: 1 + sides.further.len(),
     };
     let mut inflow = Inflow::new(alloc)?;
@@ -295,7 +312,7 @@ fn write_summary<W: Write>(names: TextNames<'_>, found: Compared, out: &mut W) -
 }
 
 /// Runs each of two rule texts over a stream, and writes a line for each sequence request and event that came of one alone: its
-/// record's moment and number from 1, which text it is, and what came. Rules are called by their names, so that a rule may have
+/// record's moment and number from 1, the command that it brings, which text it is, and what came. Rules are called by their names, so that a rule may have
 /// another number in the other text; from a record on that brings a file or a half of a further text they are called by number, since
 /// other rules may then be in force. Of what came of one record the order doesn't count. A last line says how many came of each
 /// alone, and of both; one before it, why both runs ended before the stream did, where they did.

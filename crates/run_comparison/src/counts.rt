@@ -17,11 +17,12 @@ pub struct LineCounts {
     pub both: u64,
 }
 
-/// Where a record stands: its moment, and its number from 1.
+/// Where a record stands: its moment, and its number from 1; and the words of the command that it brings, where it has some.
 #[derive(Clone, Copy)]
-pub struct RecordPlace {
+pub struct RecordPlace<'a> {
     pub time: Time,
     pub record: u64,
+    pub command: Option<&'a [u8]>,
 }
 
 /// The two texts' names.
@@ -44,16 +45,32 @@ fn texts_of<'a>(alloc: Global, lines: &'a [Vec<u8>]) -> Result<Vec<&'a [u8]>, Al
 
 /// Writes the lines that came of a record with one text alone.
 fn write_alone<W: Write>(
-    place: RecordPlace,
+    place: RecordPlace<'_>,
     name: &str,
     lines: &[&[u8]],
     out: &mut W,
 ) -> io::Result<()> {
-    let RecordPlace { time, record } = place;
     for line in lines {
-        write!(out, "{time} record {record}: only {name}: ")?;
+        write_place(place, out)?;
+        write!(out, ": only {name}: ")?;
         out.write_all(line)?;
         out.write_all(b"\n")?;
+    }
+    Ok(())
+}
+
+/// Writes where a record stands, and the command that it brings in parentheses.
+fn write_place<W: Write>(place: RecordPlace<'_>, out: &mut W) -> io::Result<()> {
+    let RecordPlace {
+        time,
+        record,
+        command,
+    } = place;
+    write!(out, "{time} record {record}")?;
+    if let Some(words) = command {
+        out.write_all(b" (")?;
+        out.write_all(words)?;
+        out.write_all(b")")?;
     }
     Ok(())
 }
@@ -89,7 +106,7 @@ impl LineCounts {
 /// Writes what differs of a record, and answers the counts with it.
 pub fn write_record<W: Write>(
     alloc: Global,
-    place: RecordPlace,
+    place: RecordPlace<'_>,
     names: TextNames<'_>,
     old: &[Vec<u8>],
     new: &[Vec<u8>],

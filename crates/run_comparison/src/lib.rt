@@ -2,14 +2,13 @@
 #![tactic(auto)]
 
 mod arriving;
+mod command_said;
 mod comparison;
 mod counts;
 mod difference;
 mod error;
 mod inflow;
 mod lines;
-mod naming;
-mod said;
 mod stop;
 
 pub use comparison::{Compared, Side, Sides, write_comparison};

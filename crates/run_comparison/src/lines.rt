@@ -5,10 +5,8 @@ ghost use Rattle.packet_listing.specs.Told.{told_in};
 ghost use Rattle.run_comparison.specs.Compared.{compared_in, is_compared, is_told};
 
 use crate::error::ComparisonError;
-use crate::naming::RuleNames;
-use crate::said::RuleOutput;
 use lc_model::packet::first_packet;
-use packet_listing::{Sent, read_packet};
+use packet_listing::{RuleOutput, Sent, TextRules, read_packet};
 use std::alloc::Global;
 use std::io::Write;
 
@@ -27,10 +25,10 @@ fn compared_packet(packet: &[u8]) -> Option<Sent<'_>>
 fn line_of(
     alloc: Global,
     sent: Sent<'_>,
-    rules: &[RuleNames<'_>],
+    texts: &[TextRules<'_>],
 ) -> Result<Vec<u8>, ComparisonError> {
     let mut text = Vec::new(alloc);
-    let said = RuleOutput { sent, rules };
+    let said = RuleOutput { sent, texts };
     write!(text, "{said}")?;
     Ok(text)
 }
@@ -40,29 +38,29 @@ fn push_line(
     alloc: Global,
     lines: &mut Vec<Vec<u8>>,
     packet: &[u8],
-    rules: &[RuleNames<'_>],
+    texts: &[TextRules<'_>],
 ) -> Result<(), ComparisonError>
     ensures { OnOk result (length lines.new.items ≡
         length lines.old.items + length (filter is_compared (packet.now ∷ []))) }
 {
     if let Some(sent) = compared_packet(packet) {
-        lines.push(line_of(alloc, sent, rules)?)?;
+        lines.push(line_of(alloc, sent, texts)?)?;
     }
     Ok(())
 }
 
-/// The lines of the requests and events among packets that stand one behind the other, in order, where these are the rules.
+/// The lines of the requests and events among packets that stand one behind the other, in order, where these are the rules of its text, or none.
 pub fn lines_of(
     alloc: Global,
     packets: &[u8],
-    rules: &[RuleNames<'_>],
+    texts: &[TextRules<'_>],
 ) -> Result<Vec<Vec<u8>>, ComparisonError>
     ensures { IfOk result (λ lines. length lines.items ≡ length (compared_in packets.now)) }
 {
     let mut lines = Vec::new(alloc);
     let mut rest = packets;
     while let Some((packet, behind)) = first_packet(rest) {
-        push_line(alloc, &mut lines, packet, rules)?;
+        push_line(alloc, &mut lines, packet, texts)?;
         rest = behind;
     }
     Ok(lines)

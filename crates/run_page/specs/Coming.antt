@@ -8,7 +8,7 @@ use Rattle.run_stepper.specs.declared.handled.Handled.{Handled}
 use Rattle.run_stepper.specs.declared.handled.Handled.TheVariants.{Part}
 use Rattle.run_page.specs.declared.intake.Intake.{Intake}
 
--- these bytes were taken of a source: they are counted and hashed behind those before, and none are taken behind its end
+-- these bytes were read from a source: they are counted and hashed after those before, and none are read after its end
 pub record Took (before now : Option (List ℕ)) (old new : Intake) (taken : List ℕ) : Type 0 where
   pub consumes : Consumes before now taken
   pub counted : (front : ℕ) → old.count ≡ min front (2 ^ 64 - 1) → new.count ≡ min (front + length taken) (2 ^ 64 - 1)
@@ -16,27 +16,27 @@ pub record Took (before now : Option (List ℕ)) (old new : Intake) (taken : Lis
   pub at_end : (old.is_ended ≡ true → IsAtEnd before) → new.is_ended ≡ true → IsAtEnd now
   pub none_behind : old.is_ended ≡ true → (taken ≡ []) × (new.is_ended ≡ true)
 
--- some bytes were taken of a source
+-- some bytes were read from a source
 pub record TookSome (before now : Option (List ℕ)) (old new : Intake) : Type 0 where
   pub taken : List ℕ
   pub took : Took before now old new taken
 
--- all that was left of a source was taken
+-- the rest of a source was read
 pub record TookAll (before now : Option (List ℕ)) (old new : Intake) : Type 0 where
   pub taken : List ℕ
   pub took : Took before now old new taken
   pub ended : new.is_ended ≡ true
 
--- but for the bytes of its stream a host is as before
+-- a host without the bytes of its stream
 abbrev pub without_bytes : Feeding → Feeding
 without_bytes it = record it { held = record it.held { bytes = []; last = [] } }
 
--- these bytes came to a host that was so at first, and are held behind what it held
+-- these bytes came to a host that was `first` before, and are held after the bytes that it held
 pub record IsFed (taken : List ℕ) (first now : Feeding) : Type 0 where
   pub holds : now.held.bytes ≡ first.held.bytes ++ taken
   pub same : without_bytes now ≡ without_bytes first
 
--- some bytes were taken of a source and came to a host, which then handled what is in front; it is part of a record only at the source's end
+-- some bytes were read from a source and came to a host, which then handled what is in front: a part of a record only at the source's end
 pub record Arrives (before now : Option (List ℕ)) (old new : Intake) (first last : Feeding) (written : List ℕ) (found : Handled) : Type 0 where
   pub taken : List ℕ
   pub took : Took before now old new taken

@@ -57,7 +57,7 @@ stands_of (Some engine) = map stand_of engine.points
 
 -- ---- lanes
 
--- the time of a record, in 1/65,536 s; 0 where its header isn't whole
+-- the time of a record, in 1/65,536 s; 0 if its header is cut short
 abbrev pub ticks_of : List ℕ → ℕ
 ticks_of bytes = if nat_lt (length bytes) header_size then 0 else u32_at bytes 1 * 65536 + u16_at bytes 5
 
@@ -66,7 +66,7 @@ abbrev pub start_of : List Step → ℕ
 start_of [] = 0
 start_of (step ∷ steps) = ticks_of step.bytes
 
--- a rule stands so from this place on
+-- the entry of a rule with this result and state from this place on
 abbrev pub stood : Place → Stand → Entry
 stood place stand = record {
   from = place.«record»;
@@ -75,37 +75,37 @@ stood place stand = record {
   changes = 1;
 }
 
--- where a record stands, in a run whose first record is of this time
+-- the place of a record, in a run whose first record has this time
 abbrev pub place_of : (start number : ℕ) → List ℕ → Place
 place_of start number bytes = record { «record» = number; time = pos (ticks_of bytes) -ℤ pos start }
 
--- what is told of a rule by records, the first of which has this number
+-- the entries of a rule from records, the first of which has this number
 abbrev pub told_from : (start number rule : ℕ) → List Step → List Entry
 told_from start number rule [] = []
 told_from start number rule (step ∷ steps) =
     stood (place_of start number step.bytes) (stand_at rule (stands_of (engine_among step.host.host.seats)))
     ∷ told_from start (number + 1) rule steps
 
--- .. by a whole run: how it stands behind each record
+-- .. from a whole run: its result and state after each record
 abbrev pub told_of : ℕ → List Step → List Entry
 told_of rule steps = told_from (start_of steps) 1 rule steps
 
--- for each of so many rules, from this one on
+-- the same for a number of rules, from this one on
 abbrev pub lanes_from : (rule count : ℕ) → List Step → List (List Entry)
 lanes_from rule zero steps = []
 lanes_from rule (suc count) steps = told_of rule steps ∷ lanes_from (suc rule) count steps
 
--- one more of each rule, from this one on
+-- one more entry for each rule, from this one on
 abbrev pub stood_more : Place → List Stand → ℕ → List (List Entry) → List (List Entry)
 stood_more place stands rule [] = []
 stood_more place stands rule (told ∷ more) = (told ++ stood place (stand_at rule stands) ∷ []) ∷ stood_more place stands (suc rule) more
 
--- nothing is told of so many
+-- empty lists, of this number
 abbrev pub nothing_told : ℕ → List (List Entry)
 nothing_told zero = []
 nothing_told (suc count) = [] ∷ nothing_told count
 
--- each of these was told last that its rule, from this one on, stands so
+-- the last entry of each of these lists has the result and state of its rule, from this rule on
 abbrev pub SaidLast : Place → ℕ → List Stand → List (List Entry) → Type 0
 SaidLast place rule stands [] = Unit {0}
 SaidLast place rule stands (told ∷ more) = (is_said_last told (stood place (stand_at rule stands)) ≡ true) × SaidLast place (suc rule) stands more
@@ -144,19 +144,19 @@ valued place (Some value) = record {
   changes = 1;
 }
 
--- what is told of a field in a place where this came of it
+-- the entry of a field at a place that brought this of it
 abbrev pub value_told : Place → Option Met → List Entry
 value_told place None = []
 value_told place (Some met) = valued place met.value ∷ []
 
--- what is told of a field by records, the first of which has this number: its value in each packet of its message id
+-- the entries of a field from records, the first of which has this number: its value in each packet of its message id
 abbrev pub values_from : (start number : ℕ) → Field → List Step → List Entry
 values_from start number field [] = []
 values_from start number field (step ∷ steps) =
     value_told (place_of start number step.bytes) (brought_of field (place_of start number step.bytes) (brings step.bytes))
     ++ values_from start (number + 1) field steps
 
--- .. by a whole run
+-- .. from a whole run
 abbrev pub values_of : List Step → Field → List Entry
 values_of steps field = values_from (start_of steps) 1 field steps
 
@@ -164,7 +164,7 @@ values_of steps field = values_from (start_of steps) 1 field steps
 abbrev pub all_values : List Field → List Step → List (List Entry)
 all_values fields steps = map (values_of steps) fields
 
--- what came of each field in this place is told
+-- each field gets an entry for what came of it at this place
 abbrev pub values_more : Place → List (Option Met) → List (List Entry) → List (List Entry)
 values_more place [] values = values
 values_more place (met ∷ more) [] = []
@@ -172,7 +172,7 @@ values_more place (met ∷ more) (told ∷ values) = (told ++ value_told place m
 
 -- ---- what was told last
 
--- where the rules were looked at, the lanes were told last that they stand as they did
+-- after a look at the rules, the last entries of the lanes have their results and states
 abbrev pub IsKept : Behind → List (List Entry) → Type 0
 IsKept behind lanes = behind.looked ≡ true → (place : Place) → SaidLast place 0 behind.rules.items lanes
 
@@ -194,7 +194,7 @@ taken_of start number step = record {
   stands = stands_of (engine_among step.host.host.seats);
 }
 
--- .. and those behind it
+-- .. and the records after it
 abbrev pub taken_from : (start number : ℕ) → List Step → List account.Step
 taken_from start number [] = []
 taken_from start number (step ∷ steps) = taken_of start number step ∷ taken_from start (number + 1) steps
@@ -207,11 +207,11 @@ all_taken steps = taken_from (start_of steps) 1 steps
 abbrev pub account_by : OfTexts → List Step → Account
 account_by texts steps = account_behind (run.nothing_told texts) (all_taken steps)
 
--- where the rules were looked at, they stood so behind the last record
+-- after a look at the rules, the account has them as they were after the last record
 abbrev pub KeepsStands : Behind → Account → Type 0
 KeepsStands behind a = behind.looked ≡ true → run.StoodLast behind.rules.items a
 
--- the account behind what a record led to, once it came
+-- the account after a record came and what it led to
 abbrev pub led_to : List ℕ → Place → Behind → Account → Account
 led_to written place behind a =
     account.stood_so place behind.mode behind.rules.items
@@ -244,7 +244,7 @@ pub record StopsAt (host : Feeding) (rest : List ℕ) (handled : Handled) : Type
   pub written : List ℕ
   pub stops : HasStepped front host now written (Ok handled)
 
--- how a run ends behind these records, of which the last left the host so, where these bytes are left
+-- how a run ends after these records, by the host after the last of them and the bytes that are left
 abbrev pub EndsSo : Ending → List Step → Feeding → List ℕ → Type 0
 EndsSo (Whole records) steps host rest = (records ≡ length steps) × (rest ≡ [])
 EndsSo (NoRecord n) steps host rest = (n ≡ length steps + 1) × StopsAt host rest handled.NoRecord
@@ -279,7 +279,7 @@ pub record TellsRun (sources : List (List ℕ)) (schedule : Schedule) (stream : 
 
 -- ---- a stream that comes in pieces
 
--- how a stream ended, of which no more comes, behind so many records, where these bytes are left
+-- how a stream ended, after this number of records and with these bytes left
 abbrev pub ending_at : List ℕ → ℕ → Ending
 ending_at [] records = Whole records
 ending_at (byte ∷ bytes) records = Cut (records + 1)

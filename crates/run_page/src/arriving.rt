@@ -1,4 +1,4 @@
-//! The next record of a stream that comes in pieces.
+//! Handles the next record of a stream that comes in pieces.
 
 ghost use Rattle.std.specs.Prelude.{◌≡◌, IfOk, length};
 ghost use Rattle.flight_core.specs.Records.{piece_size};
@@ -10,7 +10,8 @@ use crate::intake::Intake;
 use lc_model::ByteSource;
 use run_stepper::{Handled, Stepping};
 
-/// Handles the next record of a stream, behind as many pieces as it needs. Part of a record is left only at the stream's end.
+/// Handles the next record of a stream, after reading as many pieces as it needs. Returns `Part` only at the stream's end. Errors:
+/// `Memory`, and `Read` if a read fails.
 pub fn handle_next<R: ByteSource>(
     stepping: &mut Stepping,
     intake: &mut Intake,

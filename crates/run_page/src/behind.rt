@@ -1,4 +1,4 @@
-//! How the Limit Checker stands behind a record.
+//! The Limit Checker's mode and rules after a record.
 
 ghost use Rattle.std.specs.Prelude.{◌≡◌, ◌<◌, true, false, [], None, Some, IsTrue, IfOk, OnOk, length, map, slice_get};
 ghost use Rattle.run_stepper.specs.Stepping.{IsAtRest, engine_among, host_in};
@@ -10,15 +10,18 @@ use run_stepper::Stepping;
 use run_summary::{Stand, result_bit, state_bit};
 use std::alloc::{AllocError, Global};
 
-/// The mode, where a Limit Checker runs, and its rules, once they were looked at.
+/// The Limit Checker's mode and rules after the newest record.
 #[derive(Drop)]
 pub struct Behind {
+    /// The mode; `None` if no Limit Checker runs.
     pub mode: Option<LcMode>,
+    /// Its rules, by number from 0.
     pub rules: Vec<Stand>,
+    /// Whether `look` was called.
     pub looked: bool,
 }
 
-/// How a rule of an engine stands.
+/// The result, state and failures of a rule of an engine.
 fn stand_in(checker: &Engine, rule: usize) -> Stand
     requires { rule < length checker.now.points }
     ensures { slice_get (map stand_of checker.now.points) rule ≡ Some result }
@@ -31,7 +34,7 @@ fn stand_in(checker: &Engine, rule: usize) -> Stand
     }
 }
 
-/// How all rules of an engine stand.
+/// Appends all rules of an engine. The only error is a lack of memory.
 fn stands_in(checker: &Engine, rules: &mut Vec<Stand>) -> Result<(), AllocError>
     requires { rules.old.items ≡ [] }
     ensures { OnOk result (rules.new.items ≡ map stand_of checker.now.points) }
@@ -42,14 +45,14 @@ fn stands_in(checker: &Engine, rules: &mut Vec<Stand>) -> Result<(), AllocError>
     Ok(())
 }
 
-/// Whether a rule stands as another.
+/// Whether two rules have the same result, state and failures.
 fn is_same(one: Stand, other: Stand) -> bool
     ensures { IsTrue result → one ≡ other }
 {
     one.result == other.result && one.state == other.state && one.fails == other.fails
 }
 
-/// Whether all rules of an engine stand so.
+/// Whether the rules of an engine are these.
 fn is_standing(checker: &Engine, rules: &[Stand]) -> bool
     ensures { IsTrue result → rules.now ≡ map stand_of checker.now.points }
 {
@@ -65,7 +68,7 @@ fn is_standing(checker: &Engine, rules: &[Stand]) -> bool
 }
 
 impl Behind {
-    /// Nothing was looked at.
+    /// The state before the first record.
     pub fn new(alloc: Global) -> Behind
         ensures { result.looked ≡ false }
     {
@@ -76,7 +79,7 @@ impl Behind {
         }
     }
 
-    /// Looks how the rules stand where no Limit Checker runs. Answers whether that is otherwise than before.
+    /// Takes that no Limit Checker runs. Returns whether the rules changed, or this is the first look.
     fn look_at_none(&mut self) -> bool
         ensures mode { self.new.mode ≡ None }
         ensures rules { self.new.rules.items ≡ [] }
@@ -91,7 +94,7 @@ impl Behind {
         is_new
     }
 
-    /// Looks how the rules of an engine stand. Answers whether that is otherwise than before.
+    /// Takes the mode and rules of an engine. Returns whether the rules changed, or this is the first look.
     fn look_at(&mut self, checker: &Engine) -> Result<bool, AllocError>
         ensures mode { OnOk result (self.new.mode ≡ Some checker.now.mode) }
         ensures rules { OnOk result (self.new.rules.items ≡ map stand_of checker.now.points) }
@@ -110,7 +113,8 @@ impl Behind {
         Ok(true)
     }
 
-    /// Looks how all stands behind the last step. Answers whether a rule stands otherwise than before, or none was looked at.
+    /// Takes the mode and rules after the last step. Returns whether the rules changed, or this is the first look. The only error is a
+    /// lack of memory.
     pub fn look(&mut self, stepping: &Stepping) -> Result<bool, AllocError>
         requires { IsAtRest stepping.now }
         ensures mode { OnOk result (self.new.mode ≡

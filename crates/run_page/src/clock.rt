@@ -7,15 +7,18 @@ use lc_model::SUBSECONDS;
 use lc_model::stream::{HEADER, moment_of};
 use run_summary::Place;
 
-/// The time of the first record, that of the last one less that of the first, and whether none is before the one in front of it.
+/// The times of the records so far, in 1/65,536 s.
 #[derive(Clone, Copy)]
 pub struct Clock {
+    /// The time of the first record.
     pub start: u64,
+    /// The time of the newest record less that of the first.
     pub end: i64,
+    /// Whether no record is earlier than the one before it.
     pub is_ordered: bool,
 }
 
-/// The time of a record in 1/65,536 s; 0 where its header isn't whole.
+/// The time of a record in 1/65,536 s; 0 if its header is cut short.
 pub fn ticks_in(record: &[u8]) -> u64
     ensures ticks { result ≡ ticks_of record.now }
     ensures small { result < 2 ^ 48 }
@@ -37,7 +40,7 @@ fn difference(one: u64, other: u64) -> i64
 }
 
 impl Clock {
-    /// No record came.
+    /// The clock before the first record.
     pub fn new() -> Clock
         ensures { result.start ≡ 0 }
     {
@@ -48,7 +51,7 @@ impl Clock {
         }
     }
 
-    /// The place of the record of this number and time. The first one's time is 0.
+    /// Takes the time of the record with this number, counted from 1. Returns its place.
     pub fn next(&mut self, number: u64, ticks: u64) -> Place
         requires ticks { ticks < 2 ^ 48 }
         requires start { self.old.start < 2 ^ 48 }

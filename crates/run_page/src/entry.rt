@@ -1,4 +1,4 @@
-//! What lists are told from a place on.
+//! The entries that lists get at a place.
 
 ghost use Rattle.std.specs.Prelude.{◌≡◌};
 ghost use Rattle.run_page.specs.Model.{stood, valued};
@@ -6,8 +6,7 @@ ghost use Rattle.run_page.specs.Model.{stood, valued};
 use bounded_history::{Content, Entry};
 use run_summary::{Met, Place, Stand};
 
-/// A field has this value from here on. One that the packet is too short for is none, which is less than the least and more than
-/// the greatest.
+/// The entry of a field that has this value from this place on. Without a value its least number is greater than its greatest.
 pub fn value_entry(place: Place, met: Met) -> Entry
     ensures { result ≡ valued place met.value }
 {
@@ -28,7 +27,7 @@ pub fn value_entry(place: Place, met: Met) -> Entry
     }
 }
 
-/// A rule stands so from here on.
+/// The entry of a rule that has this result and state from this place on.
 pub fn stand_entry(place: Place, stand: Stand) -> Entry
     ensures { result ≡ stood place stand }
 {

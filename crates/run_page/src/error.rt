@@ -1,4 +1,4 @@
-//! Why there is no page.
+//! The errors of writing a page.
 
 use rpn_compiler::CompileError;
 use run_stepper::CourseError;
@@ -6,22 +6,22 @@ use std::alloc::{AllocError, AllocFailed};
 use std::io::{self, ErrorKind};
 use thiserror::Error;
 
-/// Why a page is not, or not wholly, written.
+/// Why a page isn't written, or only in part.
 #[derive(Clone, Copy, Debug, PartialEq, Eq, Error)]
 pub enum ReportError {
-    /// A rule text does not compile; nothing was written. Texts count from 0.
+    /// The rule text with this number, counted from 0, doesn't compile; nothing was written.
     #[error("text {text}: {error}")]
     Rules { text: usize, error: CompileError },
-    /// Out of memory.
+    /// There is no memory.
     #[error("out of memory")]
     Memory,
     /// The stream can't be read; nothing was written.
     #[error("a read failed")]
     Read,
-    /// The stream has more records, or more was read behind them, than 64 bits count. Nothing was written.
+    /// The stream has more records, or needs more reads, than 64 bits can count; nothing was written.
     #[error("as many reads were made as may be")]
     Bound,
-    /// The page can't be written.
+    /// The writer failed; a part of the page may be written.
     #[error("a write failed")]
     Write,
 }

@@ -1,4 +1,4 @@
-//! What is read of a stream, which is counted and hashed on the way.
+//! Reads a stream, and counts and hashes its bytes.
 
 ghost use Rattle.std.specs.Prelude.{◌≡◌, ◌<◌, ◌≤◌, ℕ, List, [], false, true, length, take, IfOk, OnOk};
 ghost use Rattle.sha2.specs.Sha256.{sha256};
@@ -9,23 +9,28 @@ use crate::error::ReportError;
 use lc_model::{ByteSource, DeviceFault};
 use sha2::{Digest, Sha256};
 
-/// How many bytes were read, what they hash to, and whether the stream's end was met.
+/// The bytes of a stream read so far.
 #[derive(Drop)]
 pub struct Intake {
+    /// The number of bytes, up to 2^64 - 1.
     pub count: u64,
+    /// The SHA-256 of the bytes so far.
     pub hasher: Sha256,
+    /// Whether the stream's end was reached.
     pub is_ended: bool,
 }
 
-/// All bytes of a stream: how many there are, up to 2^64 - 1, and their SHA-256.
+/// The size and the hash of a whole stream.
 #[derive(Clone, Copy)]
 pub struct Taken {
+    /// The number of bytes, up to 2^64 - 1.
     pub bytes: u64,
+    /// The SHA-256 of the bytes.
     pub digest: [u8; 32],
 }
 
 impl Intake {
-    /// Nothing was read.
+    /// The state before the first read.
     pub fn new() -> Intake
         ensures count { result.count ≡ 0 }
         ensures hasher { Holds256 result.hasher [] }
@@ -38,7 +43,7 @@ impl Intake {
         }
     }
 
-    /// Reads a piece into the front of a room, and answers how long it is: 0 where the stream's end is met.
+    /// Reads a piece into the front of `room`. Returns its length in bytes; 0 at the stream's end. Error: `Read` if the read fails.
     pub fn take_piece<R: ByteSource>(
         &mut self,
         room: &mut [u8],
@@ -63,7 +68,7 @@ impl Intake {
         }
     }
 
-    /// Reads all that is left.
+    /// Reads the rest of the stream. Errors: `Read` if a read fails, and `Bound` after the greatest number of reads.
     pub fn take_rest<R: ByteSource>(
         &mut self,
         room: &mut [u8],
@@ -82,7 +87,7 @@ impl Intake {
         Err(ReportError::Bound)
     }
 
-    /// All that was read.
+    /// Returns the size and the hash of the bytes that were read.
     pub fn into_taken(self) -> Taken
         ensures bytes { result.bytes ≡ self.count }
         ensures digest { (stream : List ℕ) → Holds256 self.hasher stream →

@@ -1,5 +1,5 @@
-//! A run as one page (page/DATA.md): the account of the run, taken behind each record in memory that doesn't grow, and the page's
-//! own HTML, style and script, which tools/gate/page_constants makes of page/.
+//! A run as one page (page/DATA.md): the account of the run, taken after each record in memory that doesn't grow, and the page's own
+//! HTML, style and script, which tools/gate/page_constants makes from page/.
 #![tactic(auto)]
 
 mod arriving;

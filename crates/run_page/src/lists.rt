@@ -1,4 +1,4 @@
-//! The lists of a page: what is told of each rule, and behind them of each field.
+//! The lists of a page: the changes of each rule, and then of each field.
 
 ghost use Rattle.std.specs.Prelude.{◌≡◌, ◌<◌, List, OnOk, IfOk, ◌++◌, []};
 ghost use Rattle.bounded_history.specs.declared.entry.Entry.{Entry as Told};
@@ -14,14 +14,14 @@ use std::alloc::{AllocError, Global};
 /// The most entries of all lists.
 const ENTRIES: usize = 22_528;
 
-/// A list for each lane, and behind them one for each field.
+/// A list for each lane, and after them one for each field. A lane shows the rules with one number in all texts.
 #[derive(Drop)]
 pub struct Lists {
     pool: Pool,
     lanes: usize,
 }
 
-/// So many lists more, to which nothing was told.
+/// Adds `count` empty lists. The only error is a lack of memory.
 fn push_all(pool: &mut Pool, count: usize) -> Result<(), AllocError>
     ensures told { (told : List (List Told)) → PoolTells pool.old told →
         OnOk result (PoolTells pool.new (told ++ nothing_told count)) }
@@ -34,7 +34,7 @@ fn push_all(pool: &mut Pool, count: usize) -> Result<(), AllocError>
 }
 
 impl Lists {
-    /// Of so many lanes and fields, of which nothing was told.
+    /// Empty lists for this number of lanes and of fields. The only error is a lack of memory.
     pub fn new(alloc: Global, lanes: usize, fields: usize) -> Result<Lists, AllocError>
         ensures { IfOk result
             (λ lists. ListsTell lists (nothing_told lanes) (nothing_told fields)) }
@@ -45,14 +45,14 @@ impl Lists {
         Ok(Lists { pool, lanes })
     }
 
-    /// How many lanes there are.
+    /// The number of lanes.
     pub fn lanes(&self) -> usize
         ensures { result ≡ self.now.lanes }
     {
         self.lanes
     }
 
-    /// The lists of the lanes, and those of the fields.
+    /// The lists of the lanes, and the lists of the fields.
     pub fn parts(&self) -> (&[Changes], &[Changes])
         ensures { (lanes values : List (List Told)) → ListsTell self.now lanes values →
             AllTell result.0.now lanes × AllTell result.1.now values }
@@ -61,7 +61,7 @@ impl Lists {
         lists.split_at(self.lanes.min(lists.len()))
     }
 
-    /// A field has a value from a record on.
+    /// Adds an entry to the list of a field. The only error is a lack of memory.
     pub fn value(&mut self, field: usize, entry: Entry) -> Result<(), AllocError>
         ensures { (lanes values : List (List Told)) → ListsTell self.old lanes values →
             OnOk result (ListsTell self.new lanes (told_to field entry values)) }
@@ -69,7 +69,7 @@ impl Lists {
         self.pool.add(self.lanes.saturating_add(field), entry)
     }
 
-    /// A rule stands so from a record on.
+    /// Adds an entry to the list of a rule. The only error is a lack of memory.
     fn stand_one(&mut self, rule: usize, entry: Entry) -> Result<(), AllocError>
         requires { rule < self.old.lanes }
         ensures count { self.new.lanes ≡ self.old.lanes }
@@ -79,7 +79,7 @@ impl Lists {
         self.pool.add(rule, entry)
     }
 
-    /// How all rules stand from a record on.
+    /// Adds an entry to each lane: the rules' results and states from a record on. The only error is a lack of memory.
     pub fn stand(&mut self, place: Place, stands: &[Stand]) -> Result<(), AllocError>
         ensures { (lanes values : List (List Told)) → ListsTell self.old lanes values →
             OnOk result (ListsTell self.new (stood_more place stands.now 0 lanes) values) }
@@ -91,7 +91,7 @@ impl Lists {
         Ok(())
     }
 
-    /// How all rules stand from a record on, where they stand as was told last: nothing changes.
+    /// States that nothing changes if the rules have the same results and states as in their last entries. Does nothing.
     pub fn stand_again(&self, place: Place, stands: &[Stand])
         ensures { (lanes values : List (List Told)) → ListsTell self.now lanes values →
             SaidLast place 0 stands.now lanes →

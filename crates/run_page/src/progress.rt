@@ -1,12 +1,12 @@
-//! How far a report is.
+//! The progress of a report.
 
-/// Is told how far a report is.
+/// Receives the progress of a report.
 pub trait Progress {
-    /// So many bytes of the stream are handled. It is told behind each record.
+    /// Called after each record with the number of stream bytes handled so far.
     fn update(&mut self, bytes: u64);
 }
 
-/// Says nothing.
+/// A receiver that ignores the progress.
 #[derive(Clone, Copy)]
 pub struct Silent;
 

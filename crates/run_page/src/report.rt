@@ -21,7 +21,7 @@ fn bytes_of<'t>(alloc: Global, sources: &[Source<'_, 't>]) -> Result<Vec<&'t [u8
     Ok(texts)
 }
 
-/// How the run ended, as a page says it.
+/// How the run ended, in a page's terms.
 fn page_end(ending: Ending) -> Ended {
     match ending {
         Ending::Whole { records } => Ended::Whole(records),
@@ -31,14 +31,14 @@ fn page_end(ending: Ending) -> Ended {
     }
 }
 
-/// The page behind its data.
+/// The parts of the page after its data.
 const SCRIPT: &[&str] = &[
     page_script_0::TEXT,
     page_script_1::TEXT,
     page_script_2::TEXT,
 ];
 
-/// Writes a page of this data.
+/// Writes a page with this data. The error is the writer's.
 fn put_page<W: Write>(out: &mut W, data: &Data<'_, '_, '_, '_>) -> io::Result<()> {
     out.write_all(page_front::TEXT.as_bytes())?;
     write!(out, "{data}")?;
@@ -48,7 +48,7 @@ fn put_page<W: Write>(out: &mut W, data: &Data<'_, '_, '_, '_>) -> io::Result<()
     Ok(())
 }
 
-/// Writes the page of what was told of a run.
+/// Writes the page of a run's account.
 fn put_told<W: Write>(
     out: &mut W,
     run: &Run<'_, '_>,
@@ -75,14 +75,13 @@ fn put_told<W: Write>(
 
 /// Runs rule texts under a schedule over a stream, and writes what happened as one page of HTML, which needs no other file.
 ///
-/// What the page has is said in page/DATA.md: the stream is read to its end, in pieces; the run is stepped through once, and
-/// the account of it is taken behind each record, in memory that the run's length doesn't change. `progress` is told behind
-/// each record how many bytes are handled. A stream that ends early has a page, which says so, and so does the answer: how
-/// the run ended.
+/// page/DATA.md has the contents of the page. The stream is read to its end, in pieces, and run once; the memory doesn't grow with
+/// the run. `progress` gets the number of handled bytes after each record. A stream that ends early has a page too. Returns how the
+/// run ended.
 ///
-/// Errors: before anything is written, `Rules` with the first text that doesn't compile, numbered from 0, `Read`, where a read
-/// fails, and `Bound`, where there are more records or reads than 64 bits count; `Memory`; `Write`, where the writer fails. What was
-/// written before stands.
+/// Errors before anything is written: `Rules` with the first text that doesn't compile, numbered from 0; `Read` if a read fails;
+/// `Bound` if there are more records or reads than 64 bits can count. Others: `Memory`; `Write` if the writer fails, and then a part of
+/// the page may be written.
 pub fn write_page<R: ByteSource, W: Write, P: Progress>(
     alloc: Global,
     schedule: &Schedule,

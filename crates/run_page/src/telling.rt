@@ -1,4 +1,4 @@
-//! From a stream to what its page tells.
+//! Runs a stream and collects what its page shows.
 
 ghost use Rattle.std.specs.Prelude.{◌≡◌, ◌<◌, ℕ, ◌+◌, ◌==◌, ◌^◌, [], List, false, OnOk, IfOk, length, map, if◌then◌else◌};
 ghost use Rattle.bounded_history.specs.declared.entry.Entry.{Entry as Told};
@@ -35,7 +35,7 @@ use run_summary::{Account, Place, Seen};
 use schedules::Schedule;
 use std::alloc::{AllocError, Global};
 
-/// All that a page tells of a run, of the records so far.
+/// The data of a page about a run, up to its newest record.
 #[derive(Drop)]
 pub struct Telling<'a> {
     pub(crate) clock: Clock,
@@ -44,7 +44,7 @@ pub struct Telling<'a> {
     pub(crate) account: Account<'a>,
 }
 
-/// The fields that a packet of this place brought have new values.
+/// Adds the new values of the fields that the packet at this place brought.
 fn tell_values(seen: &[Seen<'_>], place: Place, lists: &mut Lists) -> Result<(), AllocError>
     ensures { (lanes values : List (List Told)) → ListsTell lists.old lanes values →
         OnOk result (ListsTell lists.new lanes
@@ -59,7 +59,7 @@ fn tell_values(seen: &[Seen<'_>], place: Place, lists: &mut Lists) -> Result<(),
 }
 
 impl<'a> Telling<'a> {
-    /// Of no record, for runs of these texts.
+    /// The data before the first record of a run of these texts.
     fn new(alloc: Global, texts: Vec<RuleText<'a>>) -> Result<Telling<'a>, ReportError>
         ensures small { IfOk result (λ telling. telling.clock.start < 2 ^ 48) }
         ensures nothing { (sources : List (List ℕ)) → AreTextsOf sources texts.entry.items →
@@ -79,7 +79,7 @@ impl<'a> Telling<'a> {
         })
     }
 
-    /// A record behind which rules stand otherwise than before, or the first.
+    /// Takes a record after which rules changed, or the first record.
     fn take_new(&mut self, place: Place, written: &[u8]) -> Result<(), AllocError>
         ensures clock { self.new.clock ≡ self.old.clock }
         ensures behind { self.new.behind ≡ self.old.behind }
@@ -96,7 +96,7 @@ impl<'a> Telling<'a> {
         self.lists.stand(place, stands)
     }
 
-    /// A record behind which all rules stand as before: no sample counts, and what stood in front of the next one is known.
+    /// Takes a record after which no rule changed: no sample counts, and the rules before the next record are known.
     fn take_same(&mut self, place: Place, written: &[u8]) -> Result<(), AllocError>
         ensures clock { self.new.clock ≡ self.old.clock }
         ensures behind { self.new.behind ≡ self.old.behind }
@@ -117,7 +117,7 @@ impl<'a> Telling<'a> {
         Ok(())
     }
 
-    /// What a record leads to, behind which the rules were looked at.
+    /// Takes what a record led to; `is_new` says whether the rules changed.
     fn take_behind(&mut self, place: Place, written: &[u8], is_new: bool) -> Result<(), AllocError>
         ensures clock { self.new.clock ≡ self.old.clock }
         ensures behind { self.new.behind ≡ self.old.behind }
@@ -136,7 +136,7 @@ impl<'a> Telling<'a> {
         self.take_same(place, written)
     }
 
-    /// A record that was handled.
+    /// Takes a record that was handled.
     fn take(&mut self, stepping: &Stepping, record: &[u8], number: u64) -> Result<(), AllocError>
         requires rest { IsAtRest stepping.now }
         requires start { self.old.clock.start < 2 ^ 48 }
@@ -169,7 +169,7 @@ impl<'a> Telling<'a> {
     }
 }
 
-/// How a stream ended, of which no more comes: behind so many records, or inside the next one.
+/// How a stream ended: after `records` whole records, or inside the next one.
 fn ending_at_end(stepping: &Stepping, records: u64) -> Ending
     requires { records + 1 < 2 ^ 64 }
     ensures { result ≡ ending_at (host_in stepping.now).held.bytes records }
@@ -180,7 +180,7 @@ fn ending_at_end(stepping: &Stepping, records: u64) -> Ending
     Ending::Cut { n: records + 1 }
 }
 
-/// All records of a stream. Answers how it ended.
+/// Takes all records of a stream. Returns how it ended.
 fn tell_all<R: ByteSource, P: Progress>(
     telling: &mut Telling<'_>,
     stepping: &mut Stepping,
@@ -221,7 +221,7 @@ fn tell_all<R: ByteSource, P: Progress>(
     Err(ReportError::Bound)
 }
 
-/// All of a stream by a host that is stepped, of which nothing is told yet. Answers what was taken, and how the run ended.
+/// Takes a whole stream, from a new host on. Returns the stream's size and hash, and how the run ended.
 fn tell_stream<R: ByteSource, P: Progress>(
     alloc: Global,
     telling: &mut Telling<'_>,
@@ -257,7 +257,7 @@ fn tell_stream<R: ByteSource, P: Progress>(
     Ok((intake.into_taken(), ending))
 }
 
-/// All of a stream by a host of these texts that is new.
+/// Takes a whole stream with a new host of these texts.
 fn tell_new<'a, R: ByteSource, P: Progress>(
     alloc: Global,
     texts: &[&'a [u8]],
@@ -280,14 +280,13 @@ fn tell_new<'a, R: ByteSource, P: Progress>(
     Ok((telling, taken, ending))
 }
 
-/// Runs rule texts under a schedule over a stream, record by record, which is read in pieces of 8,192 bytes at most, to its end. Answers
-/// what is told of the run, how many bytes the stream has and their SHA-256, and how the run ended (`TellsRead`): the bytes that were
-/// taken are all of the stream, and of its records, up to the first fault, it is told what the rules and fields of these texts do
-/// (`TellsRun`), of a host that was new, with these texts' files and this profile's applications under this schedule in stock. Of the
-/// stream at most 73,739 bytes are held.
+/// Runs rule texts under a schedule over a stream, record by record, and reads the stream to its end, in pieces of at most 8,192 bytes.
+/// Returns the page's data, the stream's size and SHA-256, and how the run ended (`TellsRead`). The data is what the rules and fields of
+/// these texts do over the records up to the first fault (`TellsRun`), on a new host with these texts' files in stock and this profile's
+/// applications under this schedule. At most 73,739 bytes of the stream are held.
 ///
-/// Errors: `Rules` with the first text that doesn't compile, numbered from 0; `Memory`; `Read`, where a read fails; `Bound`, where there
-/// are more records, or reads behind them, than 64 bits count.
+/// Errors: `Rules` with the first text that doesn't compile, numbered from 0; `Memory`; `Read` if a read fails; `Bound` if there are more
+/// records, or reads after them, than 64 bits can count.
 pub fn tell_run<'a, R: ByteSource, P: Progress>(
     alloc: Global,
     schedule: &Schedule,

@@ -1,4 +1,4 @@
-//! What the Limit Checker's engine tells of its work over a row: it is given the tables of the first rule text, and then the
+//! What the Limit Checker's engine reports of its work over a row: it is given the tables of the first rule text, and then the
 //! telemetry and the sample requests of the stream.
 
 ghost use Rattle.std.specs.Prelude.{◌≡◌, ◌≤◌, vec_capacity};

@@ -8,11 +8,13 @@ use std::str;
 /// Whether a text is the expected one, or else the first line that isn't, from 1.
 #[derive(Clone, Copy)]
 pub enum TextVerdict {
+    /// Both texts have the same bytes.
     AsExpected,
+    /// This line is the first one that differs, from 1.
     Differs(usize),
 }
 
-/// Compares two texts. It says that one is as expected exactly where both have the same bytes.
+/// Compares two texts by their bytes.
 pub fn judge(found: &[u8], expected: &[u8]) -> TextVerdict
     ensures same { result ≡ AsExpected ↔ found.now ≡ expected.now }
 {
@@ -28,7 +30,7 @@ pub fn judge(found: &[u8], expected: &[u8]) -> TextVerdict
     TextVerdict::Differs(lines.saturating_add(1))
 }
 
-/// The line with this number, from 1; empty where there is none.
+/// The line with this number, from 1; empty if there is no such line.
 pub fn line(text: &[u8], number: usize) -> &str {
     let line = text
         .split(|byte| *byte == b'\n')

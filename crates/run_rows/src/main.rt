@@ -4,11 +4,11 @@
 //! - `schedule FILE`;
 //! - `rules FILE`, for each rule text, in the order of their numbers;
 //! - `scenario FILE`, the script that says the stream, or `stream FILE`, the stream itself;
-//! - `cut N`, behind these, where the stream ends behind its first N bytes;
+//! - `cut N`, after these, if the stream ends after its first N bytes;
 //! - `effort`, where the engine's own count of its work is expected, too.
 //!
-//! Its `expected.txt` says how the run ends, the SHA-256 of what it writes, that effort, and a line for each packet. The folder `texts` has
-//! the rule texts and schedules of many rows, and is none. `data/README.md` says how to write a row.
+//! Its `expected.txt` says how the run ends, the SHA-256 of what it writes, that effort, and a line for each packet. The
+//! folder `texts` has the rule texts and schedules of many rows, and is not a row. `data/README.md` says how to write a row.
 //!
 //! A line is printed for each row, in the order of their names, and the gate compares these lines with `stdout`: a row that
 //! isn't as expected, one whose files can't be used, one that is new and one that is gone each make a difference there.

@@ -7,9 +7,13 @@ use stream_script::read_script;
 /// A row's schedule, its rule texts and its stream, and whether it has a line of the engine's effort.
 #[derive(Drop)]
 pub struct Row {
+    /// The text of the schedule.
     pub schedule: Vec<u8>,
+    /// The rule texts, in the order of their numbers.
     pub texts: Vec<Vec<u8>>,
+    /// The bytes of the stream.
     pub stream: Vec<u8>,
+    /// Whether the engine's effort is expected, too.
     pub has_effort: bool,
 }
 
@@ -29,7 +33,7 @@ impl Row {
         Ok(row)
     }
 
-    /// One line more.
+    /// Reads one line of `row.txt`.
     fn take(&mut self, rt: &HostRuntime, line: &str) -> anyhow::Result<()> {
         if let Some(file) = line.strip_prefix("schedule ") {
             self.schedule = read(rt, ".", file)?;

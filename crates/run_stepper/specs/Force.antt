@@ -10,7 +10,7 @@ use Rattle.rpn_compiler.specs.declared.files.TablePair.{TablePair}
 use Rattle.tbl_service.specs.Images.{active_of}
 use Rattle.flight_core.specs.Compiled.{AreAllCompiled}
 
--- an image, where there is one, is that of a table file
+-- there is an image, and it is that of the table file
 abbrev pub is_of_file : Option (List ℕ) → List ℕ → Bool
 is_of_file None file = false
 is_of_file (Some image) file = bytes_eq image (drop headers_length file)
@@ -23,10 +23,10 @@ is_of_pair wdt adt pair = is_of_file wdt pair.wdt.items && is_of_file adt pair.a
 abbrev pub active_in : Executive (List ℕ) → Name → Option (List ℕ)
 active_in now name = active_of (now.services.slots name)
 
--- the number, from 0, of the text in force, whose files these are among others: the first whose two images are active
+-- the number, from 0, of the text in force among those that these files are of: the first whose two images are active
 abbrev pub text_in_force : List TablePair → Executive (List ℕ) → Option ℕ
 text_in_force pairs now = position (is_of_pair (active_in now (table_name Wdt)) (active_in now (table_name Adt))) pairs
 
--- so it is with the files that these texts compile to
+-- the same with the files that these texts compile to
 abbrev pub IsInForce : List (List ℕ) → Executive (List ℕ) → Option ℕ → Type 0
 IsInForce sources now force = (pairs : List TablePair) × AreAllCompiled sources pairs × (force ≡ text_in_force pairs now)

@@ -1,4 +1,4 @@
--- A run that goes record by record. This project's own.
+-- A run record by record. This project's own.
 use Rattle.std.specs.Prelude.{◌≡◌, ℕ, ◌<◌, ◌≤◌, Bool, false, List, [], ◌∷◌, ◌++◌, length, Option, Some, None, Result, Ok, Err, ⊤}
 use Rattle.std.specs.Option.{option_or}
 use Rattle.lc_model.specs.Kept.Summary.{LcOwn, AppState, LcState, SchState, CounterState, Other}
@@ -23,14 +23,14 @@ use Rattle.run_stepper.specs.declared.handled.Handled.{Handled}
 use Rattle.run_stepper.specs.declared.handled.Handled.TheVariants.{Whole, NoRecord, Part}
 use Rattle.run_stepper.specs.declared.stepping.Stepping.{Stepping}
 
--- its host, and what the last record led to
+-- its host, and the packets that the last record led to
 abbrev pub host_in : Stepping → Feeding
 host_in it = feeding_of meaning_of it.fed
 
 abbrev pub written_by : Stepping → List ℕ
 written_by it = it.written.bytes.items
 
--- why a run doesn't begin: the first text that doesn't compile, or want of memory
+-- the error of a run that did not begin: the first text that doesn't compile, or out of memory
 abbrev pub refusal_of : RunError → CourseError
 refusal_of (error.Compile text why) = Rules text why
 refusal_of other = Memory
@@ -39,11 +39,11 @@ abbrev pub IsRefusal : List (List ℕ) → CourseError → Type 0
 IsRefusal sources (Rules text why) = IsFirstRefused sources text why
 IsRefusal sources Memory = ⊤
 
--- so it is between two records
+-- its state between two calls
 abbrev pub IsAtRest : Stepping → Type 0
 IsAtRest it = IsReady (host_in it)
 
--- nothing has come: these texts are compiled, and the host is new, with this profile's own applications in stock, under this schedule
+-- these texts are compiled, and the host is new, with this profile's own applications in stock, under this schedule
 pub record BeginsWith (sources : List (List ℕ)) (schedule : Schedule) (it : Feeding) : Type 0 where
   pub stock : List Object
   pub profile : IsOfProfile schedule stock
@@ -52,7 +52,7 @@ pub record BeginsWith (sources : List (List ℕ)) (schedule : Schedule) (it : Fe
 
 -- ---- a record
 
--- what became of it, by the answer of the host
+-- the outcome, by the result of the host's call
 abbrev pub told_of : Result (Option ℕ) Halt → Result Handled CourseError
 told_of (Ok (Some total)) = Ok Whole
 told_of (Ok None) = Ok Part
@@ -61,7 +61,7 @@ told_of (Err (halt.Unsent sent)) = Err Memory
 told_of (Err halt.Fault) = Err Memory
 told_of (Err halt.Bound) = Err Memory
 
--- the host handles the record in front of what it holds: what it leads to is all that is written then
+-- the host handles the record in front of what it holds; the output is exactly what this record leads to
 pub record HasHandled (old new : Feeding) (written : List ℕ) (result : Result Handled CourseError) : Type 0 where
   pub answer : Result (Option ℕ) Halt
   pub failed : Bool
@@ -69,28 +69,28 @@ pub record HasHandled (old new : Feeding) (written : List ℕ) (result : Result 
   pub one : HandlesOne old new (record { gained = Some []; failed = failed }) (record { gained = Some written; failed = fails }) answer
   pub told : result ≡ told_of answer
 
--- the host takes these bytes behind what it holds, and handles the record in front
+-- the host takes these bytes after those that it holds, and handles the record in front
 abbrev pub HasStepped : List ℕ → Feeding → Feeding → List ℕ → Result Handled CourseError → Type 0
 HasStepped bytes old = HasHandled (fed_with bytes old)
 
 -- ---- a record by itself
 
--- bytes that are this record, and nothing else, as the definitions take them apart
+-- the records of bytes that are exactly this record, by the definitions
 abbrev pub one_record : StreamEntry → List StreamEntry × End
 one_record entry = (entry ∷ [], stream.Whole)
 
--- with none of its stream held
+-- the same without the held bytes
 abbrev pub holding_none : Feeding → Feeding
 holding_none it = record it { held = record it.held { bytes = [] } }
 
--- it is open, no fault was met in its stream, and no more of that is held than a longest record and a piece
+-- it is open, its stream had no fault so far, and it holds no more than a longest record and a piece
 pub record GoesOn (it : Feeding) : Type 0 where
   pub is_open : it.host.is_closed ≡ false
   pub good : it.held.is_bad ≡ false
   pub few : length it.held.bytes ≤ most_held
 
--- what stands in front is a record. What went last are its bytes and nothing else, the others are held, and all goes as if the host had
--- held none, and had taken this record.
+-- A record is in front. The last record's bytes are exactly this record's, the other bytes are still held, and the call has the same
+-- effect as that of a host that held nothing and took this record.
 pub record HandlesRecord (old new : Feeding) (written : List ℕ) : Type 0 where
   pub entry : StreamEntry
   pub front : front_of old.held ≡ stream.Record entry new.held.bytes
@@ -101,13 +101,13 @@ pub record HandlesRecord (old new : Feeding) (written : List ℕ) : Type 0 where
   pub texts : new.held.texts ≡ old.held.texts
   pub goes_on : GoesOn new
 
--- it is none, as if the host had held none, and had taken these bytes
+-- no valid record is in front; the call has the same result as that of a host that held nothing and took these bytes
 pub record MeetsNoRecord (old : Feeding) (written : List ℕ) : Type 0 where
   pub front : front_of old.held ≡ stream.NoRecord
   pub now : Feeding
   pub alone : HasStepped old.held.bytes (holding_none old) now written (Ok NoRecord)
 
--- less than a record is there, and nothing changes
+-- less than a record is held, and nothing changes
 pub record Waits (old new : Feeding) (written : List ℕ) : Type 0 where
   pub front : front_of old.held ≡ part_of old.held.bytes
   pub few : length old.held.bytes < 65547
@@ -115,7 +115,7 @@ pub record Waits (old new : Feeding) (written : List ℕ) : Type 0 where
   pub now : Feeding
   pub alone : HasStepped old.held.bytes (holding_none old) now written (Ok Part)
 
--- by what became of it
+-- one of the three, by the outcome
 abbrev pub HandlesAlone : Feeding → Feeding → List ℕ → Handled → Type 0
 HandlesAlone old new written Whole = HandlesRecord old new written
 HandlesAlone old new written NoRecord = MeetsNoRecord old written
@@ -123,7 +123,7 @@ HandlesAlone old new written Part = Waits old new written
 
 -- ---- the Limit Checker that runs
 
--- the engine of an object, where it is a Limit Checker
+-- the engine of an object, if it is a Limit Checker
 abbrev pub engine_by : AppState → Option LcOwn
 engine_by (LcState own) = Some own
 engine_by (SchState slots slot) = None
@@ -134,7 +134,7 @@ abbrev pub engine_of : Option Object → Option LcOwn
 engine_of None = None
 engine_of (Some object) = engine_by object.state
 
--- that of the least seat with a Limit Checker
+-- the engine of the lowest seat with a Limit Checker
 abbrev pub engine_among : List (Option Object) → Option LcOwn
 engine_among [] = None
 engine_among (place ∷ others) = option_or (engine_of place) (engine_among others)

@@ -1,4 +1,4 @@
--- A run as the steps that it takes, record by record. This project's own.
+-- A run as a list of steps, one for each record. This project's own.
 use Rattle.std.specs.Prelude.{◌≡◌, ℕ, List, [], ◌∷◌, ◌++◌, length, map, Ok}
 use Rattle.lc_model.specs.Host.Schedule.{Schedule}
 use Rattle.lc_model.specs.Host.Stream.{records_of}
@@ -9,39 +9,39 @@ use Rattle.run_stepper.specs.Trace.{HasRun, Part, ending_by, moment_in}
 use Rattle.run_stepper.specs.declared.ending.Ending.{Ending}
 use Rattle.run_stepper.specs.declared.handled.Handled.TheVariants as handled
 
--- a record that was handled: its bytes, the host behind it, and the packets that it led to
+-- a handled record: its bytes, the host after it, and the packets that it led to
 pub record Step : Type 0 where
   pub bytes : List ℕ
   pub host : Feeding
   pub written : List ℕ
 
--- the host goes through these records
+-- the host handles these records, one by one
 abbrev pub Went : Feeding → List Step → Feeding → Type 0
 Went old [] new = old ≡ new
 Went old (step ∷ steps) new = HasStepped step.bytes old step.host step.written (Ok handled.Whole) × Went step.host steps new
 
--- the bytes of all records, one behind the other
+-- the bytes of all records, one after the other
 abbrev pub bytes_of : List Step → List ℕ
 bytes_of [] = []
 bytes_of (step ∷ steps) = step.bytes ++ bytes_of steps
 
--- what a record led to, with its moment
+-- the packets that a record led to, with its moment
 abbrev pub part_of : Step → Part
 part_of step = record { moment = moment_in step.bytes; packets = step.written }
 
--- these are the records of the stream up to its first fault, as the definitions take it apart where there are so many texts: as many as
--- there are, the bytes of each are that record and nothing else, and the run ends as the stream does
+-- these are all records of the stream up to its first fault, by the definitions, with this number of texts: the bytes of each step are
+-- exactly its record, and the run ends as the stream does
 pub record AreItsRecords (texts : ℕ) (stream : List ℕ) (steps : List Step) (ending : Ending) : Type 0 where
   pub each : map (λ (step : Step). records_of texts step.bytes) steps ≡ map one_record (records_of texts stream).0
   pub ends : ending ≡ ending_by (length steps) (records_of texts stream).1
 
--- these steps, the last of which left the host so, are a run of these texts under this schedule over the stream
+-- these steps are a run of these texts under this schedule over the stream, and `last` is the host after them
 abbrev pub HaveRun : List (List ℕ) → Schedule → List ℕ → List Step → Ending → Feeding → Type 0
 HaveRun sources schedule stream steps ending last =
     HasRun sources schedule stream (record { parts = map part_of steps; ending = ending }) (executive_in last.host)
 
--- a host to which nothing has come, and which goes through the records of a stream, has run over it: each record led to the packets that
--- the definitions call for
+-- a new host that handles the records of a stream has run over the stream: each record led to the packets that the definitions call
+-- for
 abbrev pub StepsAreARun : Type 0
 StepsAreARun = (sources : List (List ℕ)) (schedule : Schedule) (stream : List ℕ) (first last : Feeding) (steps : List Step) (rest : List ℕ) (ending : Ending) →
     BeginsWith sources schedule first → Went first steps last → bytes_of steps ++ rest ≡ stream → AreItsRecords (length first.files) stream steps ending → HaveRun sources schedule stream steps ending last

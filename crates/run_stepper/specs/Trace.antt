@@ -1,4 +1,4 @@
--- What each record of a stream leads to, as the definitions have it. This project's own.
+-- The packets that each record of a stream leads to, by the definitions. This project's own.
 use Rattle.std.specs.Prelude.{◌≡◌, ℕ, zero, suc, ◌+◌, ◌&&◌, List, [], ◌∷◌, ◌++◌, drop, length, map, min, nat_le, nat_lt, slice_get, take, Option, Some, None, if◌then◌else◌}
 use Rattle.std.specs.List.{AllByRecursion, concat}
 use Rattle.std.specs.Option.{option_or}
@@ -27,21 +27,21 @@ use Rattle.run_stepper.specs.declared.standing.RuleStanding.TheVariants as stand
 use Rattle.run_stepper.specs.declared.ending.Ending.{Ending}
 use Rattle.run_stepper.specs.declared.ending.Ending.TheVariants as ended
 
--- the bytes from the front of a record to its end, or to the end of the stream where that comes first
+-- the size of the record in front, by its header, or of the rest of the stream if that is shorter
 abbrev pub size_in_front : List ℕ → ℕ
 size_in_front bytes =
     if nat_lt (length bytes) header_size then length bytes else min (header_size + body_size bytes) (length bytes)
 
--- the moment of the record in front; second 0 where its header isn't whole
+-- the moment of the record in front; second 0 if its header is cut short
 abbrev pub moment_in : List ℕ → Moment
 moment_in bytes = if nat_lt (length bytes) header_size then record { seconds = 0; subseconds = 0 } else moment_of bytes
 
--- a record's moment, and what it led to: packets, one behind the other
+-- a record's moment, and the packets that it led to, one after the other
 pub record Part : Type 0 where
   pub moment : Moment
   pub packets : List ℕ
 
--- what each record of a stream led to, and how the stream ended
+-- the packets that each record of a stream led to, and how the stream ended
 pub record Traced : Type 0 where
   pub parts : List Part
   pub ending : Ending
@@ -53,20 +53,19 @@ parts_from meanings e (entry ∷ entries) =
     let step : Written (List ℕ) = step_by on_board entry.moment e (input_of meanings entry.contents) in
     record { moment = entry.moment; packets = concat step.1 } ∷ parts_from meanings step.0 entries
 
--- one behind the other they are what the host in numbers writes over these records, as the promise of a run has it
+-- one after the other they are the output of the host in numbers over these records, as in the promise of a run
 abbrev pub PartsAreTheOutput : Type 0
 PartsAreTheOutput = (meanings : FileMeanings (List ℕ)) (e : Executive (List ℕ)) (entries : List StreamEntry) →
     concat (map (λ (part : Part). part.packets) (parts_from meanings e entries)) ≡ concat (written_from on_board e meanings entries)
 
--- how a stream ended, behind so many records
+-- how a stream ended, after this number of records
 abbrev pub ending_by : ℕ → End → Ending
 ending_by count Whole = ended.Whole count
 ending_by count (Bad n) = ended.NoRecord n
 ending_by count (Truncated n) = ended.Cut n
 
--- Of the records of the stream up to its first fault, each led to the packets that the definitions call for: from a host to
--- which nothing has come, with the files that these texts compile to and this profile's objects in stock. Behind them the
--- objects and services are these.
+-- Each record of the stream, up to the first fault, led to the packets that the definitions call for, from a new host with the
+-- files that these texts compile to and this profile's objects in stock. `now` is the objects and services after these records.
 pub record HasRun (sources : List (List ℕ)) (schedule : Schedule) (stream : List ℕ) (t : Traced) (now : Executive (List ℕ)) : Type 0 where
   pub pairs : List TablePair
   pub compiled : AreAllCompiled sources pairs
@@ -77,13 +76,13 @@ pub record HasRun (sources : List (List ℕ)) (schedule : Schedule) (stream : Li
   pub ends : t.ending ≡ ending_by (length t.parts) (records_of (length pairs) stream).1
   pub stands : now ≡ executive_after on_board (first_executive members) (meanings_of pairs) (records_of (length pairs) stream).0
 
--- what each record led to, and how the stream ended
+-- the same for some objects and services after the records
 abbrev pub IsTraced : List (List ℕ) → Schedule → List ℕ → Traced → Type 0
 IsTraced sources schedule stream t = (now : Executive (List ℕ)) × HasRun sources schedule stream t now
 
--- ---- how a rule stands
+-- ---- the state and last result of a rule
 
--- the engine of the least seat with a Limit Checker, where one runs
+-- the engine of the lowest seat with a Limit Checker, if one runs
 abbrev pub engine_at : Option Member → Option LcOwn
 engine_at None = None
 engine_at (Some member) = engine_by member.state
@@ -92,7 +91,7 @@ abbrev pub engine_in : List (Option Member) → Option LcOwn
 engine_in [] = None
 engine_in (place ∷ others) = option_or (engine_at place) (engine_in others)
 
--- a rule by its point, where there is one
+-- the standing of a rule by its point, if there is one
 abbrev pub standing_by : Option (Point Tally) → RuleStanding
 standing_by None = standing.NoRule
 standing_by (Some point) = standing.Stands point.state point.past.last
@@ -101,43 +100,43 @@ abbrev pub standing_in : Option LcOwn → ℕ → RuleStanding
 standing_in None rule = standing.Stopped
 standing_in (Some own) rule = standing_by (slice_get own.points rule)
 
--- so the rule with this number stands behind the records of a stream
+-- the standing of the rule with this number after the records of a stream
 abbrev pub IsStanding : List (List ℕ) → Schedule → List ℕ → ℕ → RuleStanding → Type 0
 IsStanding sources schedule stream rule found =
     (t : Traced) × (now : Executive (List ℕ)) × HasRun sources schedule stream t now × (found ≡ standing_in (engine_in now.seats) rule)
 
 -- ---- packet by packet
 
--- a packet that came, with the number of the record that led to it, from 0, and its moment
+-- a packet of a run, with the number, from 0, and the moment of the record that led to it
 pub record Arrived : Type 0 where
   pub place : ℕ
   pub moment : Moment
   pub packet : List ℕ
 
--- the bytes of the packet in front, as its header says
+-- the size in bytes of the packet in front, by its header
 abbrev pub packet_size : List ℕ → ℕ
 packet_size bytes = u16_at bytes 4 + length_offset
 
--- the packet in front, where all of it is there, and those of the rest
+-- the packet in front, if it is whole, and the packets of the rest
 abbrev pub packets_by : (List ℕ → List (List ℕ)) → List ℕ → List (List ℕ)
 packets_by others bytes =
     if nat_le primary_header_size (length bytes) && nat_le (packet_size bytes) (length bytes)
     then take (packet_size bytes) bytes ∷ others (drop (packet_size bytes) bytes) else []
 
--- at most so many packets
+-- at most this number of packets
 unfoldable pub packets_within : ℕ → List ℕ → List (List ℕ)
 packets_within zero bytes = []
 packets_within (suc most) bytes = packets_by (packets_within most) bytes
 
--- the packets that stand one behind the other
+-- the packets of bytes in which they stand one after the other
 abbrev pub packets_in : List ℕ → List (List ℕ)
 packets_in bytes = packets_within (length bytes) bytes
 
--- those to which a record led
+-- the packets of one record
 abbrev pub arrived_by : ℕ → Part → List Arrived
 arrived_by place part = map (λ packet. record { place = place; moment = part.moment; packet = packet }) (packets_in part.packets)
 
--- those to which these records led, the first of which has this number
+-- the packets of several records, the first of which has this number
 abbrev pub arrived_from : ℕ → List Part → List Arrived
 arrived_from place [] = []
 arrived_from place (part ∷ parts) = arrived_by place part ++ arrived_from (place + 1) parts

@@ -1,4 +1,4 @@
--- A run that goes over a stream from place to place. This project's own.
+-- A run that moves over a stream from place to place. This project's own.
 use Rattle.std.specs.Prelude.{◌≡◌, ℕ, ◌+◌, ◌≤◌, List, [], length, map, take, drop, Option, Some, None}
 use Rattle.lc_model.specs.Host.Schedule.{Schedule}
 use Rattle.lc_model.specs.Host.Stream.{End, StreamEntry, all_kinds, records_numbered, records_of}
@@ -19,11 +19,11 @@ pub record Course : Type 0 where
   pub schedule : Schedule
   pub stream : List ℕ
 
--- of a walk
+-- the course of a walk
 abbrev pub course_of : Walk → Course
 course_of walk = record { sources = sources_of walk.inputs.texts.now; schedule = walk.inputs.schedule.now; stream = walk.stream.now }
 
--- how many bytes of its stream the records have that were handled
+-- the length in bytes of all handled records
 abbrev pub place_of : Walk → ℕ
 place_of walk = walk.place
 
@@ -33,14 +33,14 @@ standing_of walk = executive_in (host_in walk.stepping).host
 
 -- ---- where a walk is
 
--- what is left of a stream has no record in front, and the stream ends so behind so many records
+-- the rest of a stream has no record in front, and `ending` is how the stream ends after `count` records
 pub record HasNoneInFront (texts : ℕ) (rest : List ℕ) (count : ℕ) (ending : Ending) : Type 0 where
   pub end : End
   pub none : records_numbered all_kinds texts (1 + count) rest ≡ ([], end)
   pub is : ending ≡ ending_by count end
 
--- The records of the stream up to this place were handled, one by one, from a host to which nothing had come; each led to its part. Where
--- the walk has met a fault, what comes next is no record, and the objects and services are those behind the last one.
+-- The records of the stream up to this place were handled, one by one, from a new host; each led to its part. If the walk has met a
+-- fault, no valid record comes next, and the objects and services are those after the last one.
 pub record HasGone (course : Course) (place : ℕ) (parts : List Part) (stop : Option Ending) (it : Feeding) : Type 0 where
   pub first : Feeding
   pub begins : BeginsWith course.sources course.schedule first
@@ -63,23 +63,23 @@ pub record IsUnderWay (walk : Walk) : Type 0 where
 
 -- ---- where it stands
 
--- behind these bytes, over which these texts are run under this schedule, the objects and services are these
+-- the objects and services after a run of these texts under this schedule over these bytes
 abbrev pub StandsBehind : List (List ℕ) → Schedule → List ℕ → Executive (List ℕ) → Type 0
 StandsBehind sources schedule stream now = (t : Traced) × HasRun sources schedule stream t now
 
--- a walk stands behind the bytes of its stream up to a place
+-- the objects and services of a walk are those after the bytes of its stream up to a place
 abbrev pub StandsAt : Walk → ℕ → Type 0
 StandsAt walk place = let course : Course = course_of walk in StandsBehind course.sources course.schedule (take place course.stream) (standing_of walk)
 
--- how its stream ended: at the fault that it met, or else behind its last record
+-- how its stream ended: at the fault that it met, or else after its last record
 abbrev pub ending_after : ℕ → Option Ending → Ending
 ending_after count None = ended.Whole count
 ending_after count (Some ending) = ending
 
--- what each record led to
+-- the packets that each record led to, and how the stream ended
 abbrev pub traced_by : Walk → Traced
 traced_by walk = record { parts = walk.parts.items; ending = ending_after (length walk.parts.items) walk.stop }
 
--- it has gone over the whole stream
+-- it has run over the whole stream
 abbrev pub HasFinished : Walk → Type 0
 HasFinished walk = let course : Course = course_of walk in HasRun course.sources course.schedule course.stream (traced_by walk) (standing_of walk)

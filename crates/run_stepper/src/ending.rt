@@ -3,12 +3,12 @@
 /// How a stream ended.
 #[derive(Clone, Copy, Debug, PartialEq, Eq)]
 pub enum Ending {
-    /// Behind its last record; there were so many.
+    /// After its last record. `records` is the number of records.
     Whole { records: u64 },
-    /// Record `n` is none. Records count from 1.
+    /// Record `n`, counted from 1, is not a valid record.
     NoRecord { n: u64 },
-    /// Inside record `n`.
+    /// Inside record `n`, counted from 1.
     Cut { n: u64 },
-    /// Behind as many reads as may be made.
+    /// At the bound of reads. A `Walk` never ends so.
     Bound,
 }

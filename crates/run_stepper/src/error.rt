@@ -1,4 +1,4 @@
-//! Why there is no course.
+//! The errors of a run over a stream.
 
 ghost use Rattle.std.specs.Prelude.{◌≡◌};
 ghost use Rattle.run_stepper.specs.declared.error.CourseError.TheVariants as error;
@@ -10,7 +10,7 @@ use thiserror::Error;
 /// Why rule texts weren't run over a stream.
 #[derive(Clone, Copy, Debug, PartialEq, Eq, Error)]
 pub enum CourseError {
-    /// A rule text does not compile. Texts count from 0.
+    /// The rule text with this number, from 0, does not compile.
     #[error("text {text}: {error}")]
     Rules { text: usize, error: CompileError },
     /// Out of memory.

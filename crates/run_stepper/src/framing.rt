@@ -1,4 +1,4 @@
-//! Where the records of a stream lie (this project's own format): kind, moment, length and body.
+//! The limits of records in a stream (this project's own format): kind, moment, length and body.
 
 ghost use Rattle.std.specs.Prelude.{◌≡◌, ◌<◌, ◌≤◌, length};
 ghost use Rattle.run_stepper.specs.Trace.{moment_in, size_in_front};
@@ -6,7 +6,7 @@ ghost use Rattle.run_stepper.specs.Trace.{moment_in, size_in_front};
 use lc_model::Moment;
 use lc_model::stream::{self, HEADER, body_size};
 
-/// The bytes from the front of a record to its end, or to the end of the stream where that comes first.
+/// The size in bytes of the record in front, by its header, or of the rest of the stream if that is shorter.
 pub fn record_size(rest: &[u8]) -> usize
     requires { 0 < length rest.now }
     ensures exact { result ≡ size_in_front rest.now }
@@ -19,7 +19,7 @@ pub fn record_size(rest: &[u8]) -> usize
     body_size(rest).saturating_add(HEADER).min(rest.len())
 }
 
-/// The moment of a record; second 0 where its header isn't whole.
+/// The moment of a record; second 0 if its header is cut short.
 pub fn moment_of(record: &[u8]) -> Moment
     ensures { result ≡ moment_in «record».now }
 {

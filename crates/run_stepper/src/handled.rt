@@ -1,12 +1,12 @@
-//! What becomes of a record.
+//! The outcome of one call that handles a record.
 
-/// What became of the bytes of a record.
+/// The outcome of one call that handles a record.
 #[derive(Clone, Copy, Debug, PartialEq, Eq)]
 pub enum Handled {
     /// The record was handled.
     Whole,
-    /// They are no record; nothing behind them is handled.
+    /// The next bytes are not a valid record. No later call handles anything.
     NoRecord,
-    /// They are not all bytes of a record.
+    /// No whole record is held yet; nothing was handled.
     Part,
 }

@@ -1,4 +1,4 @@
-//! A run that goes record by record, and what each record of a stream led to.
+//! A run over a stream record by record, which keeps the packets that each record led to.
 #![tactic(auto)]
 
 mod ending;
@@ -15,10 +15,11 @@ mod walk;
 
 pub use ending::Ending;
 pub use error::CourseError;
+pub use framing::moment_of;
 pub use handled::Handled;
 pub use plan::RunInputs;
 pub use rule_texts::{compile_texts, read_texts};
 pub use standing::RuleStanding;
 pub use stepping::Stepping;
 pub use trace::{Came, Trace};
-pub use walk::{Walk, trace_of};
+pub use walk::Walk;

@@ -1,4 +1,4 @@
-//! The rule texts of a run, which are read.
+//! Reads and compiles the rule texts of a run.
 
 ghost use Rattle.std.specs.Prelude.{◌≡◌, ◌<◌, None, Some, IfErr, IfOk, length, slice_get};
 ghost use Rattle.std.specs.List.{AllByRecursion};
@@ -12,7 +12,7 @@ use crate::error::CourseError;
 use rpn_compiler::{CompileError, RuleText, TablePair, compile};
 use std::alloc::Global;
 
-/// Why the text with this number isn't run.
+/// The error for the text with this number.
 fn refusal(text: usize, error: CompileError) -> CourseError
     ensures { result ≡ refusal_of (refusal_for text error) }
 {
@@ -30,7 +30,7 @@ fn text_at<'a>(texts: &[&'a [u8]], number: usize) -> &'a [u8]
     texts[number]
 }
 
-/// Reads valid rule texts, in their order.
+/// Reads rule texts, in their order.
 ///
 /// Errors: `Rules` with the first text that doesn't compile, numbered from 0; `Memory`.
 pub fn read_texts<'a>(alloc: Global, texts: &[&'a [u8]]) -> Result<Vec<RuleText<'a>>, CourseError>
@@ -49,7 +49,7 @@ pub fn read_texts<'a>(alloc: Global, texts: &[&'a [u8]]) -> Result<Vec<RuleText<
     Ok(found)
 }
 
-/// The table files of rule texts, in their order.
+/// Compiles rule texts to their table files, in their order.
 ///
 /// Errors: `Rules` with the first text that doesn't compile, numbered from 0; `Memory`.
 pub fn compile_texts(alloc: Global, texts: &[&[u8]]) -> Result<Vec<TablePair>, CourseError>

@@ -1,4 +1,4 @@
-//! How a rule stands.
+//! The state and last result of a rule.
 
 ghost use Rattle.std.specs.Prelude.{◌≡◌, option_map};
 ghost use Rattle.run_stepper.specs.Trace.{standing_in};
@@ -6,21 +6,21 @@ ghost use Rattle.run_stepper.specs.Trace.{standing_in};
 use lc_model::{ApMode, ApResult};
 use limit_engine::Engine;
 
-/// How a rule stands.
+/// The state and last result of a rule at a place of the stream.
 #[derive(Clone, Copy, Debug, PartialEq, Eq)]
 pub enum RuleStanding {
-    /// The Limit Checker doesn't run.
+    /// No Limit Checker runs.
     Stopped,
-    /// The tables in force have no rule of this number.
+    /// The tables in force have no rule with this number.
     NoRule,
-    /// It is in this state, with this last result, where it has one.
+    /// The rule's state, and its last result; none before its first sample.
     Stands {
         state: ApMode,
         last: Option<ApResult>,
     },
 }
 
-/// How the rule with this number stands in an engine, where there is one.
+/// The state and last result of the rule with this number in an engine, if there is one.
 pub(crate) fn standing_in(checker: Option<&Engine>, rule: usize) -> RuleStanding
     ensures { result ≡ standing_in (option_map (λ engine. engine.now) checker.entry) rule }
 {

@@ -1,4 +1,4 @@
-//! A run that goes record by record, and lets be seen how the Limit Checker stands behind each.
+//! A run record by record: after each one the caller can inspect the Limit Checker.
 
 ghost use Rattle.std.specs.Prelude.{◌≡◌, ◌<◌, ◌≤◌, drop, length, option_map, IfErr, IfOk, Some};
 ghost use Rattle.app_host.specs.Delivered.{executive_in};
@@ -25,7 +25,7 @@ use table_file::table_name;
 /// The bytes of the two headers in front of the image in a table file.
 const HEADERS_LENGTH: usize = 116;
 
-/// What one record leads to, in memory. A write fails only for want of memory.
+/// Collects in memory the packets that one record leads to. A write fails only if memory runs out.
 #[derive(Drop)]
 struct Written {
     bytes: Vec<u8>,
@@ -48,14 +48,14 @@ impl ByteSink for Written {
     }
 }
 
-/// A run of this profile's stock, record by record.
+/// A run record by record, with this profile's applications. The caller feeds the stream.
 #[derive(Drop)]
 pub struct Stepping {
     fed: FedHost<Box<Member>>,
     written: Written,
 }
 
-/// Why a run doesn't begin.
+/// The error of a run that did not begin.
 fn course_error(error: RunError) -> CourseError
     ensures { result ≡ refusal_of error }
 {
@@ -73,7 +73,7 @@ fn image_of(file: &[u8]) -> &[u8]
     image
 }
 
-/// Whether an image, where there is one, is that of a table file.
+/// Whether there is an image, and it is that of the table file.
 fn is_of_file(image: Option<&[u8]>, file: &[u8]) -> bool
     ensures { result ≡ is_of_file (option_map (λ image. image.now) image.entry) file.now }
 {
@@ -92,7 +92,9 @@ fn is_of_pair(wdt: Option<&[u8]>, adt: Option<&[u8]>, pair: &TablePair) -> bool
 }
 
 impl Stepping {
-    /// Compiles the rule texts, and makes a host, to which nothing has come.
+    /// Compiles the rule texts and creates a host that has not received anything yet.
+    ///
+    /// Errors: `Rules` with the first text that doesn't compile; `Memory`.
     pub fn new(alloc: Global, texts: &[&[u8]], schedule: &Schedule) -> Result<Stepping, CourseError>
         ensures ready { IfOk result IsAtRest }
         ensures begun { IfOk result
@@ -112,7 +114,8 @@ impl Stepping {
         }
     }
 
-    /// Takes a piece of the stream behind what is held, as much of it as leaves at most 73,739 bytes held. Answers how much.
+    /// Takes a piece of the stream, and returns how many of its bytes it took: as many as leave at most 73,739 bytes held. After
+    /// an invalid record it takes nothing.
     pub fn feed(&mut self, piece: &[u8]) -> usize
         requires ready { IsAtRest self.old }
         ensures ready { IsAtRest self.new }
@@ -122,7 +125,8 @@ impl Stepping {
         self.fed.feed(piece)
     }
 
-    /// Handles the next record, where a whole one is held. What it leads to is there until the next one is handled.
+    /// Handles the next record, if a whole one is held. `packets` has what it leads to until the next call. The only error is
+    /// `Memory`.
     pub fn handle(&mut self) -> Result<Handled, CourseError>
         requires ready { IsAtRest self.old }
         ensures ready { IsAtRest self.new }
@@ -141,7 +145,7 @@ impl Stepping {
         }
     }
 
-    /// Takes these bytes behind what is held, and handles the next record.
+    /// Feeds these bytes, and handles the next record. The only error is `Memory`.
     pub(crate) fn step(&mut self, bytes: &[u8]) -> Result<Handled, CourseError>
         requires ready { IsAtRest self.old }
         ensures ready { IsAtRest self.new }
@@ -153,14 +157,14 @@ impl Stepping {
         self.handle()
     }
 
-    /// The bytes of the record that was handled last, until a piece comes: its header, and its body.
+    /// The bytes of the record that was handled last, header and body. Valid until the next `feed`.
     pub fn last_record(&self) -> &[u8]
         ensures { result.now ≡ (host_in self.now).held.last }
     {
         self.fed.last_record()
     }
 
-    /// How many bytes are held: never more than 73,739.
+    /// How many bytes of the stream are held and not handled yet, at most 73,739.
     pub fn held_size(&self) -> usize
         ensures held { result ≡ length (host_in self.now).held.bytes }
         ensures few { length (host_in self.now).held.bytes ≤ most_held }
@@ -168,14 +172,14 @@ impl Stepping {
         self.fed.held_size()
     }
 
-    /// The packets that the last record led to, one behind the other.
+    /// The packets that the last call of `handle` wrote, one after the other; none if it handled no record.
     pub fn packets(&self) -> &[u8]
         ensures { result.now ≡ written_by self.now }
     {
         self.written.bytes.as_slice()
     }
 
-    /// The engine of the Limit Checker that runs, where one does.
+    /// The engine of the running Limit Checker; of several the one on the lowest seat. None if none runs.
     pub fn checker(&self) -> Option<&Engine>
         requires { IsAtRest self.now }
         ensures { option_map (λ engine. engine.now) result ≡
@@ -189,7 +193,7 @@ impl Stepping {
         None
     }
 
-    /// The engine of the Limit Checker on this seat, where one is there.
+    /// The engine of the Limit Checker on this seat, if there is one.
     fn engine_at(&self, number: u8) -> Option<&Engine>
         requires { number < 8 }
         ensures { option_map (λ engine. engine.now) result ≡
@@ -204,8 +208,8 @@ impl Stepping {
         }
     }
 
-    /// The number, from 0, of the rule text in force, of those whose table files these are: the first whose images are the active
-    /// ones of both tables. None where no text is.
+    /// The number, from 0, of the rule text in force among those that these table files are of: the first whose images are the
+    /// active ones of both tables. None if there is no such text.
     pub fn text_in_force(&self, pairs: &[TablePair]) -> Option<usize>
         ensures { result ≡ text_in_force pairs.now (executive_in (host_in self.now).host) }
     {
@@ -214,7 +218,7 @@ impl Stepping {
         pairs.iter().position(|pair| is_of_pair(wdt, adt, pair))
     }
 
-    /// All that run retire, and all applications are dropped.
+    /// Ends the run: all running applications are retired, and all applications dropped.
     pub fn close(self)
         requires { IsAtRest self }
     {

@@ -1,4 +1,4 @@
-//! What each record of a stream led to.
+//! The packets that each record of a stream led to.
 
 ghost use Rattle.std.specs.Prelude.{◌≡◌, ◌++◌, IfOk};
 ghost use Rattle.run_stepper.specs.Trace.{arrived_by, arrived_from};
@@ -9,7 +9,7 @@ use lc_model::packet::first_packet;
 use std::alloc::{AllocError, Global};
 use std::marker::Model;
 
-/// A record's moment, and what it led to: packets, one behind the other.
+/// A record's moment, and the packets that it led to, one after the other.
 #[derive(Drop)]
 pub(crate) struct Led {
     moment: Moment,
@@ -25,7 +25,7 @@ impl Model for Led {
 }
 
 impl Led {
-    /// These packets, at this moment.
+    /// Copies these packets of a record at this moment. The only error is out of memory.
     pub(crate) fn of(alloc: Global, moment: Moment, packets: &[u8]) -> Result<Led, AllocError>
         ensures { IfOk result (λ led. led ≡ record { moment = moment; packets = packets.now }) }
     {
@@ -36,11 +36,14 @@ impl Led {
     }
 }
 
-/// A packet that came, with the number of the record that led to it, from 0, and its moment.
+/// A packet of a run, with the record that led to it.
 #[derive(Drop)]
 pub struct Came<'a> {
+    /// The number of the record, from 0.
     pub place: usize,
+    /// The moment of the record.
     pub moment: Moment,
+    /// All bytes of the packet.
     pub packet: &'a [u8],
 }
 
@@ -52,7 +55,7 @@ impl<'a> Model for Came<'a> {
     ghost view = { λ came. record { place = came.place; moment = came.moment; packet = came.packet.now } };
 }
 
-/// A run over a whole stream: what each of its records led to, up to the first fault, and how it ended.
+/// A finished run over a stream: the packets that each record led to, up to the first fault, and how the stream ended.
 #[derive(Drop)]
 pub struct Trace {
     pub(crate) parts: Vec<Led>,
@@ -67,7 +70,7 @@ impl Model for Trace {
     ghost view = { λ t. record { parts = t.parts.items; ending = t.ending } };
 }
 
-/// The packets to which the record with this number led, behind others. Out of memory is the only error.
+/// Appends the packets of the record with this number. The only error is out of memory.
 fn push_packets<'a>(came: &mut Vec<Came<'a>>, place: usize, led: &'a Led) -> Result<(), AllocError>
     ensures { IfOk result (λ _. came.new.items ≡ came.old.items ++ arrived_by place led.now) }
 {
@@ -91,7 +94,7 @@ impl Trace {
         self.ending
     }
 
-    /// The packets that came, each with its record, in order. Out of memory is the only error.
+    /// All packets of the run, each with its record, in order. The only error is out of memory.
     pub fn came(&self, alloc: Global) -> Result<Vec<Came<'_>>, AllocError>
         ensures { IfOk result (λ came. came.items ≡ arrived_from 0 self.now.parts) }
     {

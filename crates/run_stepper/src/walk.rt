@@ -1,11 +1,11 @@
-//! A run over a stream that goes from place to place, and lets be seen how it stands at each.
+//! A run over a stream in memory that moves to places of it: the caller can inspect rules and texts at each place.
 
 ghost use Rattle.std.specs.Prelude.{◌≡◌, ◌<◌, ◌≤◌, false, length, true, IfErr, IfOk};
 ghost use Rattle.flight_core.specs.Compiled.{sources_of};
 ghost use Rattle.run_stepper.specs.declared.error.CourseError.TheVariants.{Memory};
 ghost use Rattle.run_stepper.specs.Force.{text_in_force};
 ghost use Rattle.run_stepper.specs.Stepping.{IsAtRest, IsRefusal};
-ghost use Rattle.run_stepper.specs.Trace.{IsTraced, engine_in, standing_in};
+ghost use Rattle.run_stepper.specs.Trace.{engine_in, standing_in};
 ghost use Rattle.run_stepper.specs.Walk.{HasFinished, IsUnderWay, StandsAt, course_of, place_of, standing_of, traced_by};
 
 use crate::ending::Ending;
@@ -17,10 +17,10 @@ use crate::standing::{RuleStanding, standing_in};
 use crate::stepping::Stepping;
 use crate::trace::{Led, Trace};
 use rpn_compiler::TablePair;
-use schedules::Schedule;
 use std::alloc::Global;
 
-/// A run over a stream, from place to place. What its records led to is kept.
+/// A run over a stream that moves forward from place to place. Places are counted in bytes, from 0. It keeps the packets that
+/// each record led to.
 #[derive(Drop)]
 pub struct Walk<'a> {
     alloc: Global,
@@ -33,7 +33,7 @@ pub struct Walk<'a> {
 }
 
 impl<'a> Walk<'a> {
-    /// Compiles the rule texts, and begins a run of them over this stream, of which no record is handled yet.
+    /// Compiles the rule texts and begins a run over this stream, before its first record.
     ///
     /// Errors: `Rules` with the first text that doesn't compile, numbered from 0; `Memory`.
     pub fn begin(
@@ -62,7 +62,7 @@ impl<'a> Walk<'a> {
         })
     }
 
-    /// Handles the record in front, where it ends up to this place of the stream, and answers whether there was one.
+    /// Handles the next record if it ends at or before this place of the stream. Returns whether it did.
     fn advance(&mut self, to: usize) -> Result<bool, CourseError>
         requires under_way { IsUnderWay self.old }
         ensures ready { IsAtRest self.new.stepping }
@@ -108,8 +108,8 @@ impl<'a> Walk<'a> {
         }
     }
 
-    /// Handles the records that end up to this place of the stream, which is not before the last one that was asked for. It stands then
-    /// as the texts stand behind the bytes in front of that place.
+    /// Handles the records that end at or before this place of the stream, up to the first fault. The place must not be before that
+    /// of an earlier call. The run is then as after the bytes before this place. The only error is `Memory`.
     pub fn go_to(&mut self, place: usize) -> Result<(), CourseError>
         requires under_way { IsUnderWay self.old }
         ensures ready { IsAtRest self.new.stepping }
@@ -125,7 +125,7 @@ impl<'a> Walk<'a> {
         Ok(())
     }
 
-    /// How the rule with this number, from 0, stands where the walk is.
+    /// The state and last result, at the present place, of the rule with this number, from 0.
     pub fn rule_standing(&self, rule: usize) -> RuleStanding
         requires under_way { IsUnderWay self.now }
         ensures { result ≡ standing_in (engine_in (standing_of self.now).seats) rule }
@@ -133,21 +133,22 @@ impl<'a> Walk<'a> {
         standing_in(self.stepping.checker(), rule)
     }
 
-    /// The number, from 0, of the rule text in force where the walk is, of those whose table files these are; none where no text is.
+    /// The number, from 0, of the rule text in force at the present place, among those that these table files are of. None if there
+    /// is no such text.
     pub fn text_in_force(&self, pairs: &[TablePair]) -> Option<usize>
         ensures { result ≡ text_in_force pairs.now (standing_of self.now) }
     {
         self.stepping.text_in_force(pairs)
     }
 
-    /// How many bytes of the stream the records have that were handled.
+    /// The present place: the length in bytes of all handled records.
     pub fn place(&self) -> usize
         ensures { result ≡ place_of self.now }
     {
         self.place
     }
 
-    /// Handles all records that are left, up to the first fault.
+    /// Handles all records that are left, up to the first fault. The only error is `Memory`.
     pub fn finish(&mut self) -> Result<(), CourseError>
         requires under_way { IsUnderWay self.old }
         ensures ready { IsAtRest self.new.stepping }
@@ -158,7 +159,7 @@ impl<'a> Walk<'a> {
         self.go_to(self.stream.len())
     }
 
-    /// Ends the run, and answers what its records led to.
+    /// Ends the run. Returns the packets that its records led to, and how the stream ended.
     pub fn close(self) -> Trace
         requires ready { IsAtRest self.stepping }
         ensures { result ≡ traced_by self.entry }
@@ -177,23 +178,4 @@ impl<'a> Walk<'a> {
         let ending = stop.unwrap_or(Ending::Whole { records });
         Trace { parts, ending }
     }
-}
-
-/// Runs rule texts over a stream, record by record, and keeps what each record led to.
-///
-/// Errors: `Rules` with the first text that doesn't compile; `Memory`.
-pub fn trace_of(
-    alloc: Global,
-    texts: &[&[u8]],
-    schedule: &Schedule,
-    stream: &[u8],
-) -> Result<Trace, CourseError>
-    ensures traced { IfOk result (IsTraced (sources_of texts.now) schedule.now stream.now) }
-    ensures refused { IfErr result (IsRefusal (sources_of texts.now)) }
-{
-    let mut walk = Walk::begin(alloc, RunInputs { texts, schedule }, stream)?;
-    let finished = walk.finish();
-    let trace = walk.close();
-    finished?;
-    Ok(trace)
 }

@@ -17,11 +17,11 @@ number_in_front text = decimal_number 5 (digits_in_front text)
 abbrev pub begins : List ℕ → List ℕ → Bool
 begins words text = nat_le (length words) (length text) && bytes_eq (take (length words) text) words
 
--- the number behind these words where the text begins with them, else what was found before
+-- the number after these words if the text begins with them, else what was found before
 abbrev pub found_in_front : List ℕ → Option ℕ → List ℕ → Option ℕ
 found_in_front words found text = if begins words text then number_in_front (drop (length words) text) else found
 
--- the number behind the last place where these words stand
+-- the number after the last occurrence of these words
 abbrev pub found_behind : List ℕ → Option ℕ → List ℕ → Option ℕ
 found_behind words found [] = found
 found_behind words found (b ∷ text) = found_behind words (found_in_front words found (b ∷ text)) text

@@ -29,7 +29,7 @@ use Rattle.run_summary.specs.Sent.{Requested, Said, Sending, requested_more, sai
 use Rattle.run_summary.specs.Standing.{stand_at}
 use Rattle.rpn_compiler.specs.TextParts.{items_in}
 
--- all that is told of a run
+-- the account of a run
 pub record Account : Type 0 where
   -- the items of its texts, their rules, and how many lanes there are
   pub texts : List (List Item)
@@ -37,7 +37,7 @@ pub record Account : Type 0 where
   pub lanes : ℕ
   -- what is known of each field
   pub seen : List Seen
-  -- how each rule fails, and how it stood behind the record before
+  -- the row of failures of each rule, and its result and state after the record before
   pub rows : List Row
   pub before : List Stand
   pub bands : InForce
@@ -100,7 +100,7 @@ pub record Reading : Type 0 where
 abbrev pub count_of : List ℕ → ℕ
 count_of packet = if nat_lt (length packet) 4 then 0 else u16_at packet 2 % count_end
 
--- a request by this rule, of which this is told
+-- a request by this rule, with these samples
 abbrev pub request_of : List ℕ → Place → ℕ → Option ℕ → Counted → Account → Requested
 request_of packet place sequence rule told a = record {
   packet = a.figures.packets;
@@ -138,7 +138,7 @@ asked packet place stands sequence r = asked_by (rule_asking stands sequence r) 
 abbrev pub enforced_so : Place → How → Account → Account
 enforced_so place how a = record a { seen = map forgotten a.seen; bands = enforced place how a.bands }
 
--- the text of event 1 of the Limit Checker where it started with tables
+-- the text of the Limit Checker's event 1 if it started with tables
 abbrev pub started_with_tables : List ℕ
 started_with_tables = codes "started with tables"
 
@@ -183,7 +183,7 @@ abbrev pub read : List ℕ → Place → List Stand → Reading → Reading
 read packet place stands r =
     read_by (told_in packet) packet place stands (record r { account = record r.account { figures = with_packet r.account.figures } })
 
--- packets, one behind the other
+-- packets, one after the other
 abbrev pub read_all : List (List ℕ) → Place → List Stand → Reading → Reading
 read_all [] place stands r = r
 read_all (packet ∷ packets) place stands r = read_all packets place stands (read packet place stands r)
@@ -202,7 +202,7 @@ before_with stands rule (before ∷ more) = stand_at rule stands ∷ before_with
 abbrev pub stood_so : Place → Option LcMode → List Stand → Account → Account
 stood_so place mode stands a = record a { before = before_with stands 0 a.before; bands = stood place mode a.bands }
 
--- where they stand as behind the record before, only the mode is new
+-- if the rules are as after the record before, only the mode may change
 abbrev pub stood_again : Place → Option LcMode → Account → Account
 stood_again place mode a = record a { bands = stood place mode a.bands }
 
@@ -217,12 +217,12 @@ pub record Step : Type 0 where
   pub mode : Option LcMode
   pub stands : List Stand
 
--- the account behind a record more
+-- the account after one more record
 abbrev pub account_with : Step → Account → Account
 account_with step a =
     stood_so step.place step.mode step.stands (written step.written step.place step.stands (sampled step.place step.stands (come step.bytes step.place a)))
 
--- .. behind all records, by how it was before the first
+-- .. and after all records, from the account before the first
 abbrev pub account_behind : Account → List Step → Account
 account_behind a [] = a
 account_behind a (step ∷ steps) = account_behind (account_with step a) steps

@@ -1,4 +1,4 @@
--- Which rule made a request, by how the rules stood in front of a record and behind it, and which samples counted. This project's own.
+-- Which rule made a request, by the rules before and after a record, and which samples counted. This project's own.
 use Rattle.std.specs.Prelude.{ℕ, zero, suc, ◌-◌, Bool, ◌&&◌, List, [], nat_le, ◌==◌, if◌then◌else◌, Option, Some, None, is_some, slice_get}
 use Rattle.run_summary.specs.declared.place.Stand.{Stand}
 use Rattle.run_summary.specs.Figures.{one_more}
@@ -11,7 +11,7 @@ use Rattle.run_summary.specs.Standing.{stand_at}
 abbrev pub has_asked : (now before : Stand) → Bool
 has_asked now before = now.state == 2 && (now.result == 32 && before.state == 1)
 
--- the first number of so many, from this one on, of which it is true
+-- the first of a number of numbers, from this one on, for which it is true
 abbrev pub first_from : (ℕ → Bool) → (from count : ℕ) → Option ℕ
 first_from test from zero = None
 first_from test from (suc count) = if test from then Some from else first_from test (suc from) count
@@ -26,7 +26,7 @@ may_ask plans text before stands sequence rule =
 abbrev pub asking : List (List Planned) → Option ℕ → (before stands : List Stand) → (lanes from sequence : ℕ) → Option ℕ
 asking plans text before stands lanes from sequence = first_from (may_ask plans text before stands sequence) from (lanes - from)
 
--- where the rule of the next request is looked for: behind that of this one
+-- the number from which the rule of the next request is searched: the one after this request's rule
 abbrev pub behind_rule : Option ℕ → ℕ → ℕ
 behind_rule None from = from
 behind_rule (Some rule) from = one_more rule
@@ -38,7 +38,7 @@ abbrev pub row_asked : Option ℕ → List Row → Option Row
 row_asked None rows = None
 row_asked (Some rule) rows = slice_get rows rule
 
--- how many samples counted, those that are told, and what is kept then
+-- the number of samples that counted, the samples that are kept, and the state after that
 pub record Counted : Type 0 where
   pub counted : ℕ
   pub samples : List Sampled

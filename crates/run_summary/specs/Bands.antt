@@ -23,7 +23,7 @@ pub record InForce : Type 0 where
   pub files : List File
   -- the text of the file that was loaded last: it comes into force at the next adoption
   pub waiting : Option ℕ
-  -- the text in force, how its tables came into force, and the mode behind the last record
+  -- the text in force, how its tables came into force, and the mode after the last record
   pub text : Option ℕ
   pub how : How
   pub mode : Option LcMode
@@ -32,17 +32,17 @@ pub record InForce : Type 0 where
 abbrev pub nothing_in_force : InForce
 nothing_in_force = record { tables = []; modes = []; files = []; waiting = None; text = None; how = how.None; mode = None }
 
--- the most entries of a band, the last one of which is that more isn't told; and the most files that are known
+-- the most entries of a band, of which the last one means that later changes aren't kept; and the most files
 abbrev pub most : ℕ
 most = 500
 
 -- ---- files
 
--- where a file of this name stands
+-- the index of the file of this name
 abbrev pub file_place : Name → List File → Option ℕ
 file_place name files = position_from (λ (file : File). bytes_eq file.name name) 0 files
 
--- a file, in the place of one of its name, or behind all others where there are not too many
+-- a file in the place of one of its name, or after all others unless there are too many
 abbrev pub filed_at : Option ℕ → File → List File → List File
 filed_at None file files = if nat_lt (length files) most then files ++ file ∷ [] else files
 filed_at (Some place) file files = slice_set files place file
@@ -78,7 +78,7 @@ text_enforced how.None files waiting = None
 text_enforced how.Started files waiting = text_in default_file files
 text_enforced how.Adopted files waiting = waiting
 
--- one entry more: this one, or, as the last, that more isn't told
+-- one more entry: this one, or in the last place the one that means that later changes aren't kept
 abbrev pub told_more : {X : Type 0} → (told untold : X) → List X → List X
 told_more told untold all =
     if nat_lt (length all + 1) most then all ++ told ∷ []
@@ -106,7 +106,7 @@ abbrev pub mode_number : Option LcMode → ℕ
 mode_number None = 0
 mode_number (Some mode) = mode_code mode
 
--- the mode is this: it is told at the first record, and where it changes
+-- the mode: it is appended at the first record and at each change
 abbrev pub in_mode : Place → Option LcMode → InForce → InForce
 in_mode place mode b =
     if length b.modes == 0 || not (mode_number b.mode == mode_number mode)
@@ -118,11 +118,11 @@ is_none_in_force how.None = true
 is_none_in_force how.Started = false
 is_none_in_force how.Adopted = false
 
--- where no Limit Checker runs no tables are in force; at the first record this is told
+-- no tables are in force if no Limit Checker runs; this is appended at the first record too, if none came into force
 abbrev pub in_force : Place → Option LcMode → InForce → InForce
 in_force place mode b =
     if length b.tables == 0 || (is_none mode && not (is_none_in_force b.how)) then enforced place how.None b else b
 
--- the mode behind a record
+-- the mode after a record
 abbrev pub stood : Place → Option LcMode → InForce → InForce
 stood place mode b = in_force place mode (in_mode place mode b)

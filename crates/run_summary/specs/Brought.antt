@@ -1,4 +1,4 @@
--- What a record brings, as far as a page tells it, by the format of streams (lc_model's Host.Stream). This project's own.
+-- What a record brings, as far as a page shows it, by the format of streams (lc_model's Host.Stream). This project's own.
 use Rattle.std.specs.Prelude.{ℕ, ◌+◌, not, ◌||◌, ◌&&◌, List, [], length, take, drop, slice_index, nat_lt, ◌==◌, if◌then◌else◌}
 use Rattle.lc_model.specs.Bytes.{u16_at}
 use Rattle.lc_model.specs.Host.Stream.{half_size, header_size}

@@ -5,7 +5,7 @@ use Rattle.lc_model.specs.declared.rule.EventKind.TheVariants as kind
 use Rattle.run_summary.specs.Brought.{Brings, Command, File, Half, Load, Telemetry, Tick}
 use Rattle.run_summary.specs.declared.figures.Figures.{Figures}
 
--- one more; counts stop at the greatest number of 64 bits
+-- a count increased by one, up to 2^64 - 1
 abbrev pub one_more : ℕ → ℕ
 one_more n = min (n + 1) (2 ^ 64 - 1)
 
@@ -13,7 +13,7 @@ one_more n = min (n + 1) (2 ^ 64 - 1)
 abbrev pub none : Figures
 none = record { records = 0; telemetry = 0; commands = 0; ticks = 0; files = 0; packets = 0; requests = 0; housekeeping = 0; critical = 0; error = 0; info = 0; debug = 0; other = 0 }
 
--- a record more, which brings this
+-- the counts with one more record, which brings this
 abbrev pub with_record : Brings → Figures → Figures
 with_record (Telemetry packet) f = record f { records = one_more f.records; telemetry = one_more f.telemetry }
 with_record Tick f = record f { records = one_more f.records; ticks = one_more f.ticks }
@@ -22,7 +22,7 @@ with_record (Load name) f = record f { records = one_more f.records; commands = 
 with_record (File name) f = record f { records = one_more f.records; files = one_more f.files }
 with_record (Half name text) f = record f { records = one_more f.records; files = one_more f.files }
 
--- a packet more, whatever it is
+-- the counts with one more packet, of any kind
 abbrev pub with_packet : Figures → Figures
 with_packet f = record f { packets = one_more f.packets }
 

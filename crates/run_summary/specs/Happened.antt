@@ -32,7 +32,7 @@ abbrev pub behind_packets : List Packet → List Happened → List Happened
 behind_packets [] before = before
 behind_packets (packet ∷ packets) before = behind_packets packets (Sent packet ∷ before)
 
--- the packets of a record, behind so many
+-- the packets of a record, numbered after the earlier ones
 abbrev pub packets_led_to : ℕ → Step → List Packet
 packets_led_to number step = numbered number step.place (packets_of step.written)
 
@@ -40,7 +40,7 @@ packets_led_to number step = numbered number step.place (packets_of step.written
 abbrev pub behind_record : ℕ → Step → List Happened → List Happened
 behind_record number step before = Over step.place step.mode ∷ behind_packets (packets_led_to number step) (Came step.place (brings step.bytes) ∷ before)
 
--- all that happened in these records, behind so many packets and what happened before
+-- all that happened in these records, after a number of packets and what happened before
 abbrev pub happened_from : List Happened → ℕ → List Step → List Happened
 happened_from before number [] = before
 happened_from before number (step ∷ steps) =
@@ -113,7 +113,7 @@ how_told (Some (told.Request sequence)) = None
 how_told (Some (told.Housekeeping mode count rules)) = None
 how_told None = None
 
--- .. by what happened: behind a record behind which no Limit Checker runs none are
+-- .. by what happened: no tables are in force after a record that leaves no Limit Checker running
 abbrev pub how_enforced : Happened → Option How
 how_enforced (Came place brought) = None
 how_enforced (Sent packet) = how_told (told_in packet.bytes)
@@ -133,7 +133,7 @@ text_in_force (it ∷ before) = text_then (how_enforced it) before (text_in_forc
 
 -- ---- fields
 
--- the value of the field in what came, where it is a packet of the field's message id
+-- the value of the field in what came, if it is a packet of the field's message id
 abbrev pub value_came : Field → Happened → Option Met
 value_came field (Came place brought) = brought_of field place brought
 value_came field (Sent packet) = None
@@ -153,7 +153,7 @@ is_enforcing (Over place mode) = false
 abbrev pub since_enforced : List Happened → List Happened
 since_enforced happened = take_while (λ it. not (is_enforcing it)) happened
 
--- of values, the newest of which stands in front, that one, and its place
+-- the newest of some values, which is the first, and its place
 abbrev pub newest_met : List Met → Met
 newest_met [] = nothing
 newest_met (met ∷ older) = met

@@ -17,7 +17,7 @@ abbrev pub packets_by : (List ℕ → List (List ℕ)) → List ℕ → List (Li
 packets_by others bytes =
     if is_there bytes then take (packet_size bytes) bytes ∷ others (drop (packet_size bytes) bytes) else []
 
--- at most so many packets
+-- at most this number of packets
 unfoldable pub packets_within : ℕ → List ℕ → List (List ℕ)
 packets_within zero bytes = []
 packets_within (suc most) bytes = packets_by (packets_within most) bytes

@@ -19,13 +19,13 @@ use Rattle.run_summary.specs.Standing.{stand_at}
 
 -- ---- records that came
 
--- a record: its place, how the rules stand behind it, and what had happened once it came. Of records the newest stands in front.
+-- a record: its place, the rules after it, and what had happened when it came. Of several records the newest is the first.
 pub record Taken : Type 0 where
   pub place : Place
   pub stands : List Stand
   pub happened : List Happened
 
--- how the rules stand behind these, and how they stood in front of the newest; no rule is there in front of the first
+-- the rules after these records, and the rules before the newest; before the first record there are none
 abbrev pub stands_behind : List Taken → List Stand
 stands_behind [] = []
 stands_behind (taken ∷ before) = taken.stands
@@ -64,7 +64,7 @@ row_of read rule (taken ∷ before) =
 abbrev pub six_of : List Sampled → List Sampled
 six_of samples = take 3 samples ++ last_of 3 (drop 3 samples)
 
--- how many samples of a rule counted, and those that may be told; none of a rule that isn't known
+-- the number of samples of a rule that counted, and those that may be kept; none for an unknown rule
 abbrev pub counted_of : Option ℕ → List Taken → ℕ
 counted_of None records = 0
 counted_of (Some rule) records = failures_behind rule records
@@ -75,7 +75,7 @@ samples_of read (Some rule) records = six_of (row_of read rule records)
 
 -- ---- requests
 
--- the event of a request among these packets: the first of its own in front of the next request
+-- the event of a request among these packets: the first one of its own before the next request
 abbrev pub is_no_request : Packet → Bool
 is_no_request packet = not (is_request (told_in packet.bytes))
 
@@ -98,7 +98,7 @@ request_by read records packet sequence rule text = record {
   samples = samples_of read rule records;
 }
 
--- with its event, which is among these packets behind it
+-- with its event, which is among these packets after it
 abbrev pub with_its_event : Requested → List Packet → Requested
 with_its_event request behind = record request { event = own_event request behind }
 
@@ -134,7 +134,7 @@ requests_in read records others from happened (packet ∷ packets) =
 abbrev pub taken_by : Step → List Happened → Taken
 taken_by step happened = record { place = step.place; stands = step.stands; happened = Came step.place (brings step.bytes) ∷ happened }
 
--- those of these records, in front of which these came, this happened, and so many packets were sent
+-- the requests of these records, after these earlier records, events and number of packets
 abbrev pub requests_from : OfTexts → List Taken → List Happened → ℕ → List Step → List Requested
 requests_from read before happened number [] = []
 requests_from read before happened number (step ∷ steps) =
@@ -142,7 +142,7 @@ requests_from read before happened number (step ∷ steps) =
     (Came step.place (brings step.bytes) ∷ happened) (packets_led_to number step)
     ++ requests_from read (taken_by step happened ∷ before) (behind_record number step happened) (number_behind number (packets_of step.written)) steps
 
--- a request with its samples, if they are told
+-- a request with its samples, if they are kept
 abbrev pub told_if : Bool → Requested → Requested
 told_if b request = record request { samples = if b then request.samples else [] }
 

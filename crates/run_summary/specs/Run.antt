@@ -38,7 +38,7 @@ pub record AreRead (read : OfTexts) : Type 0 where
   pub plans : read.plans ≡ texts_planned (fields_of read.texts) read.texts
   pub lanes : read.lanes ≡ most_rules read.texts
 
--- nothing is told yet of runs of these texts
+-- the account before the first record of a run of these texts
 abbrev pub nothing_told : OfTexts → Account
 nothing_told read = record {
   texts = read.texts;
@@ -52,7 +52,7 @@ nothing_told read = record {
   figures = none;
 }
 
--- nothing is told yet of runs of texts of these bytes
+-- the account before the first record of a run of texts with these bytes
 pub record TellsNothing (sources : List (List ℕ)) (a : Account) : Type 0 where
   pub read : OfTexts
   pub items : HaveItems sources read.texts
@@ -67,17 +67,17 @@ pub record Packet : Type 0 where
   pub place : Place
   pub bytes : List ℕ
 
--- the packets of one record, behind so many
+-- the packets of one record, numbered after the earlier ones
 abbrev pub numbered : ℕ → Place → List (List ℕ) → List Packet
 numbered before place [] = []
 numbered before place (bytes ∷ more) = record { number = one_more before; place = place; bytes = bytes } ∷ numbered (one_more before) place more
 
--- how many there are then
+-- the number of packets after them
 abbrev pub number_behind : ℕ → List (List ℕ) → ℕ
 number_behind before [] = before
 number_behind before (bytes ∷ more) = number_behind (one_more before) more
 
--- the packets of these records, behind so many
+-- the packets of these records, numbered after the earlier ones
 abbrev pub packets_from : ℕ → List Step → List Packet
 packets_from before [] = []
 packets_from before (step ∷ steps) =
@@ -105,11 +105,11 @@ events_of steps = filter_map event_in (packets_sent steps)
 
 -- ---- how many there are of what
 
--- a count, which stops at the greatest number of 64 bits
+-- a count, up to 2^64 - 1
 abbrev pub stopped : ℕ → ℕ
 stopped count = min count (2 ^ 64 - 1)
 
--- of how many of these it is true
+-- the number of these for which it is true
 abbrev pub counted : {T : Type 0} → (T → Bool) → List T → ℕ
 counted test items = stopped (length (filter test items))
 
@@ -189,7 +189,7 @@ abbrev pub all_kept : {T : Type 0} → (T → ℕ) → List T → Ends T → End
 all_kept record_of [] e = e
 all_kept record_of (item ∷ items) e = all_kept record_of items (kept record_of item e)
 
--- the last so many
+-- a number of last items
 abbrev pub last_of : {T : Type 0} → ℕ → List T → List T
 last_of count items = drop (length items - count) items
 
@@ -216,12 +216,12 @@ ends_of record_of front back items = record {
 
 -- ---- rules that stand as before
 
--- each of these rows, from the rule of this number on, ends with so many failures as the rule has by these stands
+-- each of these rows, from the rule with this number on, has as many failures as the rule
 abbrev pub AreCounted : List Stand → ℕ → List Row → Type 0
 AreCounted stands rule [] = ⊤
 AreCounted stands rule (row ∷ rows) = (row.fails ≡ (stand_at rule stands).fails) × AreCounted stands (rule + 1) rows
 
--- behind the last record the rules stood so
+-- these are the rules after the last record
 pub record StoodLast (stands : List Stand) (a : Account) : Type 0 where
   pub rows : AreCounted stands 0 a.rows
   pub before : before_with stands 0 a.before ≡ a.before

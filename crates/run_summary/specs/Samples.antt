@@ -25,11 +25,11 @@ no_row = record { fails = 0; samples = [] }
 abbrev pub met_by_parts : List Part → List Seen → List Met
 met_by_parts parts all = map (λ (part : Part). met_of all part.field) parts
 
--- samples with room for one more: of six the fourth goes
+-- samples with room for one more: of six the fourth is dropped
 abbrev pub with_room : List Sampled → List Sampled
 with_room samples = if nat_le 6 (length samples) then remove samples 3 else samples
 
--- one more
+-- the samples with one more
 abbrev pub sampled_more : Place → List Met → List Sampled → List Sampled
 sampled_more place met samples = with_room samples ++ record { place = place; met = met } ∷ []
 

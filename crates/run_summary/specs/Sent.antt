@@ -30,8 +30,8 @@ pub record Said : Type 0 where
   pub kind : EventKind
   pub text : List ℕ
 
--- what is kept; the newest request stands behind all others, since its event is still to come. `parts` counts what comparisons met in
--- all samples, up to one more than may be told.
+-- what is kept; the newest request is kept apart from the others, since its event is still to come. `parts` counts what comparisons
+-- met in all samples, up to one more than may be kept.
 pub record Sending : Type 0 where
   pub requests : Ends Requested
   pub newest : Option Requested
@@ -45,7 +45,7 @@ requests_kept = 300
 abbrev pub events_kept : ℕ
 events_kept = 1000
 
--- the most that comparisons met in all samples that are told
+-- the most `Met` values in all samples that are kept
 abbrev pub most_parts : ℕ
 most_parts = 3072
 
@@ -72,7 +72,7 @@ is_own event request =
 abbrev pub hears : Said → Requested → Requested
 hears event request = if is_own event request then record request { event = Some event.packet } else request
 
--- an event more
+-- the state with one more event
 abbrev pub said_more : Said → Sending → Sending
 said_more event s = record s {
   newest = option_map (hears event) s.newest;
@@ -81,12 +81,12 @@ said_more event s = record s {
 
 -- ---- requests
 
--- the request in front of the newest, if there is one
+-- the request before the newest, if there is one
 abbrev pub before_newest : Option Requested → Ends Requested → Ends Requested
 before_newest None requests = requests
 before_newest (Some request) requests = kept (λ (request : Requested). request.place.«record») request requests
 
--- a request more
+-- the state with one more request
 abbrev pub requested_more : Requested → Sending → Sending
 requested_more request s = record s { requests = before_newest s.newest s.requests; newest = Some request }
 

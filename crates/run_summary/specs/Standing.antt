@@ -1,4 +1,4 @@
--- How a rule stands, as a page tells it (page/DATA.md of run_page). This project's own.
+-- The result and state of a rule, as bits on a page (page/DATA.md of run_page). This project's own.
 use Rattle.std.specs.Prelude.{ℕ, zero, suc, List, [], ◌∷◌, Option, Some, None}
 use Rattle.lc_model.specs.declared.mode.ApResult.{ApResult}
 use Rattle.lc_model.specs.declared.mode.ApResult.TheVariants.{Pass, Stale, Error, Fail}

@@ -139,7 +139,7 @@ compared_in_text items = flat_map (compared_by items) (rules_of items)
 abbrev pub all_compared : List (List Item) → List Compared
 all_compared texts = flat_map compared_in_text texts
 
--- each once, where it stands first
+-- each once, in the place of its first mention
 abbrev pub each_once : List Compared → List Compared
 each_once [] = []
 each_once (field ∷ fields) = field ∷ filter (λ (other : Compared). not (is_same field other)) (each_once fields)
@@ -148,7 +148,7 @@ each_once (field ∷ fields) = field ∷ filter (λ (other : Compared). not (is_
 abbrev pub fields_of : List (List Item) → List Compared
 fields_of texts = each_once (all_compared texts)
 
--- a field more, unless it is there
+-- the fields with one more, unless it is there
 abbrev pub added_by : Option ℕ → List Compared → Compared → List Compared
 added_by None fields field = fields ++ field ∷ []
 added_by (Some place) fields field = fields

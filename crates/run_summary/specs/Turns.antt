@@ -43,7 +43,7 @@ all_tables (Over place mode ∷ before) =
 
 -- ---- modes
 
--- the mode behind the last record
+-- the mode after the last record
 abbrev pub mode_behind : List Happened → Option LcMode
 mode_behind [] = None
 mode_behind (Came place brought ∷ before) = mode_behind before
@@ -54,7 +54,7 @@ mode_behind (Over place mode ∷ before) = mode
 abbrev pub modes_if : Bool → Place → Option LcMode → List ModeFrom → List ModeFrom
 modes_if b place mode all = if b then all ++ record { place = place; mode = Some mode } ∷ [] else all
 
--- the mode behind the first record, and each other one behind a record, in order
+-- the mode after the first record, and each changed mode after a record, in order
 abbrev pub all_modes : List Happened → List ModeFrom
 all_modes [] = []
 all_modes (Came place brought ∷ before) = all_modes before
@@ -64,7 +64,7 @@ all_modes (Over place mode ∷ before) =
 
 -- ---- what is told of them
 
--- the first 499, and that there is more, in the place of the 500th
+-- the first 499, and in the place of the 500th that there are more
 abbrev pub told_of : {X : Type 0} → (X → X) → List X → List X
 told_of untold all = take (most - 1) all ++ map untold (take 1 (drop (most - 1) all))
 

@@ -1,4 +1,4 @@
-//! The rule that an event is about, as the Limit Checker's own words tell it.
+//! The rule that an event is about, read from the text of the Limit Checker's events.
 
 ghost use Rattle.std.specs.Prelude.{◌≡◌, bytes_eq};
 ghost use Rattle.run_summary.specs.About.{begins, found_in_front, number_behind, number_in_front, rule_of};
@@ -8,7 +8,7 @@ use text_lines::{decimal_number, split_digits};
 /// The most digits of a rule's number.
 const MOST_DIGITS: usize = 5;
 
-/// Whether two texts are one.
+/// Whether two texts are equal.
 pub(crate) fn is(text: &[u8], other: &[u8]) -> bool
     ensures { result ≡ bytes_eq text.now other.now }
 {
@@ -33,7 +33,7 @@ fn begins(words: &[u8], text: &[u8]) -> bool
     words.len() <= text.len() && is(&text[..words.len()], words)
 }
 
-/// The number behind these words where the text begins with them, else what was found before.
+/// The number after these words if the text begins with them, else `found`.
 fn found_in_front(words: &[u8], found: Option<usize>, text: &[u8]) -> Option<usize>
     ensures { result ≡ found_in_front words.now found text.now }
 {
@@ -43,7 +43,7 @@ fn found_in_front(words: &[u8], found: Option<usize>, text: &[u8]) -> Option<usi
     found
 }
 
-/// The number behind the last place where these words stand.
+/// The number after the last occurrence of these words.
 fn number_behind(words: &[u8], text: &[u8]) -> Option<usize>
     ensures { result ≡ number_behind words.now text.now }
 {
@@ -54,7 +54,7 @@ fn number_behind(words: &[u8], text: &[u8]) -> Option<usize>
     found
 }
 
-/// The rule that the event of this sender with this number and text is about.
+/// The number of the rule that an event with this sender, id and text is about, if it is about one.
 pub(crate) fn rule_of(sender: &[u8], id: u16, text: &[u8]) -> Option<usize>
     ensures { result ≡ rule_of sender.now id text.now }
 {

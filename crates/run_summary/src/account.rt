@@ -1,4 +1,4 @@
-//! The account of a run: taken record by record, in memory that doesn't grow with the run.
+//! The account of a run, taken record by record. Its memory doesn't grow with the run.
 
 ghost use Rattle.std.specs.Prelude.{◌≡◌, IfOk, List, OnOk, map, replicate, ℕ};
 ghost use Rattle.rpn_compiler.specs.TextParts.{AreTextsOf, items_in};
@@ -23,25 +23,29 @@ use lc_model::LcMode;
 use rpn_compiler::RuleText;
 use std::alloc::{AllocError, Global};
 
-/// All that is told of a run, of the records so far.
+/// The account of a run up to its newest record.
 #[derive(Drop)]
 pub struct Account<'a> {
     pub(crate) alloc: Global,
+    /// The rule texts, by number from 0.
     pub texts: Vec<RuleText<'a>>,
     pub(crate) plans: Vec<RulePlans>,
-    /// The most rules of a text.
+    /// The number of rules in the text with the most rules.
     pub lanes: usize,
-    /// The fields that the texts' rules compare.
+    /// What is known of each field that the texts' rules compare.
     pub seen: Vec<Seen<'a>>,
     pub(crate) rows: Vec<FailRun>,
-    /// How the rules stood in front of the record.
+    /// The rules before the newest record.
     pub(crate) before: Vec<Stand>,
+    /// The changes of tables and modes.
     pub bands: Bands,
+    /// The requests and events that are kept.
     pub sending: Sending,
+    /// The counts of the run.
     pub figures: Figures,
 }
 
-/// The most rules of a text.
+/// The number of rules in the text with the most rules.
 fn most_rules(texts: &[RuleText<'_>]) -> usize
     ensures { result ≡ most_rules (map items_in texts.now) }
 {
@@ -52,7 +56,7 @@ fn most_rules(texts: &[RuleText<'_>]) -> usize
     most
 }
 
-/// So many rules of which nothing failed. Out of memory is the only error.
+/// Empty rows of failures for `lanes` rules. The only error is a lack of memory.
 fn no_rows(alloc: Global, lanes: usize) -> Result<Vec<FailRun>, AllocError>
     ensures { IfOk result (λ rows. rows.items ≡ replicate lanes no_row) }
 {
@@ -63,7 +67,7 @@ fn no_rows(alloc: Global, lanes: usize) -> Result<Vec<FailRun>, AllocError>
     Ok(rows)
 }
 
-/// So many rules that aren't there. Out of memory is the only error.
+/// `ABSENT` for `lanes` rules. The only error is a lack of memory.
 fn no_stands(alloc: Global, lanes: usize) -> Result<Vec<Stand>, AllocError>
     ensures { IfOk result (λ stands. stands.items ≡ replicate lanes absent) }
 {
@@ -74,7 +78,7 @@ fn no_stands(alloc: Global, lanes: usize) -> Result<Vec<Stand>, AllocError>
     Ok(stands)
 }
 
-/// What counts of a record's samples, rule by rule. Out of memory is the only error.
+/// Takes a record's samples into the rows of failures, rule by rule. The only error is a lack of memory.
 fn take_rows(
     alloc: Global,
     place: Place,
@@ -94,7 +98,7 @@ fn take_rows(
     Ok(())
 }
 
-/// How the rules stand, one by one.
+/// Stores the rules' results and states, one by one.
 fn take_stands(stands: &[Stand], before: &mut [Stand])
     ensures { before.new ≡ before_with stands.now 0 before.old }
 {
@@ -104,7 +108,7 @@ fn take_stands(stands: &[Stand], before: &mut [Stand])
 }
 
 impl<'a> Account<'a> {
-    /// Of no record, for runs of these texts. Out of memory is the only error.
+    /// The account before the first record of a run of these texts. The only error is a lack of memory.
     pub fn new(alloc: Global, texts: Vec<RuleText<'a>>) -> Result<Account<'a>, AllocError>
         ensures { (sources : List (List ℕ)) → AreTextsOf sources texts.entry.items →
             IfOk result (λ it. TellsNothing sources (account_of it)) }
@@ -129,15 +133,15 @@ impl<'a> Account<'a> {
         })
     }
 
-    /// The comparisons of the rule of this number in the text of this number, from the left; none where there is no such rule.
+    /// The comparisons of the rule with this number in the text with this number, from left to right; empty if there is no such rule.
     pub fn parts(&self, text: Option<u16>, rule: usize) -> &[Part]
         ensures { result.now ≡ parts_by (planned_at (account_of self.now).plans text rule) }
     {
         parts_at(self.plans.as_slice(), text, rule)
     }
 
-    /// A record comes: what it brings is counted and kept, in front of what it leads to. What it brought of a field is told by
-    /// `Seen::come_in` (`laws::fields_that_come`). Out of memory is the only error.
+    /// Takes a record: counts and keeps what it brings. Call it before `sample`, `write` and `stand` for that record. `Seen::come_in`
+    /// then has the field values that it brought (`laws::fields_that_come`). The only error is a lack of memory.
     pub fn add_record(&mut self, bytes: &[u8], place: Place) -> Result<(), AllocError>
         ensures { OnOk result (account_of self.new ≡ come bytes.now place (account_of self.old)) }
     {
@@ -146,7 +150,7 @@ impl<'a> Account<'a> {
         self.bring(brings, place)
     }
 
-    /// What a record brings is kept.
+    /// Keeps what a record brings.
     fn bring(&mut self, brings: Brought<'_>, place: Place) -> Result<(), AllocError>
         ensures { OnOk result (account_of self.new ≡
             brought_by (brings_of brings.entry) place (account_of self.old)) }
@@ -167,7 +171,7 @@ impl<'a> Account<'a> {
         }
     }
 
-    /// What counts of the samples of a record, before what it wrote is read. Out of memory is the only error.
+    /// Takes the record's samples, by the rules after it. Call it before `write`. The only error is a lack of memory.
     pub fn sample(&mut self, place: Place, stands: &[Stand]) -> Result<(), AllocError>
         ensures { OnOk result (account_of self.new ≡
             sampled place stands.now (account_of self.old)) }
@@ -184,7 +188,7 @@ impl<'a> Account<'a> {
         )
     }
 
-    /// The mode and how the rules stand behind a record, once what it wrote was read. Out of memory is the only error.
+    /// Takes the mode and the rules after a record. Call it after `write`. The only error is a lack of memory.
     pub fn stand(
         &mut self,
         place: Place,
@@ -198,8 +202,8 @@ impl<'a> Account<'a> {
         self.bands.stand(place, mode)
     }
 
-    /// The mode behind a record behind which all rules stand as behind the one before: there `sample` would do nothing, and `stand`
-    /// no more than this (`laws::rules_that_stand_as_before`). Out of memory is the only error.
+    /// Takes the mode after a record that left all rules as they were. Then `sample` would do nothing, and `stand` would do the same as
+    /// this (`laws::rules_that_stand_as_before`). The only error is a lack of memory.
     pub fn stand_again(&mut self, place: Place, mode: Option<LcMode>) -> Result<(), AllocError>
         ensures { OnOk result (account_of self.new ≡
             stood_again place mode (account_of self.old)) }

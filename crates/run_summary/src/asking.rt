@@ -1,4 +1,4 @@
-//! Which rule made a request, and which samples counted.
+//! Finds the rule that made a request, and the samples that counted for it.
 
 ghost use Rattle.std.specs.Prelude.{◌≡◌, IfOk, option_map};
 ghost use Rattle.run_summary.specs.Asking.{asking, behind_rule, counted_by, has_asked, may_ask, row_asked};
@@ -9,8 +9,7 @@ use crate::samples::{FailRun, Sample};
 use crate::sent::Sending;
 use std::alloc::{AllocError, Global};
 
-/// How the rules stood in front of a record and behind it, and the rules of the texts with the number of that in force, if it is
-/// known.
+/// The rules before and after a record, the rules of all texts, and the number of the text in force, if it is known.
 #[derive(Clone, Copy)]
 pub(crate) struct Around<'a> {
     pub(crate) plans: &'a [RulePlans],
@@ -19,7 +18,7 @@ pub(crate) struct Around<'a> {
     pub(crate) stands: &'a [Stand],
 }
 
-/// Whether a rule that stood so became passive by a failure.
+/// Whether a rule became passive by a failure: it was active before, and is passive and failed now.
 fn has_asked(now: Stand, before: Stand) -> bool
     ensures { result ≡ has_asked now before }
 {
@@ -35,7 +34,7 @@ fn may_ask(around: Around<'_>, sequence: u16, rule: usize) -> bool
         && may_request(around.plans, around.text, rule, sequence)
 }
 
-/// The first of so many rules, from this one on, that may have made a request for this sequence.
+/// The first of `lanes` rules, from number `from` on, that may have made a request for this sequence.
 pub(crate) fn asking(around: Around<'_>, lanes: usize, from: usize, sequence: u16) -> Option<usize>
     ensures { result ≡ asking around.entry.plans.now around.entry.text
         around.entry.before.now around.entry.stands.now lanes from sequence }
@@ -48,7 +47,7 @@ pub(crate) fn asking(around: Around<'_>, lanes: usize, from: usize, sequence: u1
     None
 }
 
-/// Where the rule of the next request is looked for: behind that of this one.
+/// The number from which the rule of the next request is searched: the one after this request's rule, if that is known.
 pub(crate) fn behind_rule(rule: Option<usize>, from: usize) -> usize
     ensures { result ≡ behind_rule rule from }
 {
@@ -58,7 +57,7 @@ pub(crate) fn behind_rule(rule: Option<usize>, from: usize) -> usize
     }
 }
 
-/// The row of a rule, if there is one.
+/// The row of failures of a rule, if there is one.
 pub(crate) fn row_asked(rows: &[FailRun], rule: Option<usize>) -> Option<&FailRun>
     ensures { option_map (λ row. row.now) result ≡ row_asked rule rows.now }
 {
@@ -68,7 +67,7 @@ pub(crate) fn row_asked(rows: &[FailRun], rule: Option<usize>) -> Option<&FailRu
     }
 }
 
-/// The same samples. Out of memory is the only error.
+/// A copy of the samples. The only error is a lack of memory.
 fn copy_samples(alloc: Global, samples: &[Sample]) -> Result<Vec<Sample>, AllocError>
     ensures { IfOk result (λ copies. copies.items ≡ samples.now) }
 {
@@ -79,8 +78,8 @@ fn copy_samples(alloc: Global, samples: &[Sample]) -> Result<Vec<Sample>, AllocE
     Ok(copies)
 }
 
-/// How many samples counted, and those that are told: where there is room for what they met, and the text in force is known. Out of
-/// memory is the only error.
+/// The number of samples that counted, and the samples themselves if there is room for them and the text in force is known. The only
+/// error is a lack of memory.
 pub(crate) fn count_samples(
     alloc: Global,
     row: Option<&FailRun>,

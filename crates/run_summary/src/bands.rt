@@ -1,4 +1,4 @@
-//! Which tables were in force when, and the Limit Checker's mode.
+//! The tables in force and the Limit Checker's mode, over the run.
 
 ghost use Rattle.std.specs.Prelude.{◌≡◌, ◌<◌, bytes_eq, find, length, IfOk, IfSome, OnOk, option_map};
 ghost use Rattle.run_summary.specs.Bands.{File, enforced, file_place, filed, filed_at, in_force, in_mode, is_none_in_force, loaded, mode_number, mode_told, nothing_in_force, stood, stored, tables_told, text_enforced, text_in, told_more};
@@ -9,17 +9,20 @@ use lc_model::LcMode;
 use std::alloc::{AllocError, Global};
 use std::marker::Model;
 
-/// The most entries of a band, and the most files.
+/// The most entries of a band, and the most files that are kept.
 const MOST: usize = 500;
 
-/// The file from which the Limit Checker starts.
+/// The file with the watchpoints from which the Limit Checker starts.
 const DEFAULT: &[u8] = b"/cf/lc_def_wdt.tbl";
 
 /// How tables came into force.
 #[derive(Clone, Copy)]
 pub enum How {
+    /// No tables are in force.
     None,
+    /// The Limit Checker started with them.
     Started,
+    /// A housekeeping request adopted them.
     Adopted,
 }
 
@@ -36,22 +39,27 @@ impl How {
     }
 }
 
-/// From a place on the tables of this text are in force, or of none. An entry without how is the last one: more isn't told.
+/// The tables in force from a place on. An entry with `how` `None` is the last one: later changes aren't kept.
 #[derive(Clone, Copy)]
 pub struct TablesFrom {
+    /// The place from which on they are in force.
     pub place: Place,
+    /// The number of their rule text; `None` if there are no tables or their text isn't known.
     pub text: Option<u16>,
+    /// How they came into force.
     pub how: Option<How>,
 }
 
-/// From a place on the Limit Checker's mode is this, or none runs. An entry without is the last one: more isn't told.
+/// The Limit Checker's mode from a place on. An entry with `mode` `None` is the last one: later changes aren't kept.
 #[derive(Clone, Copy)]
 pub struct ModeFrom {
+    /// The place from which on it has this mode.
     pub place: Place,
+    /// The mode; `Some(None)` if no Limit Checker runs.
     pub mode: Option<Option<LcMode>>,
 }
 
-/// A file that was stored: its name, and the text of which it is a half; none of a raw file.
+/// A stored file: its name, and the rule text of which it is a half; `None` for a raw file.
 #[derive(Drop)]
 struct Stored {
     name: Vec<u8>,
@@ -67,7 +75,7 @@ impl Model for Stored {
 }
 
 impl Stored {
-    /// Out of memory is the only error.
+    /// A stored file. The only error is a lack of memory.
     fn new(alloc: Global, name: &[u8], text: Option<u16>) -> Result<Stored, AllocError>
         ensures { IfOk result (λ file. file ≡ record { name = name.now; text = text }) }
     {
@@ -88,7 +96,7 @@ impl Stored {
     }
 }
 
-/// Where a file of this name stands.
+/// The index of the file of this name.
 fn file_place(files: &[Stored], name: &[u8]) -> Option<usize>
     ensures place { result ≡ file_place name.now files.now }
     ensures inside { IfSome result (λ place. place < length files.now) }
@@ -96,8 +104,7 @@ fn file_place(files: &[Stored], name: &[u8]) -> Option<usize>
     files.iter().position(|file| file.is_named(name))
 }
 
-/// A file is stored, in the place of one of its name, or behind all others where there are not too many. Out of memory is the only
-/// error.
+/// Stores a file in the place of one of its name, or after all others unless there are too many. The only error is a lack of memory.
 fn store_at(files: &mut Vec<Stored>, place: Option<usize>, file: Stored) -> Result<(), AllocError>
     requires { IfSome place (λ place. place < length files.old.items) }
     ensures { OnOk result (files.new.items ≡ filed_at place file files.old.items) }
@@ -123,7 +130,7 @@ fn text_in(files: &[Stored], name: &[u8]) -> Option<u16>
     None
 }
 
-/// One entry more: this one, or, as the last, that more isn't told. Out of memory is the only error.
+/// Appends an entry; in the last place `untold`, which ends the list. The only error is a lack of memory.
 fn tell_more<T: Copy>(all: &mut Vec<T>, told: T, untold: T) -> Result<(), AllocError>
     ensures { OnOk result (all.new.items ≡ told_more told untold all.old.items) }
 {
@@ -136,7 +143,7 @@ fn tell_more<T: Copy>(all: &mut Vec<T>, told: T, untold: T) -> Result<(), AllocE
     Ok(())
 }
 
-/// A number for each mode, and for none.
+/// A number for each mode, and for no Limit Checker.
 fn mode_number(mode: Option<LcMode>) -> u16
     ensures { result ≡ mode_number mode }
 {
@@ -146,7 +153,7 @@ fn mode_number(mode: Option<LcMode>) -> u16
     }
 }
 
-/// The changes of tables and modes. Contracts see all (`InForce`).
+/// The changes of tables and modes over a run. Contracts see all (`InForce`).
 #[derive(Drop)]
 pub struct Bands {
     tables: Vec<TablesFrom>,
@@ -189,28 +196,28 @@ impl Bands {
         }
     }
 
-    /// Which tables are in force from where.
+    /// The tables in force, from each place on, in order.
     pub fn tables(&self) -> &[TablesFrom]
         ensures { result.now ≡ self.now.tables }
     {
         self.tables.as_slice()
     }
 
-    /// Which mode the Limit Checker has from where.
+    /// The Limit Checker's modes, from each place on, in order.
     pub fn modes(&self) -> &[ModeFrom]
         ensures { result.now ≡ self.now.modes }
     {
         self.modes.as_slice()
     }
 
-    /// The text in force.
+    /// The number of the rule text in force, if it is known.
     pub fn text(&self) -> Option<u16>
         ensures { result ≡ self.now.text }
     {
         self.text
     }
 
-    /// A file is stored. Out of memory is the only error.
+    /// Takes a stored file. The only error is a lack of memory.
     pub(crate) fn store(
         &mut self,
         alloc: Global,
@@ -224,14 +231,14 @@ impl Bands {
         store_at(&mut self.files, place, file)
     }
 
-    /// A file is loaded: its text comes into force at the next adoption.
+    /// Takes the load of a file: its text comes into force at the next adoption.
     pub(crate) fn load(&mut self, name: &[u8])
         ensures { self.new ≡ loaded name.now self.old }
     {
         self.waiting = text_in(self.files.as_slice(), name);
     }
 
-    /// The text whose tables come into force so.
+    /// The text whose tables come into force in this way.
     fn text_enforced(&self, how: How) -> Option<u16>
         ensures { result ≡ text_enforced how self.now.files self.now.waiting }
     {
@@ -242,7 +249,7 @@ impl Bands {
         }
     }
 
-    /// The Limit Checker tells that it started with tables, or adopted some. Out of memory is the only error.
+    /// Takes the report that the Limit Checker started with tables, or adopted some. The only error is a lack of memory.
     pub(crate) fn enforce(&mut self, place: Place, how: How) -> Result<(), AllocError>
         ensures { OnOk result (self.new ≡ enforced place how self.old) }
     {
@@ -262,7 +269,7 @@ impl Bands {
         tell_more(&mut self.tables, told, untold)
     }
 
-    /// The mode is told.
+    /// Appends the mode to the band.
     fn tell_mode(&mut self, place: Place, mode: Option<LcMode>) -> Result<(), AllocError>
         ensures { OnOk result (self.new ≡
             record self.old { mode = mode; modes = mode_told place mode self.old.modes }) }
@@ -276,7 +283,7 @@ impl Bands {
         tell_more(&mut self.modes, told, untold)
     }
 
-    /// The mode behind a record: it is told at the first record, and where it changes.
+    /// Takes the mode after a record; it is appended at the first record and at each change.
     fn take_mode(&mut self, place: Place, mode: Option<LcMode>) -> Result<(), AllocError>
         ensures { OnOk result (self.new ≡ in_mode place mode self.old) }
     {
@@ -286,7 +293,7 @@ impl Bands {
         Ok(())
     }
 
-    /// Where no Limit Checker runs no tables are in force; at the first record this is told.
+    /// Appends that no tables are in force: at the first record if none came into force, and when no Limit Checker runs any more.
     fn take_none(&mut self, place: Place, mode: Option<LcMode>) -> Result<(), AllocError>
         ensures { OnOk result (self.new ≡ in_force place mode self.old) }
     {
@@ -296,7 +303,7 @@ impl Bands {
         Ok(())
     }
 
-    /// The mode behind a record. Out of memory is the only error.
+    /// Takes the mode after a record. The only error is a lack of memory.
     pub fn stand(&mut self, place: Place, mode: Option<LcMode>) -> Result<(), AllocError>
         ensures { OnOk result (self.new ≡ stood place mode self.old) }
     {

@@ -1,4 +1,4 @@
-//! What a record brings, as far as a page tells it.
+//! What a record brings, as far as a page shows it.
 
 ghost use Rattle.std.specs.Prelude.{◌≡◌, ◌≤◌, length, take};
 ghost use Rattle.lc_model.specs.Host.Stream.{header_size};
@@ -12,7 +12,7 @@ use lc_model::{mids, name_in, u16_at};
 /// What a record brings.
 #[derive(Clone, Copy)]
 pub(crate) enum Brought<'a> {
-    /// A packet that is no command, or bytes that are no packet.
+    /// A packet that isn't a command, or bytes that aren't a packet.
     Telemetry(&'a [u8]),
     Tick,
     Command,
@@ -24,7 +24,7 @@ pub(crate) enum Brought<'a> {
     Half(&'a [u8], u16),
 }
 
-/// The name in the first bytes, which has a field of its own, or in all where there are fewer.
+/// The name in the field at the front, or in all bytes if there are fewer.
 fn name_in_front(bytes: &[u8]) -> &[u8]
     ensures { result.now ≡ name_in_front bytes.now }
 {
@@ -34,7 +34,7 @@ fn name_in_front(bytes: &[u8]) -> &[u8]
     name_in(&bytes[..NAME])
 }
 
-/// What a packet is.
+/// What a packet brings.
 fn packet_brought(packet: &[u8]) -> Brought<'_>
     ensures { brings_of result ≡ packet_brings packet.now }
 {
@@ -47,7 +47,7 @@ fn packet_brought(packet: &[u8]) -> Brought<'_>
     Brought::Command
 }
 
-/// What the half of a text in a record's body is.
+/// The half of a rule text in a record's body.
 fn half_brought(body: &[u8]) -> Brought<'_>
     ensures { brings_of result ≡ half_brings body.now }
 {
@@ -57,7 +57,7 @@ fn half_brought(body: &[u8]) -> Brought<'_>
     Brought::Half(name_in_front(body), u16_at(body, 41))
 }
 
-/// What a record of this kind brings by its body.
+/// What a record of this kind with this body brings.
 fn body_brought(kind: u8, body: &[u8]) -> Brought<'_>
     ensures { brings_of result ≡ body_brings kind body.now }
 {

@@ -1,4 +1,4 @@
-//! The first and the last so many of a list.
+//! A list of which only the first and the last items are kept.
 
 ghost use Rattle.std.specs.Prelude.{◌≡◌, ◌++◌, IfOk};
 ghost use Rattle.run_summary.specs.Ends.{added, gone, left_with, leaves, no_items};
@@ -7,16 +7,18 @@ use std::alloc::{AllocError, Global};
 use std::collections::VecDeque;
 use std::marker::Model;
 
-/// What is between the first and the last: how many, and from which record to which. The count stops at the greatest number of 64
-/// bits.
+/// The items that are left out between the first and the last.
 #[derive(Clone, Copy)]
 pub struct Left {
+    /// The number of items, up to 2^64 - 1.
     pub count: u64,
+    /// The record of the first of them.
     pub from: u64,
+    /// The record of the last of them.
     pub to: u64,
 }
 
-/// The first and the last so many of a list, and what is left out between them. Contracts see all (`Ends`).
+/// The first and the last items of a list, and what is left out between them. Contracts see all (`Ends`).
 #[derive(Drop)]
 pub struct Ends<T: Drop> {
     front: usize,
@@ -40,7 +42,7 @@ impl<T: Drop> Model for Ends<T> {
     } };
 }
 
-/// One more that is left out, of this record.
+/// What is left out, with one item more of this record.
 fn left_with(left: Option<Left>, number: u64) -> Left
     ensures { result ≡ left_with left number }
 {
@@ -59,7 +61,7 @@ fn left_with(left: Option<Left>, number: u64) -> Left
 }
 
 impl<T: Drop> Ends<T> {
-    /// Of nothing: at most so many are kept of the first, and so many of the last.
+    /// The ends of an empty list, which keeps at most `front` first and `back` last items.
     pub(crate) fn new(alloc: Global, front: usize, back: usize) -> Ends<T>
         ensures { result ≡ no_items front back }
     {
@@ -72,28 +74,28 @@ impl<T: Drop> Ends<T> {
         }
     }
 
-    /// The first ones, in order.
+    /// The first items, in order.
     pub fn first(&self) -> &[T]
         ensures { result.now ≡ self.now.first }
     {
         self.first.as_slice()
     }
 
-    /// The last ones, in order: those of the first slice, and then those of the second.
+    /// The last items, in order: those of the first slice, then those of the second.
     pub fn last(&self) -> (&[T], &[T])
         ensures { result.0.now ++ result.1.now ≡ self.now.last }
     {
         self.last.as_slices()
     }
 
-    /// What is left out between them.
+    /// What is left out between the first and the last; `None` if nothing is.
     pub fn omission(&self) -> Option<Left>
         ensures { result ≡ self.now.left }
     {
         self.left
     }
 
-    /// Adds one, and gives back the one that goes for it. Out of memory is the only error.
+    /// Adds an item, and returns the one that leaves the list for it. The only error is a lack of memory.
     pub(crate) fn add(&mut self, item: T) -> Result<Option<T>, AllocError>
         ensures goes { IfOk result (λ gone_now. gone_now ≡ gone self.old) }
         ensures added { IfOk result (λ _. self.new ≡ added item self.old) }
@@ -111,7 +113,7 @@ impl<T: Drop> Ends<T> {
         Ok(gone)
     }
 
-    /// One of this record is left out, if there is one.
+    /// Counts an item of this record as left out, if there is one.
     pub(crate) fn leave(&mut self, number: Option<u64>)
         ensures { self.new ≡ leaves number self.old }
     {

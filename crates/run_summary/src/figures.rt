@@ -1,4 +1,4 @@
-//! How many there were of what.
+//! The counts of a run.
 
 ghost use Rattle.std.specs.Prelude.{◌≡◌};
 ghost use Rattle.run_summary.specs.Brought.{brings_of};
@@ -7,25 +7,38 @@ ghost use Rattle.run_summary.specs.Figures.{none, one_more, with_event, with_rec
 use crate::brought::Brought;
 use lc_model::EventKind;
 
-/// How many there were of what. Counts stop at the greatest number of 64 bits.
+/// The counts of a run. They stop at 2^64 - 1.
 #[derive(Clone, Copy)]
 pub struct Figures {
+    /// Records of the stream.
     pub records: u64,
+    /// Records with a packet that isn't a command, or with bytes that aren't a packet.
     pub telemetry: u64,
+    /// Records with a command.
     pub commands: u64,
+    /// Ticks.
     pub ticks: u64,
+    /// Raw files and halves of rule texts.
     pub files: u64,
+    /// Packets that the run wrote.
     pub packets: u64,
+    /// Requests for command sequences among them.
     pub requests: u64,
+    /// Housekeeping packets among them.
     pub housekeeping: u64,
+    /// Critical events among them.
     pub critical: u64,
+    /// Error events among them.
     pub error: u64,
+    /// Information events among them.
     pub info: u64,
+    /// Debug events among them.
     pub debug: u64,
+    /// Other packets among them.
     pub other: u64,
 }
 
-/// One more.
+/// Adds one to a count.
 pub(crate) fn count(number: &mut u64)
     ensures { number.new ≡ one_more number.old }
 {
@@ -33,7 +46,7 @@ pub(crate) fn count(number: &mut u64)
 }
 
 impl Figures {
-    /// Nothing yet.
+    /// All counts at zero.
     pub(crate) fn new() -> Figures
         ensures { result ≡ none }
     {

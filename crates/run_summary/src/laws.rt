@@ -1,45 +1,45 @@
-//! What the account of a run is, by all that the run sent.
+//! The laws of accounts, each stated by a function with an empty body.
 
 ghost use Rattle.run_summary.specs.Happened.{TellsFields};
 ghost use Rattle.run_summary.specs.Requests.{TellsRequests};
 ghost use Rattle.run_summary.specs.Run.{FieldsCome, StandAgain, TellsEvents, TellsFigures};
 ghost use Rattle.run_summary.specs.Turns.{TellsTurns};
 
-/// The account of a run has the first 1,000 of all its events and the last 1,000, each with its packet, counted over the whole run, and
-/// how many are left out between them, of the records from one to another.
+/// States that an account has the first 1,000 and the last 1,000 events of a run, each with the number of its packet, and the number and
+/// the records of those left out between them.
 pub fn the_ends_of_all_events()
     ensures { TellsEvents }
 {}
 
-/// The figures of an account are how many records the run had, and how many of them brought this and that; how many packets it sent, and
-/// how many of them say this and that; each counted to the greatest number of 64 bits.
+/// States that the figures of an account are the numbers of a run's records and written packets, in all and of each kind, each up to
+/// 2^64 - 1.
 pub fn the_figures_of_a_run()
     ensures { TellsFigures }
 {}
 
-/// Where all rules stand as behind the record before, no sample counts, and only the mode is new.
+/// States that a record that leaves all rules as they were has no sample that counts, and can change only the mode.
 pub fn rules_that_stand_as_before()
     ensures { StandAgain }
 {}
 
-/// What an account knows of a field in the place of the record that came is what that record brought of it.
+/// States that `Seen::come_in` at the newest record's place returns what that record brought of a field.
 pub fn fields_that_come()
     ensures { FieldsCome }
 {}
 
-/// The account of a run keeps its newest request, and of all others the first 300 and the last 299.
+/// States that an account keeps the newest request of a run, and the first 300 and the last 299 of all others.
 pub fn the_requests_of_a_run()
     ensures { TellsRequests }
 {}
 
-/// What the account of a run knows of a field is what packets of its message id brought: how many there were, where the last was, and what
-/// comparisons meet, which is what the last of them brought, if it came since tables came into force.
+/// States what an account knows of a field: the number of packets of its message id, the place of the last one, and what comparisons
+/// meet. That is what the last packet brought, if it came since tables came into force.
 pub fn the_fields_of_a_run()
     ensures { TellsFields }
 {}
 
-/// The account of a run tells each time at which tables came into force, or none, with their text, and each mode of the Limit Checker
-/// behind a record that is another than behind the one before: the first 499, and where there are more.
+/// States that an account has each change of the tables in force, with their text, and each change of the Limit Checker's mode: the first
+/// 499 of each, and whether there are more.
 pub fn the_turns_of_a_run()
     ensures { TellsTurns }
 {}

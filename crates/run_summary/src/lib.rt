@@ -1,5 +1,5 @@
-//! The account of a run: what it brought and sent, record by record, in memory that the run's length doesn't change. Whoever runs it
-//! says how rules stand behind each record, as plain numbers.
+//! The account of a run: what it brought and sent, record by record, in memory that doesn't grow with the run. The caller gives the
+//! rules' results and states after each record as plain numbers.
 #![tactic(auto)]
 
 mod about;

@@ -1,4 +1,4 @@
-//! The packets that a record led to, as the account has them.
+//! Takes the packets that a record led to into the account.
 
 ghost use Rattle.std.specs.Prelude.{◌≡◌, IfOk, OnOk, Some};
 ghost use Rattle.packet_listing.specs.Told.{told_of};
@@ -28,8 +28,8 @@ fn count_of(packet: &[u8]) -> u16
 }
 
 impl<'a> Account<'a> {
-    /// The rule that requests this sequence: the first from one on that is of this sequence, as far as the text in force is
-    /// known, and in this record became passive by a failure.
+    /// The rule that requests this sequence: the first from number `from` on that became passive by a failure in this record and, if the
+    /// text in force is known, requests this sequence in it.
     fn rule_asking(&self, from: usize, sequence: u16, stands: &[Stand]) -> Option<usize>
         ensures { result ≡ rule_asking stands.now sequence
             (record { account = account_of self.now; from = from }) }
@@ -43,7 +43,7 @@ impl<'a> Account<'a> {
         asking(around, self.lanes, from, sequence)
     }
 
-    /// A request. Answers from which rule on that of the next one is looked for. Out of memory is the only error.
+    /// Takes a request. Returns the number from which the rule of the next request is searched. The only error is a lack of memory.
     fn request(
         &mut self,
         packet: &[u8],
@@ -75,7 +75,7 @@ impl<'a> Account<'a> {
         Ok(behind_rule(rule, from))
     }
 
-    /// Tables came into force: what comparisons meet begins anew.
+    /// Takes that tables came into force, and clears what comparisons meet.
     fn enforce(&mut self, place: Place, how: How) -> Result<(), AllocError>
         ensures { OnOk result (account_of self.new ≡
             enforced_so place how (account_of self.old)) }
@@ -84,7 +84,7 @@ impl<'a> Account<'a> {
         self.bands.enforce(place, how)
     }
 
-    /// What an event of this sender with this number and text says of the tables in force.
+    /// Takes the tables in force from an event with this sender, id and text, if it reports any.
     fn take_in_force(
         &mut self,
         sender: &[u8],
@@ -110,7 +110,7 @@ impl<'a> Account<'a> {
         Ok(())
     }
 
-    /// An event is told.
+    /// Keeps an event.
     fn tell_event(&mut self, place: Place, event: Event<'_>) -> Result<(), AllocError>
         ensures { OnOk result (account_of self.new ≡ told_by place event.entry.sender.now
             event.entry.id event.entry.kind event.entry.text.now (account_of self.old)) }
@@ -129,7 +129,7 @@ impl<'a> Account<'a> {
         })
     }
 
-    /// An event. Out of memory is the only error.
+    /// Takes an event. The only error is a lack of memory.
     fn event(&mut self, place: Place, event: Event<'_>) -> Result<(), AllocError>
         ensures { OnOk result (account_of self.new ≡ said place event.entry.sender.now
             event.entry.id event.entry.kind event.entry.text.now (account_of self.old)) }
@@ -139,7 +139,7 @@ impl<'a> Account<'a> {
         self.tell_event(place, event)
     }
 
-    /// What a packet says.
+    /// Takes the content of a packet.
     fn add_sent(
         &mut self,
         sent: Sent<'_>,
@@ -165,7 +165,7 @@ impl<'a> Account<'a> {
         }
     }
 
-    /// A packet. Answers from which rule on that of the next request is looked for. Out of memory is the only error.
+    /// Takes a packet. Returns the number from which the rule of the next request is searched. The only error is a lack of memory.
     fn read(
         &mut self,
         packet: &[u8],
@@ -187,7 +187,7 @@ impl<'a> Account<'a> {
         }
     }
 
-    /// All packets that a record led to. Out of memory is the only error.
+    /// Takes all packets that a record led to, and the rules after it. The only error is a lack of memory.
     pub fn write(
         &mut self,
         packets: &[u8],

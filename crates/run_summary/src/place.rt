@@ -1,4 +1,4 @@
-//! Places in a run, and how rules stand behind one.
+//! Places in a run, and the results and states of rules there.
 
 ghost use Rattle.std.specs.Prelude.{◌≡◌};
 ghost use Rattle.run_summary.specs.Fields.{is_place};
@@ -6,36 +6,41 @@ ghost use Rattle.run_summary.specs.Standing.{bit_of_result, bit_of_state, stand_
 
 use lc_model::{ApMode, ApResult};
 
-/// A record, from 1, and its time in 1/65,536 s, less that of the first.
+/// The place of a record in a run.
 #[derive(Clone, Copy)]
 pub struct Place {
+    /// The record's number, counted from 1.
     pub record: u64,
+    /// Its time less that of the first record, in 1/65,536 s.
     pub time: i64,
 }
 
-/// Whether two places are one.
+/// Whether two places are equal.
 pub(crate) fn is_place(one: Place, other: Place) -> bool
     ensures { result ≡ is_place one other }
 {
     one.record == other.record && one.time == other.time
 }
 
-/// How a rule stands: its result and its state as bits, and how often it failed in a row.
+/// The result, state and failures in a row of a rule.
 #[derive(Clone, Copy)]
 pub struct Stand {
+    /// The bit of its last result (`result_bit`); 1 if there is no such rule.
     pub result: u8,
+    /// The bit of its state (`state_bit`); 0 if there is no such rule.
     pub state: u8,
+    /// How often it failed in a row.
     pub fails: u16,
 }
 
-/// Where there is no such rule.
+/// The value for a rule that doesn't exist.
 pub const ABSENT: Stand = Stand {
     result: 1,
     state: 0,
     fails: 0,
 };
 
-/// How a rule stands, if there is one of this number.
+/// The rule with this number; `ABSENT` if there is none.
 pub fn stand_in(stands: &[Stand], rule: usize) -> Stand
     ensures { result ≡ stand_at rule stands.now }
 {
@@ -45,16 +50,16 @@ pub fn stand_in(stands: &[Stand], rule: usize) -> Stand
     }
 }
 
-/// The bit of a failure.
+/// The bit of the result fail.
 pub const FAIL: u8 = 32;
 
-/// The bit of a rule that asks for its sequence.
+/// The bit of the state active: the rule may request its sequence.
 pub const ACTIVE: u8 = 1;
 
-/// The bit of a rule that has asked, or may not ask.
+/// The bit of the state passive: the rule has requested its sequence, or may not request it.
 pub const PASSIVE: u8 = 2;
 
-/// The bit of a result: the worse, the higher.
+/// The bit of a result: 2 for none, then 4, 8, 16 and 32 for pass, stale, error and fail.
 pub fn result_bit(last: Option<ApResult>) -> u8
     ensures { result ≡ bit_of_result last }
 {
@@ -67,7 +72,7 @@ pub fn result_bit(last: Option<ApResult>) -> u8
     }
 }
 
-/// The bit of a state.
+/// The bit of a state: 1, 2, 4 and 8 for active, passive, disabled and off for good.
 pub fn state_bit(state: ApMode) -> u8
     ensures { result ≡ bit_of_state state }
 {

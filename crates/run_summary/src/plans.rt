@@ -1,4 +1,4 @@
-//! The rules of texts, as far as requests and samples need them.
+//! The rules of texts, with what requests and samples need of them.
 
 ghost use Rattle.std.specs.Prelude.{◌≡◌, IfOk, Some, filter_map, map, option_map, slice_get};
 ghost use Rattle.rule_parser.specs.Syntax.{rule_of};
@@ -13,17 +13,20 @@ use rule_parser::{Comparison, Item, RuleItem};
 use std::alloc::{AllocError, Global};
 use std::marker::Model;
 
-/// A comparison of a rule, by the number of its field.
+/// A comparison of a rule.
 #[derive(Clone, Copy)]
 pub struct Part {
+    /// The index of its field among `Account::seen`.
     pub field: usize,
+    /// Its operator.
     pub op: CmpOp,
-    /// The number, and the byte of the text at which it stands.
+    /// The number that the field is compared with.
     pub number: i64,
+    /// The byte of the rule text at which that number begins, counted from 0.
     pub at: usize,
 }
 
-/// A rule: the sequence that it requests, and its comparisons, from the left.
+/// A rule: the sequence that it requests, and its comparisons from left to right.
 #[derive(Drop)]
 pub(crate) struct RulePlan {
     sequence: i64,
@@ -100,7 +103,7 @@ pub(crate) fn parts_at(plans: &[RulePlans], text: Option<u16>, rule: usize) -> &
     }
 }
 
-/// Whether the rule of this number in the text of this number may have requested a sequence: one that isn't known may.
+/// Whether the rule with this number in the text with this number may have requested a sequence; true if the rule isn't known.
 pub(crate) fn may_request(
     plans: &[RulePlans],
     text: Option<u16>,
@@ -115,7 +118,7 @@ pub(crate) fn may_request(
     }
 }
 
-/// A comparison by the number of its field among these, if it names one.
+/// A comparison with the index of its field among these, if it names one of them.
 fn part_of(text: &RuleText<'_>, comparison: &Comparison<'_>, fields: &[Field<'_>]) -> Option<Part>
     ensures { result ≡ part_in (items_in text.now) (map compared_of fields.now)
         (comparison_of comparison.now) }
@@ -131,7 +134,7 @@ fn part_of(text: &RuleText<'_>, comparison: &Comparison<'_>, fields: &[Field<'_>
     }
 }
 
-/// These comparisons by the numbers of their fields. Out of memory is the only error.
+/// These comparisons with the indexes of their fields. The only error is a lack of memory.
 fn parts_among(
     alloc: Global,
     text: &RuleText<'_>,

@@ -26,21 +26,21 @@ impl Model for Sample {
 }
 
 impl Sample {
-    /// Where the sample was.
+    /// The place of the sample.
     pub fn place(&self) -> Place
         ensures { result ≡ self.now.place }
     {
         self.place
     }
 
-    /// What the rule's comparisons met, from the left.
+    /// What the rule's comparisons met, from left to right.
     pub fn comparisons(&self) -> &[Met]
         ensures { result.now ≡ self.now.met }
     {
         self.met.as_slice()
     }
 
-    /// The same sample. Out of memory is the only error.
+    /// A copy of the sample. The only error is a lack of memory.
     pub(crate) fn same(&self, alloc: Global) -> Result<Sample, AllocError>
         ensures { IfOk result (λ sample. sample ≡ self.now) }
     {
@@ -51,7 +51,7 @@ impl Sample {
         })
     }
 
-    /// Its room for what is met.
+    /// The sample's memory, cleared for another sample.
     fn into_room(self) -> Vec<Met>
         ensures { result.items ≡ [] }
     {
@@ -61,7 +61,7 @@ impl Sample {
     }
 }
 
-/// How often a rule failed in a row, and the first three and the last three samples in which it did. Contracts see all (`Row`).
+/// How often a rule failed in a row, and the first three and the last three samples of that row. Contracts see all (`Row`).
 #[derive(Drop)]
 pub(crate) struct FailRun {
     fails: u16,
@@ -76,12 +76,12 @@ impl Model for FailRun {
     ghost view = { λ r. record { fails = r.fails; samples = r.samples.items } };
 }
 
-/// How many of a row's samples are kept at its front, and at all.
+/// The number of first samples of a row that are kept, and the number of all that are.
 const FRONT: usize = 3;
 
 const ALL: usize = 6;
 
-/// What these comparisons meet. Out of memory is the only error.
+/// What these comparisons meet. The only error is a lack of memory.
 fn meet(room: Vec<Met>, parts: &[Part], all: &[Seen<'_>]) -> Result<Vec<Met>, AllocError>
     requires { room.items ≡ [] }
     ensures { IfOk result (λ met. met.items ≡ met_by_parts parts.now all.now) }
@@ -93,7 +93,7 @@ fn meet(room: Vec<Met>, parts: &[Part], all: &[Seen<'_>]) -> Result<Vec<Met>, Al
     Ok(met)
 }
 
-/// Makes room for one more, and answers room for what it meets.
+/// Makes room for one sample more, and returns empty memory for what it meets.
 fn make_room(alloc: Global, samples: &mut Vec<Sample>) -> Vec<Met>
     ensures room { result.items ≡ [] }
     ensures samples { samples.new.items ≡ with_room samples.old.items }
@@ -104,7 +104,7 @@ fn make_room(alloc: Global, samples: &mut Vec<Sample>) -> Vec<Met>
     samples.remove(FRONT).into_room()
 }
 
-/// One more sample, in which these comparisons meet what is known of fields. Out of memory is the only error.
+/// Adds a sample with what these comparisons meet. The only error is a lack of memory.
 fn add_sample(
     alloc: Global,
     samples: &mut Vec<Sample>,
@@ -121,7 +121,7 @@ fn add_sample(
     Ok(())
 }
 
-/// The samples of the row that the last one is of: a first failure begins one.
+/// Clears the samples if a new row of failures begins.
 fn begin_row(samples: &mut Vec<Sample>, fails: u16, before: u16)
     ensures { samples.new.items ≡
         in_row fails (record { fails = before; samples = samples.old.items }) }
@@ -154,8 +154,7 @@ impl FailRun {
         self.samples.as_slice()
     }
 
-    /// How the rule stands behind a record: where it failed once more, what its comparisons met is kept. Out of memory is the only
-    /// error.
+    /// Takes the rule after a record. If it failed once more, keeps what its comparisons met. The only error is a lack of memory.
     pub(crate) fn take(
         &mut self,
         alloc: Global,
@@ -181,7 +180,8 @@ impl FailRun {
     }
 }
 
-/// What a comparison makes of what it met: stale where no packet came, an error where it ended before the field, else whether it holds.
+/// The word for the result of a comparison: `stale` if no packet came, `error` if the packet ended before the field, else `true` or
+/// `false`.
 pub fn verdict(part: Part, met: Met) -> &'static str
     ensures { result.now ≡ verdict_of part met }
 {

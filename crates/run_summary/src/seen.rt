@@ -1,4 +1,4 @@
-//! What is known of the fields: what packets said of them.
+//! What is known of fields from the packets that came.
 
 ghost use Rattle.std.specs.Prelude.{◌≡◌, ◌≤◌, length, map, IfOk};
 ghost use Rattle.run_summary.specs.Fields.{all_seen, come_in, forgotten, met_of, nothing, seen_by, seen_in, unseen};
@@ -10,30 +10,36 @@ use crate::values::value_in;
 use lc_model::packet::message_id;
 use std::alloc::{AllocError, Global};
 
-/// What a comparison meets of a field: the value, where its packet reached it, and the packet's place, where one came.
+/// What a comparison meets of a field.
 #[derive(Clone, Copy)]
 pub struct Met {
+    /// The field's value; `None` if no packet came or the packet ended before the field.
     pub value: Option<i64>,
+    /// The place of the packet; `None` if none came since tables came into force.
     pub place: Option<Place>,
 }
 
-/// No packet came.
+/// What a comparison meets before a packet comes.
 pub(crate) const NOTHING: Met = Met {
     value: None,
     place: None,
 };
 
-/// What is known of a field: how many packets came with it, the last of them, and what comparisons meet of it.
+/// What is known of a field from the packets that came.
 #[derive(Clone, Copy)]
 pub struct Seen<'a> {
+    /// The field.
     pub field: Field<'a>,
+    /// The number of packets of its message id, up to 2^64 - 1.
     pub packets: u64,
+    /// The place of the last of them.
     pub last: Option<Place>,
+    /// What comparisons meet of it.
     pub met: Met,
 }
 
 impl<'a> Seen<'a> {
-    /// Nothing came of a field.
+    /// A field before its first packet.
     fn new(field: Field<'a>) -> Seen<'a>
         ensures { result ≡ unseen field.entry }
     {
@@ -45,7 +51,7 @@ impl<'a> Seen<'a> {
         }
     }
 
-    /// A packet of the field's message id.
+    /// Takes a packet of the field's message id.
     fn take(&mut self, packet: &[u8], place: Place)
         ensures { self.new ≡ seen_in packet.now place self.old }
     {
@@ -57,7 +63,7 @@ impl<'a> Seen<'a> {
         };
     }
 
-    /// A packet, which is one of the field's by its message id.
+    /// Takes a packet if it has the field's message id.
     fn see(&mut self, packet: &[u8], place: Place)
         requires { 2 ≤ length packet.now }
         ensures { self.new ≡ seen_by packet.now place self.old }
@@ -67,7 +73,7 @@ impl<'a> Seen<'a> {
         }
     }
 
-    /// What comparisons meet of the field, where a packet of this place brought it.
+    /// What comparisons meet of the field, if a packet at this place brought it; else `None`.
     pub fn come_in(&self, place: Place) -> Option<Met>
         ensures { result ≡ come_in place self.now }
     {
@@ -77,7 +83,7 @@ impl<'a> Seen<'a> {
         }
     }
 
-    /// What comparisons meet begins anew.
+    /// Clears what comparisons meet.
     fn forget(&mut self)
         ensures { self.new ≡ forgotten self.old }
     {
@@ -85,7 +91,7 @@ impl<'a> Seen<'a> {
     }
 }
 
-/// Nothing is known of these fields. Out of memory is the only error.
+/// These fields before their first packets. The only error is a lack of memory.
 pub(crate) fn all_unseen<'a>(
     alloc: Global,
     fields: &[Field<'a>],
@@ -99,7 +105,7 @@ pub(crate) fn all_unseen<'a>(
     Ok(all)
 }
 
-/// A telemetry packet: the fields of its message id have new values.
+/// Takes a telemetry packet: the fields of its message id get new values.
 pub(crate) fn see_all(all: &mut [Seen<'_>], packet: &[u8], place: Place)
     ensures { all.new ≡ all_seen packet.now place all.old }
 {
@@ -111,7 +117,7 @@ pub(crate) fn see_all(all: &mut [Seen<'_>], packet: &[u8], place: Place)
     }
 }
 
-/// What comparisons meet begins anew.
+/// Clears what comparisons meet of all fields.
 pub(crate) fn forget_all(all: &mut [Seen<'_>])
     ensures { all.new ≡ map forgotten all.old }
 {
@@ -120,7 +126,7 @@ pub(crate) fn forget_all(all: &mut [Seen<'_>])
     }
 }
 
-/// What a comparison meets of the field of this number.
+/// What a comparison meets of the field with this index.
 pub(crate) fn met_of(all: &[Seen<'_>], number: usize) -> Met
     ensures { result ≡ met_of all.now number }
 {

@@ -12,28 +12,37 @@ use lc_model::EventKind;
 use std::alloc::{AllocError, Global};
 use std::marker::Model;
 
-/// How many requests and events are kept of the first, and of the last.
+/// The number of first, and of last, requests and events that are kept.
 const REQUESTS: usize = 300;
 
 const EVENTS: usize = 1_000;
 
-/// The most that comparisons met in all samples that are told.
+/// The most `Met` values in all samples that are kept.
 const PARTS: usize = 3_072;
 
 /// The least number of a rule's own event.
 const FIRST_RULE_EVENT: u16 = 1_000;
 
-/// A request for a command sequence, with the rule that made it, where that is known. Contracts see all (`Requested`).
+/// A request for a command sequence. Contracts see all (`Requested`).
 #[derive(Drop)]
 pub struct Request {
+    /// The number of its packet among those that the run wrote, counted from 1.
     pub packet: u64,
+    /// The place of the record that led to it.
     pub place: Place,
+    /// The number of the rule that made it, if it is known.
     pub rule: Option<usize>,
+    /// The number of the text in force, if it is known.
     pub text: Option<u16>,
+    /// The number of the requested sequence.
     pub sequence: u16,
+    /// The sequence count of its packet.
     pub count: u16,
+    /// The packet number of the rule's event after it, if one came.
     pub event: Option<u64>,
+    /// The number of samples that counted for it.
     pub counted: u16,
+    /// The first three and the last three of these samples, or none.
     pub samples: Vec<Sample>,
 }
 
@@ -55,15 +64,22 @@ impl Model for Request {
     } };
 }
 
-/// An event, with the rule that it is about. Contracts see all (`Said`).
+/// An event that a run sent. Contracts see all (`Said`).
 #[derive(Drop)]
 pub struct SeenEvent {
+    /// The number of its packet among those that the run wrote, counted from 1.
     pub packet: u64,
+    /// The place of the record that led to it.
     pub place: Place,
+    /// The number of the rule that it is about, if it is about one.
     pub rule: Option<usize>,
+    /// The sender's name.
     pub sender: Vec<u8>,
+    /// The event id.
     pub id: u16,
+    /// The event's type.
     pub kind: EventKind,
+    /// The event's text.
     pub text: Vec<u8>,
 }
 
@@ -83,7 +99,7 @@ impl Model for SeenEvent {
     } };
 }
 
-/// Whether two rules are one, or both are unknown.
+/// Whether two rules are the same, or both are unknown.
 fn is_rule(one: Option<usize>, other: Option<usize>) -> bool
     ensures { result ≡ is_rule one other }
 {
@@ -107,7 +123,7 @@ impl Request {
             && is_rule(self.rule, event.rule)
     }
 
-    /// The request once this event came.
+    /// The request after this event came.
     fn with_event(self, event: &SeenEvent) -> Request
         ensures { result ≡ hears event.now self }
     {
@@ -133,7 +149,7 @@ impl SeenEvent {
     }
 }
 
-/// The newest request once this event came.
+/// The newest request after this event came.
 fn newest_with_event(newest: Option<Request>, event: &SeenEvent) -> Option<Request>
     ensures { result ≡ option_map (hears event.now) newest }
 {
@@ -143,7 +159,7 @@ fn newest_with_event(newest: Option<Request>, event: &SeenEvent) -> Option<Reque
     }
 }
 
-/// One request more. Out of memory is the only error.
+/// Adds a request. The only error is a lack of memory.
 fn keep_request(requests: &mut Ends<Request>, request: Request) -> Result<(), AllocError>
     ensures { OnOk result (requests.new ≡
         kept (λ (request : Requested). request.place.«record») request requests.old) }
@@ -156,7 +172,7 @@ fn keep_request(requests: &mut Ends<Request>, request: Request) -> Result<(), Al
     Ok(())
 }
 
-/// One event more. Out of memory is the only error.
+/// Adds an event. The only error is a lack of memory.
 fn keep_event(events: &mut Ends<SeenEvent>, event: SeenEvent) -> Result<(), AllocError>
     ensures { OnOk result (events.new ≡
         kept (λ (event : Said). event.place.«record») event events.old) }
@@ -169,7 +185,7 @@ fn keep_event(events: &mut Ends<SeenEvent>, event: SeenEvent) -> Result<(), Allo
     Ok(())
 }
 
-/// The request in front of the newest, if there is one. Out of memory is the only error.
+/// Adds the request before the newest, if there is one. The only error is a lack of memory.
 fn keep_before(requests: &mut Ends<Request>, request: Option<Request>) -> Result<(), AllocError>
     ensures { OnOk result (requests.new ≡ before_newest request requests.old) }
 {
@@ -179,7 +195,7 @@ fn keep_before(requests: &mut Ends<Request>, request: Option<Request>) -> Result
     }
 }
 
-/// What comparisons met in samples, at most the greatest number of 64 bits.
+/// The number of `Met` values in samples, at most 2^64 - 1.
 pub(crate) fn parts_in(samples: &[Sample]) -> usize
     ensures { result ≡ min (parts_in samples.now) (2 ^ 64 - 1) }
 {
@@ -224,14 +240,14 @@ impl Sending {
         }
     }
 
-    /// The requests but for the newest.
+    /// All requests except the newest.
     pub fn requests(&self) -> &Ends<Request>
         ensures { result.now ≡ self.now.requests }
     {
         &self.requests
     }
 
-    /// The newest request.
+    /// The newest request, if there is one.
     pub fn newest(&self) -> Option<&Request>
         ensures { option_map (λ request. request.now) result ≡ self.now.newest }
     {
@@ -245,7 +261,7 @@ impl Sending {
         &self.events
     }
 
-    /// Whether what comparisons met in these samples may be told, too. Where there was no room once there will be none.
+    /// Takes room for these samples' `Met` values, and returns whether there is any. After it returned false once, it always does.
     pub(crate) fn take_parts(&mut self, samples: &[Sample]) -> bool
         ensures room { result ≡
             nat_le (parts_with (parts_in samples.now) self.old.parts) most_parts }
@@ -256,7 +272,7 @@ impl Sending {
         self.parts <= PARTS
     }
 
-    /// A request. Out of memory is the only error.
+    /// Takes a request. The only error is a lack of memory.
     pub(crate) fn request(&mut self, request: Request) -> Result<(), AllocError>
         ensures { OnOk result (self.new ≡ requested_more request self.old) }
     {
@@ -264,7 +280,8 @@ impl Sending {
         keep_before(&mut self.requests, before)
     }
 
-    /// An event: the first of the rule that just requested is the request's. Out of memory is the only error.
+    /// Takes an event. The first event of the rule that made the newest request becomes that request's event. The only error is a lack
+    /// of memory.
     pub(crate) fn event(&mut self, event: SeenEvent) -> Result<(), AllocError>
         ensures { OnOk result (self.new ≡ said_more event self.old) }
     {

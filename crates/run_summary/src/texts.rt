@@ -1,4 +1,4 @@
-//! The rules of texts as a page has them, and the fields that these compare.
+//! The rules of texts as a page shows them, and the fields that they compare.
 
 ghost use Rattle.std.specs.Prelude.{◌≡◌, ◌++◌, IfOk, OnOk, filter_map, length, map, nat_abs, option_map, slice_get};
 ghost use Rattle.std.specs.Option.{option_map_or};
@@ -14,18 +14,24 @@ use rule_lexer::TokenKind;
 use rule_parser::{Comparison, Expression, FieldItem, Item, Name, Number, RuleItem};
 use std::alloc::{AllocError, Global};
 
-/// A field that a rule compares. Two are one where all of this is equal.
+/// A field that a rule compares. Two fields are the same if all of this is equal.
 #[derive(Clone, Copy)]
 pub struct Field<'a> {
+    /// The field's name.
     pub name: &'a [u8],
+    /// The name of its packet.
     pub packet: &'a [u8],
+    /// The message id of its packet.
     pub mid: u32,
+    /// Its type.
     pub kind: FieldType,
+    /// The number of bytes from the packet's first byte to the field.
     pub at: u32,
-    /// The mask as the text has it, where it writes one.
+    /// The mask in the text, if there is one.
     pub mask: Option<i64>,
-    /// The bits that count: all of the type where there is no mask.
+    /// The bits that are read: all of its type without a mask.
     pub bits: u32,
+    /// The number of agings after which it is stale; 0 means never.
     pub stale: i64,
 }
 
@@ -36,7 +42,7 @@ fn magnitude(number: Number) -> u32
     number.value.unsigned_abs() as u32
 }
 
-/// The bits of a field that count.
+/// The bits of a field that are read.
 fn bits_of(field: FieldItem<'_>) -> u32
     ensures { result ≡
         option_map_or (λ mask. nat_abs mask.value) field.entry.mask (full_mask field.entry.kind) }
@@ -44,7 +50,7 @@ fn bits_of(field: FieldItem<'_>) -> u32
     field.mask.map_or(field.kind.full_mask(), magnitude)
 }
 
-/// How many rules a text has.
+/// The number of rules in a text.
 pub fn rule_count(text: &RuleText<'_>) -> usize
     ensures { result ≡ length (rules_of (items_in text.now)) }
 {
@@ -57,7 +63,7 @@ pub fn rule_count(text: &RuleText<'_>) -> usize
     count
 }
 
-/// The rule of a text with this number.
+/// The rule of a text with this number, counted from 0.
 pub fn rule_at<'f, 'a>(text: &'f RuleText<'a>, number: usize) -> Option<&'f RuleItem<'a>>
     ensures { option_map (λ rule. rule_of rule.now) result ≡
         slice_get (rules_of (items_in text.now)) number }
@@ -74,7 +80,7 @@ pub fn rule_at<'f, 'a>(text: &'f RuleText<'a>, number: usize) -> Option<&'f Rule
     None
 }
 
-/// The message id of a text's packet of this name; 0 where there is none.
+/// The message id of a text's packet of this name; 0 if there is none.
 fn mid_of(text: &RuleText<'_>, name: Name<'_>) -> u32
     ensures { result ≡ mid_named (items_in text.now) (name_of name.entry) }
 {
@@ -103,7 +109,7 @@ pub(crate) fn field_by_name<'a>(text: &RuleText<'a>, name: Name<'_>) -> Option<F
     None
 }
 
-/// What an item of a text says of a field.
+/// The field that an item of a text declares.
 fn field_of<'a>(text: &RuleText<'a>, field: FieldItem<'a>) -> Field<'a>
     ensures { compared_of result ≡ compared_in (items_in text.now) (field_of field.entry) }
 {
@@ -119,7 +125,7 @@ fn field_of<'a>(text: &RuleText<'a>, field: FieldItem<'a>) -> Field<'a>
     }
 }
 
-/// The bytes of the token at this byte of a text.
+/// The bytes of the token that begins at this byte of a text; empty if none does.
 pub fn token_bytes<'a>(text: &RuleText<'a>, at: usize) -> &'a [u8] {
     for token in &text.tokens {
         if token.at == at {
@@ -129,7 +135,7 @@ pub fn token_bytes<'a>(text: &RuleText<'a>, at: usize) -> &'a [u8] {
     b""
 }
 
-/// The first of the tokens of the condition of the rule whose name stands at this byte of a text, and the one behind them.
+/// The token numbers of a condition: its first token and the `;` after its last. The rule's name begins at byte `at` of the text.
 pub fn condition_tokens(text: &RuleText<'_>, at: usize) -> (usize, usize) {
     let name = text.tokens.iter().take_while(|token| token.at < at).count();
     let when = next_token(text, name, TokenKind::When);
@@ -183,7 +189,7 @@ pub(crate) fn comparisons_of<'a>(
     Ok(comparisons)
 }
 
-/// Whether two masks are one, or none is written.
+/// Whether two masks are equal, or both are absent.
 fn is_mask(one: Option<i64>, other: Option<i64>) -> bool
     ensures { result ≡ is_mask one other }
 {
@@ -196,7 +202,7 @@ fn is_mask(one: Option<i64>, other: Option<i64>) -> bool
     }
 }
 
-/// Whether two fields are one.
+/// Whether two fields are the same.
 fn is_same(one: &Field<'_>, other: &Field<'_>) -> bool
     ensures { result ≡ is_same (compared_of one.now) (compared_of other.now) }
 {

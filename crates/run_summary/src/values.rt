@@ -6,7 +6,7 @@ ghost use Rattle.run_summary.specs.Fields.{value_in};
 
 use crate::texts::Field;
 
-/// The field's value: its bits that count, and then its sign. None where the packet ends before the field does.
+/// The field's value: its masked bits, read with its sign. `None` if the packet ends before the field does.
 pub(crate) fn value_in(field: &Field<'_>, packet: &[u8]) -> Option<i64>
     ensures { result ≡ value_in field.now packet.now }
 {

@@ -142,7 +142,7 @@ pub each_more : (judged : List Judged) (one : Judged) (rest : List Placed) → m
 each_more [] one rest = refl
 each_more (first ∷ judged) one rest = ap (λ others. first.placed ∷ others) (each_more judged one rest)
 
-pub all_more : (P : Judged → Type 0) (judged : List Judged) (one : Judged) → AllByRecursion P judged → P one → AllByRecursion P (judged ++ one ∷ [])
+pub all_more : {A : Type 0} (P : A → Type 0) (judged : List A) (one : A) → AllByRecursion P judged → P one → AllByRecursion P (judged ++ one ∷ [])
 all_more P [] one all is = (is, tt)
 all_more P (first ∷ judged) one all is = (all.0, all_more P judged one all.1 is)
 

@@ -1,4 +1,6 @@
 mod Lines
 mod Comments
 mod Ahead
+mod Forces
+mod Settling
 mod TrialSteps

@@ -1,5 +1,5 @@
 -- The lines of a script, as parts of it.
-use Rattle.std.proofs.Common.{◌≡◌, refl, sym, ◌∙◌, ap, ℕ, suc, ◌+◌, Bool, true, false, List, [], ◌∷◌, ◌++◌, length, map, append_assoc, Option, Some, None, is_none, Result, subst, arith}
+use Rattle.std.proofs.Common.{◌≡◌, refl, sym, ◌∙◌, ap, ℕ, Bool, true, false, List, [], ◌∷◌, ◌++◌, map, append_assoc, Option, Some, None, is_none, Result, subst}
 use denote.Ref.{Bor}
 use Rattle.lc_model.specs.Host.ScheduleText.{onto_first, parted}
 use Rattle.scenario_trial.specs.declared.expectation_lines.ReadError.{ReadError}

@@ -5,7 +5,7 @@ use Rattle.std.specs.List.{AllByRecursion}
 use Rattle.std.proofs.lemmas.List.{length-map}
 use Rattle.lc_model.specs.Host.Schedule.{Schedule}
 use Rattle.scenarios.specs.Declarations.{Declarations, AreDeclared, nothing_declared}
-use Rattle.scenarios.specs.Plain.{PlainScript, plain_in}
+use Rattle.scenarios.specs.Plain.{PlainScript}
 use Rattle.scenario_trial.specs.declared.error.TrialError.{TrialError}
 use Rattle.scenario_trial.specs.declared.error.TrialError.TheVariants as trial
 use Rattle.scenario_trial.specs.declared.trial.TrialOutcome.{TrialOutcome}
@@ -19,6 +19,7 @@ use Rattle.scenario_trial.specs.declared.verdict.Judged.{Judged}
 use Rattle.scenario_trial.specs.Arrivals.{IsFound, arrivals_of, has_no_rule, is_whole, placed_in}
 use Rattle.scenario_trial.specs.Judged.{unmet_of}
 use Rattle.scenario_trial.specs.Reading.{expectations_in, placed_of, silenced_in}
+use Rattle.scenario_trial.specs.Settled.{IsGuessed, IsSettled}
 use Rattle.scenario_trial.specs.Untried.{IsPlainUntried, IsUntried}
 
 each_placed : (judged : List Judged) → map (λ (one : Judged). placed_of one.placed) judged ≡ map placed_of (map placed_in judged)
@@ -51,30 +52,35 @@ tried_by sources schedule declared plain stream expectations judged trace outcom
 }
 
 -- why a plain script isn't tried is why the scenario isn't that is short for it
+pub untried_for : (sources : List (List ℕ)) (schedule : Schedule) (text : List ℕ) (declared : Declarations) (plain : PlainScript) (error : TrialError) →
+    AreDeclared sources nothing_declared declared → IsGuessed sources schedule declared text plain → IsPlainUntried sources schedule declared plain error → IsUntried sources schedule text error
+untried_for sources schedule text declared plain trial.Memory declares short why = tt
+untried_for sources schedule text declared plain trial.Write declares short why = tt
+untried_for sources schedule text declared plain (trial.Rules number error) declares short why = why
+untried_for sources schedule text declared plain (trial.Scenario error) declares short why = absurd why
+untried_for sources schedule text declared plain (trial.Unsettled n) declares short why = absurd why
+untried_for sources schedule text declared plain (trial.Script error) declares short why = (declared, plain, record { declares = declares; short = short }, why)
+untried_for sources schedule text declared plain (trial.Expectation error) declares short why = (declared, plain, record { declares = declares; short = short }, why)
+untried_for sources schedule text declared plain (trial.NoRule n) declares short why = (declared, plain, record { declares = declares; short = short }, why)
+untried_for sources schedule text declared plain (trial.Stopped n) declares short why = (declared, plain, record { declares = declares; short = short }, why)
+
 pub untried : (sources : List (List ℕ)) (schedule : Schedule) (text : List ℕ) (declared : Declarations) (plain : PlainScript) (result : Result TrialOutcome TrialError) →
-    AreDeclared sources nothing_declared declared → plain_in declared [] text ≡ Ok plain → IfErr result (IsPlainUntried sources schedule declared plain) → IfErr result (IsUntried sources schedule text)
+    AreDeclared sources nothing_declared declared → IsGuessed sources schedule declared text plain → IfErr result (IsPlainUntried sources schedule declared plain) → IfErr result (IsUntried sources schedule text)
 untried sources schedule text declared plain (Ok tried) declares short why = tt
-untried sources schedule text declared plain (Err trial.Memory) declares short why = tt
-untried sources schedule text declared plain (Err trial.Write) declares short why = tt
-untried sources schedule text declared plain (Err (trial.Rules number error)) declares short why = why
-untried sources schedule text declared plain (Err (trial.Scenario error)) declares short why = absurd why
-untried sources schedule text declared plain (Err (trial.Script error)) declares short why = (declared, plain, record { declares = declares; short = short }, why)
-untried sources schedule text declared plain (Err (trial.Expectation error)) declares short why = (declared, plain, record { declares = declares; short = short }, why)
-untried sources schedule text declared plain (Err (trial.NoRule n)) declares short why = (declared, plain, record { declares = declares; short = short }, why)
-untried sources schedule text declared plain (Err (trial.Stopped n)) declares short why = (declared, plain, record { declares = declares; short = short }, why)
+untried sources schedule text declared plain (Err error) declares short why = untried_for sources schedule text declared plain error declares short why
 
 -- what a plain script comes to is what the scenario comes to that is short for it
 pub tried_so : (sources : List (List ℕ)) (schedule : Schedule) (text : List ℕ) (declared : Declarations) (plain : PlainScript) (result : Result TrialOutcome TrialError) →
-    AreDeclared sources nothing_declared declared → plain_in declared [] text ≡ Ok plain → IfOk result (IsPlainTried sources schedule declared plain) →
+    AreDeclared sources nothing_declared declared → IsSettled sources schedule declared text plain → IfOk result (IsPlainTried sources schedule declared plain) →
     IfOk result (IsTried sources schedule text)
-tried_so sources schedule text declared plain (Ok tried) declares short tries = record {
+tried_so sources schedule text declared plain (Ok tried) declares settled tries = record {
   declared = declared;
   declares = declares;
   plain = plain;
-  short = short;
+  settled = settled;
   tries = tries;
 }
-tried_so sources schedule text declared plain (Err error) declares short tries = tries
+tried_so sources schedule text declared plain (Err error) declares settled tries = tries
 
 -- the same by the answer, where what is the same has several names
 pub outcome_so : (sources : List (List ℕ)) (schedule : Schedule) (declared : Declarations) (plain : PlainScript) (quiet quiet' stream stream' : List ℕ) (ps asked run_with warned_of : List Placed)

@@ -18,6 +18,8 @@ use Rattle.run_stepper.specs.Force.{IsInForce}
 use Rattle.run_stepper.specs.Trace.{Arrived, Traced, arrived_from, engine_in, standing_in}
 use Rattle.run_stepper.specs.Walk.{StandsBehind}
 use Rattle.scenario_trial.specs.declared.expectation.Arrival.{Arrival}
+use Rattle.scenario_trial.specs.declared.expectation.ArrivalKind.{ArrivalKind}
+use Rattle.scenario_trial.specs.declared.expectation.ArrivalKind.TheVariants as kind
 use Rattle.scenario_trial.specs.declared.expectation_lines.Placed.{Placed}
 use Rattle.scenario_trial.specs.declared.trial.Tried.{Tried}
 use Rattle.scenario_trial.specs.declared.verdict.Judged.{Judged}
@@ -25,12 +27,21 @@ use Rattle.scenario_trial.specs.Expected.{Absent, Comes, Expected, LastResult, S
 use Rattle.scenario_trial.specs.Judged.{unmet_of}
 use Rattle.scenario_trial.specs.Reading.{PlacedExpected, placed_of}
 
--- a request, or an event of the Limit Checker, of the record with this number, in this second
+-- the kind of an event, by its sender
+abbrev pub event_kind : List ℕ → Option ArrivalKind
+event_kind sender =
+    if bytes_eq sender (codes "LC") then Some kind.Event else if bytes_eq sender (codes "HOST") then Some kind.HostEvent else None
+
+-- of this kind, where it has one
+abbrev pub arrival_with : ℕ → ℕ → ℕ → Option ArrivalKind → Option Arrival
+arrival_with place second number None = None
+arrival_with place second number (Some kind) = Some (record { place = place; second = second; kind = kind; number = number })
+
+-- a request, or an event of the Limit Checker or of the host, of the record with this number, in this second
 abbrev pub arrival_by : ℕ → ℕ → Option Told → Option Arrival
 arrival_by place second None = None
-arrival_by place second (Some (Request sequence)) = Some (record { place = place; second = second; is_event = false; number = sequence })
-arrival_by place second (Some (Event moment sender id kind text)) =
-    if bytes_eq sender (codes "LC") then Some (record { place = place; second = second; is_event = true; number = id }) else None
+arrival_by place second (Some (Request sequence)) = arrival_with place second sequence (Some kind.Sequence)
+arrival_by place second (Some (Event moment sender id level text)) = arrival_with place second id (event_kind sender)
 arrival_by place second (Some (Housekeeping mode count rules)) = None
 
 -- what a packet that came is, in the second of its record

@@ -1,5 +1,5 @@
 -- What the words of an expectation say. This project's own.
-use Rattle.std.specs.Prelude.{ℕ, ◌-◌, ◌==◌, Bool, true, false, ◌&&◌, ◌||◌, List, [], ◌∷◌, codes, bytes_eq, nat_le, Option, Some, None, Result, Ok, Err, if◌then◌else◌}
+use Rattle.std.specs.Prelude.{ℕ, ◌-◌, ◌==◌, Bool, false, ◌&&◌, ◌||◌, List, [], ◌∷◌, codes, bytes_eq, nat_le, Option, Some, None, Result, Ok, Err, if◌then◌else◌}
 use Rattle.std.specs.Char.{is_ascii_digit}
 use Rattle.lc_model.specs.declared.mode.ApMode.{ApMode}
 use Rattle.lc_model.specs.declared.mode.ApMode.TheVariants.{PermOff}
@@ -12,7 +12,8 @@ use Rattle.scenario_trial.specs.declared.expectation.Expectation.TheVariants as 
 use Rattle.scenario_trial.specs.declared.expectation.Coming.{Coming}
 use Rattle.scenario_trial.specs.declared.expectation.Span.{Span}
 use Rattle.scenario_trial.specs.declared.expectation.What.{What}
-use Rattle.scenario_trial.specs.declared.expectation.What.TheVariants.{Sequence, Event}
+use Rattle.scenario_trial.specs.declared.expectation.ArrivalKind.{ArrivalKind}
+use Rattle.scenario_trial.specs.declared.expectation.ArrivalKind.TheVariants.{Sequence, Event, HostEvent}
 use Rattle.scenario_trial.specs.declared.fault.ExpectationFault.{ExpectationFault}
 use Rattle.scenario_trial.specs.declared.fault.ExpectationFault.TheVariants.{NoWhat, BadNumber, BadSecond, NoSpan, NoSecond, NoState, NoResult}
 
@@ -108,11 +109,10 @@ span_in (word ∷ second ∷ other ∷ last ∷ []) =
     if go_together word other then narrowed_twice word second other last else Err NoSpan
 span_in words = Err NoSpan
 
--- ---- what comes: `sequence [N]` or `event [N]`, and seconds
+-- ---- what comes: `sequence [N]`, `event [N]` or `event HOST [N]`, and seconds
 
-abbrev pub what_of : Bool → Option ℕ → What
-what_of true number = Sequence number
-what_of false number = Event number
+abbrev pub what_of : ArrivalKind → Option ℕ → What
+what_of kind number = record { kind = kind; number = number }
 
 -- this, within the seconds that words tell
 abbrev pub within : What → List (List ℕ) → Result Coming ExpectationFault
@@ -121,22 +121,27 @@ within what words = do
   Ok (record { what = what; span = span })
 
 -- the same with a number, and then the seconds
-abbrev pub numbered : Bool → List ℕ → List (List ℕ) → Result Coming ExpectationFault
-numbered is_sequence number words = do
+abbrev pub numbered : ArrivalKind → List ℕ → List (List ℕ) → Result Coming ExpectationFault
+numbered kind number words = do
   n ← some_number (number_in 65535 number)
-  within (what_of is_sequence (Some n)) words
+  within (what_of kind (Some n)) words
 
 -- the same, where a number may stand in front
-abbrev pub coming_of : Bool → List (List ℕ) → Result Coming ExpectationFault
-coming_of is_sequence [] = within (what_of is_sequence None) []
-coming_of is_sequence (word ∷ words) =
-    if is_numeral word then numbered is_sequence word words else within (what_of is_sequence None) (word ∷ words)
+abbrev pub coming_of : ArrivalKind → List (List ℕ) → Result Coming ExpectationFault
+coming_of kind [] = within (what_of kind None) []
+coming_of kind (word ∷ words) =
+    if is_numeral word then numbered kind word words else within (what_of kind None) (word ∷ words)
+
+-- an event: of the host where its name stands in front, else of the Limit Checker
+abbrev pub event_of : List (List ℕ) → Result Coming ExpectationFault
+event_of [] = coming_of Event []
+event_of (word ∷ words) = if bytes_eq word (codes "HOST") then coming_of HostEvent words else coming_of Event (word ∷ words)
 
 abbrev pub coming_in : List (List ℕ) → Result Coming ExpectationFault
 coming_in [] = Err NoWhat
 coming_in (word ∷ words) =
-    if bytes_eq word (codes "sequence") then coming_of true words
-    else if bytes_eq word (codes "event") then coming_of false words
+    if bytes_eq word (codes "sequence") then coming_of Sequence words
+    else if bytes_eq word (codes "event") then event_of words
     else Err NoWhat
 
 -- ---- how a rule stands

@@ -6,8 +6,9 @@ use Rattle.lc_model.specs.declared.mode.ApMode.{ApMode}
 use Rattle.lc_model.specs.declared.mode.ApResult.{ApResult}
 use Rattle.scenario_trial.specs.declared.expectation.Arrival.{Arrival}
 use Rattle.scenario_trial.specs.declared.expectation.Span.{Span}
+use Rattle.scenario_trial.specs.declared.expectation.ArrivalKind.{ArrivalKind}
+use Rattle.scenario_trial.specs.declared.expectation.ArrivalKind.TheVariants.{Sequence, Event, HostEvent}
 use Rattle.scenario_trial.specs.declared.expectation.What.{What}
-use Rattle.scenario_trial.specs.declared.expectation.What.TheVariants.{Sequence, Event}
 use Rattle.run_stepper.specs.declared.standing.RuleStanding.{RuleStanding}
 use Rattle.run_stepper.specs.declared.standing.RuleStanding.TheVariants.{Stands}
 use Rattle.scenario_trial.specs.declared.verdict.Judged.{Judged}
@@ -18,10 +19,15 @@ abbrev pub is_number : Option ℕ → ℕ → Bool
 is_number (Some asked) number = asked == number
 is_number None number = true
 
+-- the number of a kind: a request, an event of the Limit Checker, or one of the host
+abbrev pub kind_number : ArrivalKind → ℕ
+kind_number Sequence = 0
+kind_number Event = 1
+kind_number HostEvent = 2
+
 -- whether it is this that came
 abbrev pub is_what : What → Arrival → Bool
-is_what (Sequence asked) came = not came.is_event && is_number asked came.number
-is_what (Event asked) came = came.is_event && is_number asked came.number
+is_what what came = kind_number what.kind == kind_number came.kind && is_number what.number came.number
 
 -- one of these seconds
 abbrev pub is_within : Span → ℕ → Bool

@@ -3,6 +3,7 @@ pub mod Expected
 pub mod Reading
 pub mod Judged
 pub mod Arrivals
+pub mod Settled
 pub mod Untried
 pub mod Telling
 pub mod Warned

@@ -1,13 +1,14 @@
 -- What a trial comes to. This project's own.
-use Rattle.std.specs.Prelude.{◌≡◌, ℕ, true, List, [], Ok}
+use Rattle.std.specs.Prelude.{◌≡◌, ℕ, true, List, Ok}
 use Rattle.lc_model.specs.Host.Schedule.{Schedule}
 use Rattle.scenarios.specs.Declarations.{Declarations, AreDeclared, nothing_declared}
-use Rattle.scenarios.specs.Plain.{PlainScript, plain_in}
+use Rattle.scenarios.specs.Plain.{PlainScript}
 use Rattle.stream_script.specs.Script.{script_in}
 use Rattle.run_stepper.specs.Trace.{IsTraced, Traced, arrived_from}
 use Rattle.scenario_trial.specs.declared.trial.TrialOutcome.{TrialOutcome}
 use Rattle.scenario_trial.specs.Arrivals.{IsJudged, arrivals_of, is_whole}
 use Rattle.scenario_trial.specs.Reading.{PlacedExpected, expectations_in, silenced_in}
+use Rattle.scenario_trial.specs.Settled.{IsSettled}
 use Rattle.scenario_trial.specs.Warned.{warnings_of}
 
 -- A plain script was tried: without its expectations it says a stream, the run over it goes to its end, and they are judged by what
@@ -23,10 +24,11 @@ pub record IsPlainTried (sources : List (List ℕ)) (schedule : Schedule) (decla
   pub judged : IsJudged sources schedule declared (silenced_in plain.script) expectations (arrivals_of trace) outcome.tried
   pub warned : outcome.warnings.items ≡ warnings_of declared plain.lines expectations (arrived_from 0 trace.parts)
 
--- a scenario was tried: the plain script that it is short for, in the words that the rule texts declare
+-- A scenario was tried: the plain script that it is short for, in the words that the rule texts declare, and in which each command that
+-- sets the state of a rule has that rule's number in the text in force at its line.
 pub record IsTried (sources : List (List ℕ)) (schedule : Schedule) (scenario : List ℕ) (outcome : TrialOutcome) : Type 0 where
   pub declared : Declarations
   pub declares : AreDeclared sources nothing_declared declared
   pub plain : PlainScript
-  pub short : plain_in declared [] scenario ≡ Ok plain
+  pub settled : IsSettled sources schedule declared scenario plain
   pub tries : IsPlainTried sources schedule declared plain outcome

@@ -1,9 +1,10 @@
 -- Why a scenario isn't tried. This project's own.
-use Rattle.std.specs.Prelude.{◌≡◌, ℕ, false, List, [], find, Some, Ok, Err, ⊤}
+use Rattle.std.specs.Prelude.{◌≡◌, ℕ, ◌≤◌, false, List, find, Some, Ok, Err, ⊤}
 use Rattle.lc_model.specs.Host.Schedule.{Schedule}
 use Rattle.scenarios.specs.Declarations.{Declarations, AreDeclared, nothing_declared}
 use Rattle.scenarios.specs.Error.{IsScenarioError}
 use Rattle.scenarios.specs.Plain.{PlainScript, line_of, plain_in}
+use Rattle.scenarios.specs.declared.force.ForceChange.{ForceChange}
 use Rattle.scenarios.specs.declared.plain.Plain.{Plain}
 use Rattle.scenarios.specs.declared.error.ScenarioError.{ScenarioError}
 use Rattle.scenarios.specs.declared.error.ScenarioError.TheVariants as scenario
@@ -20,6 +21,7 @@ use Rattle.scenario_trial.specs.declared.expectation_lines.ReadError.{ReadError}
 use Rattle.scenario_trial.specs.declared.expectation_lines.ReadError.TheVariants as reading
 use Rattle.scenario_trial.specs.Arrivals.{has_no_rule, is_whole}
 use Rattle.scenario_trial.specs.Reading.{PlacedExpected, expectations_in, silenced_in}
+use Rattle.scenario_trial.specs.Settled.{IsGuess, IsGuessed}
 
 -- ---- as a trial's
 
@@ -112,36 +114,51 @@ IsPlainUntried sources schedule declared plain (trial.Scenario error) = ⊥
 IsPlainUntried sources schedule declared plain (trial.Expectation error) = IsUnexpected plain.script plain.lines (trial.Expectation error)
 IsPlainUntried sources schedule declared plain (trial.NoRule n) = AsksForNobody declared plain n
 IsPlainUntried sources schedule declared plain (trial.Stopped n) = StopsEarly sources schedule plain.script
+IsPlainUntried sources schedule declared plain (trial.Unsettled n) = ⊥
 
 -- what is held of a plain script
 abbrev pub plain_script_of : Plain → PlainScript
 plain_script_of plain = record { script = plain.text.items; lines = plain.lines.items }
 
--- the plain script that a scenario is short for, in the words that the rule texts declare
-pub record IsPlainOf (sources : List (List ℕ)) (scenario : List ℕ) (declared : Declarations) (plain : PlainScript) : Type 0 where
+-- the plain script that a scenario is short for in some round, in the words that the rule texts declare
+pub record IsPlainOf (sources : List (List ℕ)) (schedule : Schedule) (scenario : List ℕ) (declared : Declarations) (plain : PlainScript) : Type 0 where
   pub declares : AreDeclared sources nothing_declared declared
-  pub short : plain_in declared [] scenario ≡ Ok plain
+  pub short : IsGuessed sources schedule declared scenario plain
 
--- a scenario says no plain script in these words
-abbrev pub SaysNoScript : (sources : List (List ℕ)) (text : List ℕ) → ScenarioError → Type 0
-SaysNoScript sources text scenario.Memory = ⊥
-SaysNoScript sources text (scenario.Line n reason) =
-    (declared : Declarations) × AreDeclared sources nothing_declared declared × IsScenarioError (plain_in declared [] text) (scenario.Line n reason)
+-- a scenario says no plain script in these words, in some round
+abbrev pub IsNoScript : (sources : List (List ℕ)) (schedule : Schedule) (text : List ℕ) → Declarations → ScenarioError → Type 0
+IsNoScript sources schedule text declared error =
+    (round : ℕ) × (changes : List ForceChange) × IsGuess sources schedule declared text round changes × IsScenarioError (plain_in declared changes text) error
+
+abbrev pub SaysNoScript : (sources : List (List ℕ)) (schedule : Schedule) (text : List ℕ) → ScenarioError → Type 0
+SaysNoScript sources schedule text scenario.Memory = ⊥
+SaysNoScript sources schedule text (scenario.Line n reason) =
+    (declared : Declarations) × AreDeclared sources nothing_declared declared × IsNoScript sources schedule text declared (scenario.Line n reason)
+
+-- the most rounds
+abbrev pub most_rounds : ℕ
+most_rounds = 1000
+
+-- a scenario is not settled in this many
+abbrev pub StaysOpen : (sources : List (List ℕ)) (schedule : Schedule) (text : List ℕ) → Type 0
+StaysOpen sources schedule text =
+    (declared : Declarations) × AreDeclared sources nothing_declared declared × (round : ℕ) × (most_rounds ≤ round) × (changes : List ForceChange) × IsGuess sources schedule declared text round changes
 
 -- its plain script isn't tried, for this reason
 abbrev pub HasNoTrial : (sources : List (List ℕ)) (schedule : Schedule) (text : List ℕ) → TrialError → Type 0
 HasNoTrial sources schedule text error =
-    (declared : Declarations) × (plain : PlainScript) × IsPlainOf sources text declared plain × IsPlainUntried sources schedule declared plain error
+    (declared : Declarations) × (plain : PlainScript) × IsPlainOf sources schedule text declared plain × IsPlainUntried sources schedule declared plain error
 
 -- Why a scenario isn't tried: the first rule text that doesn't compile, the first of its lines that says nothing, or that says no
--- expectation, or one about a rule that no text has, or of what is left of it nothing of a stream; a run that stops early; want of memory,
--- or a writer that fails.
+-- expectation, or one about a rule that no text has, or of what is left of it nothing of a stream; a run that stops early; commands that
+-- name rules by a text in force that stays open; want of memory, or a writer that fails.
 abbrev pub IsUntried : (sources : List (List ℕ)) (schedule : Schedule) (text : List ℕ) → TrialError → Type 0
 IsUntried sources schedule text (trial.Rules number why) = IsRefusal sources (course.Rules number why)
-IsUntried sources schedule text (trial.Scenario error) = SaysNoScript sources text error
+IsUntried sources schedule text (trial.Scenario error) = SaysNoScript sources schedule text error
 IsUntried sources schedule text (trial.Script error) = HasNoTrial sources schedule text (trial.Script error)
 IsUntried sources schedule text (trial.Expectation error) = HasNoTrial sources schedule text (trial.Expectation error)
 IsUntried sources schedule text (trial.NoRule n) = HasNoTrial sources schedule text (trial.NoRule n)
 IsUntried sources schedule text (trial.Stopped n) = HasNoTrial sources schedule text (trial.Stopped n)
+IsUntried sources schedule text (trial.Unsettled n) = StaysOpen sources schedule text
 IsUntried sources schedule text trial.Memory = ⊤
 IsUntried sources schedule text trial.Write = ⊤

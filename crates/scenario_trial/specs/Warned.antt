@@ -1,13 +1,17 @@
 -- What is to be looked at in a script that was tried. This project's own.
-use Rattle.std.specs.Prelude.{ℕ, Bool, false, List, [], ◌∷◌, ◌++◌, filter_map, Option, Some, None, if◌then◌else◌}
+use Rattle.std.specs.Prelude.{ℕ, ◌==◌, Bool, true, false, not, List, [], ◌∷◌, ◌++◌, filter_map, find, Option, Some, None, if◌then◌else◌}
+use Rattle.std.specs.List.{list_any}
 use Rattle.scenarios.specs.Declarations.{Declarations}
 use Rattle.scenarios.specs.Plain.{line_of}
 use Rattle.scenarios.specs.Rules.{numbers_differ}
 use Rattle.run_stepper.specs.Trace.{Arrived}
 use Rattle.scenario_trial.specs.declared.expectation.Arrival.{Arrival}
+use Rattle.scenario_trial.specs.declared.expectation.ArrivalKind.{ArrivalKind}
 use Rattle.scenario_trial.specs.declared.warning.TrialWarning.{TrialWarning}
 use Rattle.scenario_trial.specs.declared.warning.TrialWarning.TheVariants.{ManyNumbers, NothingRan, NothingTried}
 use Rattle.scenario_trial.specs.Arrivals.{arrival_of, rule_in}
+use Rattle.scenario_trial.specs.Expected.{Absent, Comes, Expected, LastResult, State}
+use Rattle.scenario_trial.specs.Judged.{kind_number}
 use Rattle.scenario_trial.specs.Reading.{PlacedExpected}
 
 -- ---- rules to which the texts give different numbers
@@ -28,10 +32,31 @@ numbers_warnings declared lines expectations = filter_map (numbers_warning decla
 
 -- ---- a run in which nothing was tried
 
--- something is expected, by a first line, and of what came nothing is of the Limit Checker
-abbrev pub ran_by : ℕ → List Arrival → Option TrialWarning
-ran_by n [] = Some (NothingRan n)
-ran_by n (one ∷ others) = None
+-- a request or an event of this kind is of the Limit Checker, and not of the host itself
+abbrev pub is_kind_of_checker : ArrivalKind → Bool
+is_kind_of_checker kind = not (kind_number kind == 2)
+
+abbrev pub is_of_checker : Arrival → Bool
+is_of_checker came = is_kind_of_checker came.kind
+
+-- an expectation is about the Limit Checker
+abbrev pub is_about_checker : Expected → Bool
+is_about_checker (Comes coming) = is_kind_of_checker coming.what.kind
+is_about_checker (Absent coming) = is_kind_of_checker coming.what.kind
+is_about_checker (State rule state) = true
+is_about_checker (LastResult rule last) = true
+
+abbrev pub asks_checker : PlacedExpected → Bool
+asks_checker placed = is_about_checker placed.expected
+
+-- something is expected of the Limit Checker, by a first line, and of what came something is of it, or nothing
+abbrev pub ran_by : ℕ → Bool → Option TrialWarning
+ran_by n true = None
+ran_by n false = Some (NothingRan n)
+
+abbrev pub asked_by : List ℕ → Option PlacedExpected → List Arrived → Option TrialWarning
+asked_by lines None came = None
+asked_by lines (Some placed) came = ran_by (line_of lines placed.n) (list_any is_of_checker (filter_map arrival_of came))
 
 -- nothing is expected, and nothing came
 abbrev pub tried_by : List Arrived → Option TrialWarning
@@ -40,7 +65,7 @@ tried_by (one ∷ others) = None
 
 abbrev pub idle_warning : List ℕ → List PlacedExpected → List Arrived → Option TrialWarning
 idle_warning lines [] came = tried_by came
-idle_warning lines (placed ∷ others) came = ran_by (line_of lines placed.n) (filter_map arrival_of came)
+idle_warning lines (placed ∷ others) came = asked_by lines (find asks_checker (placed ∷ others)) came
 
 -- ---- all
 

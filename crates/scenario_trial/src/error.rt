@@ -34,6 +34,9 @@ pub enum TrialError {
     /// The run stops at the record that this line of the scenario, counted from 1, says.
     #[error("the run stops here: no rule text of this number is given")]
     Stopped { n: usize },
+    /// Which text is in force where this line of the scenario, counted from 1, names a rule, stays open.
+    #[error("which rule text is in force here stays open after 1,000 runs")]
+    Unsettled { n: usize },
     /// Out of memory.
     #[error("out of memory")]
     Memory,

@@ -1,17 +1,39 @@
 //! What is expected of a run.
 
 ghost use Rattle.std.specs.Prelude.{◌≡◌};
-ghost use Rattle.scenario_trial.specs.Judged.{has_come, is_number, is_what, is_within};
+ghost use Rattle.scenario_trial.specs.Judged.{has_come, is_number, is_what, is_within, kind_number};
 
 use lc_model::{ApMode, ApResult};
 
-/// What may come.
+/// What can be expected to come.
 #[derive(Clone, Copy, Debug, PartialEq, Eq)]
-pub enum What {
-    /// A request for the command sequence of this number, or for any.
-    Sequence(Option<u16>),
-    /// An event of the Limit Checker with this number, or any.
-    Event(Option<u16>),
+pub enum ArrivalKind {
+    /// A request for a command sequence.
+    Sequence,
+    /// An event of the Limit Checker.
+    Event,
+    /// An event of the host itself, whose name is `HOST`.
+    HostEvent,
+}
+
+impl ArrivalKind {
+    /// The kind's number, from 0.
+    pub fn number(self) -> u8
+        ensures { result ≡ kind_number self }
+    {
+        match self {
+            ArrivalKind::Sequence => 0,
+            ArrivalKind::Event => 1,
+            ArrivalKind::HostEvent => 2,
+        }
+    }
+}
+
+/// A request or an event with this number, or with any.
+#[derive(Clone, Copy, Debug, PartialEq, Eq)]
+pub struct What {
+    pub kind: ArrivalKind,
+    pub number: Option<u16>,
 }
 
 /// Seconds of the stream, from the first to the last; none where that lies before the first.
@@ -47,7 +69,7 @@ pub struct Arrival {
     /// The number of its record, from 0.
     pub place: usize,
     pub second: u32,
-    pub is_event: bool,
+    pub kind: ArrivalKind,
     pub number: u16,
 }
 
@@ -66,10 +88,7 @@ impl What {
     pub fn is(self, came: Arrival) -> bool
         ensures { result ≡ is_what self came }
     {
-        match self {
-            What::Sequence(asked) => !came.is_event && is_number(asked, came.number),
-            What::Event(asked) => came.is_event && is_number(asked, came.number),
-        }
+        self.kind.number() == came.kind.number() && is_number(self.number, came.number)
     }
 }
 

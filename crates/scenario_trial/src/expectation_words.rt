@@ -2,9 +2,9 @@
 
 ghost use Rattle.std.specs.Prelude.{◌≡◌, bytes_eq, Ok, Err, IfOk, IfErr};
 ghost use Rattle.text_lines.specs.Lines.{texts_of};
-ghost use Rattle.scenario_trial.specs.Expected.{coming_in, coming_of, expected_in, expected_of, go_together, is_end, is_numeral, narrowed, narrowed_to, narrowed_twice, number_in, numbered, result_in, result_named, some_number, some_span, span_in, state_in, state_named, until, what_of, within};
+ghost use Rattle.scenario_trial.specs.Expected.{coming_in, coming_of, event_of, expected_in, expected_of, go_together, is_end, is_numeral, narrowed, narrowed_to, narrowed_twice, number_in, numbered, result_in, result_named, some_number, some_span, span_in, state_in, state_named, until, within};
 
-use crate::expectation::{Coming, Expectation, Span, What};
+use crate::expectation::{ArrivalKind, Coming, Expectation, Span, What};
 use crate::fault::ExpectationFault;
 use lc_model::{ApMode, ApResult};
 use stream_script::decimal_number;
@@ -155,17 +155,6 @@ fn span_in(words: &[&[u8]]) -> Result<Span, ExpectationFault>
     }
 }
 
-/// A request for a sequence or an event, by its number, or any.
-fn what_of(is_sequence: bool, number: Option<u16>) -> What
-    ensures { result ≡ what_of is_sequence number }
-{
-    if is_sequence {
-        What::Sequence(number)
-    } else {
-        What::Event(number)
-    }
-}
-
 /// This, within the seconds that words tell.
 fn within(what: What, words: &[&[u8]]) -> Result<Coming, ExpectationFault>
     ensures said { IfOk result (λ coming. within what (texts_of words.now) ≡ Ok coming) }
@@ -187,33 +176,56 @@ fn number_of(word: &[u8]) -> Result<u16, ExpectationFault>
 
 /// A request or an event of this number, within the seconds that words tell.
 fn coming_numbered(
-    is_sequence: bool,
+    kind: ArrivalKind,
     number: &[u8],
     words: &[&[u8]],
 ) -> Result<Coming, ExpectationFault>
     ensures said { IfOk result
-        (λ coming. numbered is_sequence number.now (texts_of words.now) ≡ Ok coming) }
+        (λ coming. numbered kind number.now (texts_of words.now) ≡ Ok coming) }
     ensures refused { IfErr result
-        (λ fault. numbered is_sequence number.now (texts_of words.now) ≡ Err fault) }
+        (λ fault. numbered kind number.now (texts_of words.now) ≡ Err fault) }
 {
     let number = number_of(number)?;
-    within(what_of(is_sequence, Some(number)), words)
+    within(
+        What {
+            kind,
+            number: Some(number),
+        },
+        words,
+    )
 }
 
 /// The same, where a number may stand in front.
-fn coming_of(is_sequence: bool, words: &[&[u8]]) -> Result<Coming, ExpectationFault>
+fn coming_of(kind: ArrivalKind, words: &[&[u8]]) -> Result<Coming, ExpectationFault>
     ensures said { IfOk result
-        (λ coming. coming_of is_sequence (texts_of words.now) ≡ Ok coming) }
+        (λ coming. coming_of kind (texts_of words.now) ≡ Ok coming) }
     ensures refused { IfErr result
-        (λ fault. coming_of is_sequence (texts_of words.now) ≡ Err fault) }
+        (λ fault. coming_of kind (texts_of words.now) ≡ Err fault) }
 {
+    let any = What { kind, number: None };
     match words {
-        [] => within(what_of(is_sequence, None), words),
+        [] => within(any, words),
         [word, others @ ..] => {
             if is_numeral(word) {
-                return coming_numbered(is_sequence, word, others);
+                return coming_numbered(kind, word, others);
             }
-            within(what_of(is_sequence, None), words)
+            within(any, words)
+        }
+    }
+}
+
+/// An event of the Limit Checker, or of the host where `HOST` stands in front, and within which seconds.
+fn event_of(words: &[&[u8]]) -> Result<Coming, ExpectationFault>
+    ensures said { IfOk result (λ coming. event_of (texts_of words.now) ≡ Ok coming) }
+    ensures refused { IfErr result (λ fault. event_of (texts_of words.now) ≡ Err fault) }
+{
+    match words {
+        [] => coming_of(ArrivalKind::Event, words),
+        [word, others @ ..] => {
+            if is(word, b"HOST") {
+                return coming_of(ArrivalKind::HostEvent, others);
+            }
+            coming_of(ArrivalKind::Event, words)
         }
     }
 }
@@ -227,10 +239,10 @@ fn coming_in(words: &[&[u8]]) -> Result<Coming, ExpectationFault>
         [] => Err(ExpectationFault::NoWhat),
         [word, others @ ..] => {
             if is(word, b"sequence") {
-                return coming_of(true, others);
+                return coming_of(ArrivalKind::Sequence, others);
             }
             if is(word, b"event") {
-                return coming_of(false, others);
+                return event_of(others);
             }
             Err(ExpectationFault::NoWhat)
         }

@@ -6,6 +6,7 @@ mod expectation;
 mod expectation_lines;
 mod expectation_words;
 mod fault;
+mod in_force;
 mod judging;
 pub mod laws;
 mod stopping;
@@ -15,7 +16,7 @@ mod verdict;
 mod warning;
 
 pub use error::TrialError;
-pub use expectation::{Arrival, Coming, Expectation, Span, What, has_come};
+pub use expectation::{Arrival, ArrivalKind, Coming, Expectation, Span, What, has_come};
 pub use expectation_lines::{Placed, ReadError, read_expectations, silence};
 pub use fault::ExpectationFault;
 pub use trial::{TrialOutcome, Tried, script_error_at, try_scenario};

@@ -3,7 +3,7 @@
 ghost use Rattle.std.specs.Prelude.{◌≡◌};
 ghost use Rattle.scenario_trial.specs.Telling as model;
 
-use crate::expectation::{Arrival, Span, What};
+use crate::expectation::{Arrival, ArrivalKind, Span, What};
 use lc_model::ApResult;
 use run_stepper::RuleStanding;
 use std::fmt::{self, Display, Formatter, Write};
@@ -34,7 +34,11 @@ pub enum Unmet<'a> {
 
 impl Display for Arrival {
     fn fmt<W: Write>(&self, f: &mut Formatter<W>) -> fmt::Result {
-        let word = if self.is_event { "event" } else { "sequence" };
+        let word = match self.kind {
+            ArrivalKind::Sequence => "sequence",
+            ArrivalKind::Event => "event",
+            ArrivalKind::HostEvent => "event HOST",
+        };
         write!(
             f,
             "{word} {} in second {} (record {})",
@@ -45,20 +49,27 @@ impl Display for Arrival {
     }
 }
 
-/// Which of what came are told of: of this alone, where it is named, and within these seconds, or else outside of them.
+/// Which arrivals are reported: of this alone, or all of the same application; within these seconds, or outside of them.
 #[derive(Clone, Copy)]
 struct Selection {
-    what: Option<What>,
+    what: What,
+    is_alone: bool,
     span: Span,
     is_within: bool,
 }
 
+/// Whether a kind is of the host itself.
+fn is_of_host(kind: ArrivalKind) -> bool {
+    matches!(kind, ArrivalKind::HostEvent)
+}
+
 impl Selection {
-    /// Whether this is told of.
+    /// Whether this arrival is reported.
     fn takes(self, one: Arrival) -> bool {
-        let is_asked = match self.what {
-            Some(what) => what.is(one),
-            None => true,
+        let is_asked = if self.is_alone {
+            self.what.is(one)
+        } else {
+            is_of_host(one.kind) == is_of_host(self.what.kind)
         };
         is_asked && self.span.holds(one.second) == self.is_within
     }
@@ -94,7 +105,8 @@ fn say_missing<W: Write>(
     f: &mut Formatter<W>,
 ) -> fmt::Result {
     let elsewhere = Selection {
-        what: Some(what),
+        what,
+        is_alone: true,
         span,
         is_within: false,
     };
@@ -102,7 +114,8 @@ fn say_missing<W: Write>(
         return Ok(());
     }
     let others = Selection {
-        what: None,
+        what,
+        is_alone: false,
         span,
         is_within: true,
     };
@@ -148,7 +161,8 @@ impl Display for Unmet<'_> {
                 arrivals,
             } => {
                 let those = Selection {
-                    what: Some(what),
+                    what,
+                    is_alone: true,
                     span,
                     is_within: true,
                 };

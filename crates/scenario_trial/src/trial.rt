@@ -4,7 +4,7 @@ ghost use Rattle.std.specs.Prelude.{◌≡◌, filter_map, find, length, map, No
 ghost use Rattle.std.specs.List.{AllByRecursion};
 ghost use Rattle.flight_core.specs.Compiled.{AreAllCompiled, sources_of};
 ghost use Rattle.run_stepper.specs.Trace.{IsTraced, arrived_from};
-ghost use Rattle.scenario_trial.specs.Arrivals.{AreAhead, IsFound, arrival_of, arrivals_of, has_no_rule, placed_in};
+ghost use Rattle.scenario_trial.specs.Arrivals.{AreAhead, IsFound, arrival_of, arrivals_of, event_kind, has_no_rule, placed_in};
 ghost use Rattle.scenario_trial.specs.Judged.{unmet_of};
 ghost use Rattle.scenario_trial.specs.Outcomes.{IsPlainTried, IsTried};
 ghost use Rattle.scenario_trial.specs.Reading.{expectations_in, placed_of};
@@ -14,8 +14,10 @@ ghost use Rattle.stream_script.specs.ByLines.{AreStarts};
 ghost use Rattle.stream_script.specs.Script.{script_in};
 
 use crate::error::TrialError;
-use crate::expectation::{Arrival, Coming, Expectation};
+use crate::expectation::{Arrival, ArrivalKind, Coming, Expectation};
 use crate::expectation_lines::{Placed, read_expectations, silence};
+use crate::expectation_words::is;
+use crate::in_force::settle_script;
 use crate::judging::Trial;
 use crate::stopping::{is_whole, stop_line};
 use crate::telling::Unmet;
@@ -24,7 +26,7 @@ use crate::warning::{TrialWarning, warnings_of};
 use diagnostics::Many;
 use packet_listing::{PacketLine, Sent, read_packet};
 use run_stepper::{Came, RunInputs, Trace, Walk, compile_texts, read_texts};
-use scenarios::{DeclaredItems, Plain, declared_in, plain_script};
+use scenarios::{DeclaredItems, Plain, declared_in};
 use std::alloc::{AllocError, Global};
 use std::io::{self, Write};
 use stream_script::{ScriptError, ScriptStream, read_script_by_lines};
@@ -43,7 +45,20 @@ pub struct TrialOutcome {
     pub warnings: Vec<TrialWarning>,
 }
 
-/// A request or an event of the Limit Checker, by its number, in the second of its record.
+/// The kind of an event with this sender, where it can be expected.
+fn event_kind(sender: &[u8]) -> Option<ArrivalKind>
+    ensures { result ≡ event_kind sender.now }
+{
+    if is(sender, b"LC") {
+        return Some(ArrivalKind::Event);
+    }
+    if is(sender, b"HOST") {
+        return Some(ArrivalKind::HostEvent);
+    }
+    None
+}
+
+/// A request or an event of the Limit Checker or of the host, by its number, in the second of its record.
 fn arrival(came: &Came<'_>) -> Option<Arrival>
     ensures { result ≡ arrival_of came.now }
 {
@@ -52,22 +67,18 @@ fn arrival(came: &Came<'_>) -> Option<Arrival>
         Some(Sent::Request(number)) => Some(Arrival {
             place,
             second,
-            is_event: false,
+            kind: ArrivalKind::Sequence,
             number,
         }),
-        Some(Sent::Event(event)) => {
-            let checker: &[u8] = b"LC";
-            if event.sender == checker {
-                Some(Arrival {
-                    place,
-                    second,
-                    is_event: true,
-                    number: event.id,
-                })
-            } else {
-                None
-            }
-        }
+        Some(Sent::Event(event)) => match event_kind(event.sender) {
+            Some(kind) => Some(Arrival {
+                place,
+                second,
+                kind,
+                number: event.id,
+            }),
+            None => None,
+        },
         _ => None,
     }
 }
@@ -148,7 +159,11 @@ pub fn script_error_at(plain: &Plain, error: ScriptError) -> ScriptError
 }
 
 /// The stream of a plain script without its expectations, with where each of its lines begins.
-fn stream_of(alloc: Global, plain: &Plain, quiet: &[u8]) -> Result<ScriptStream, TrialError>
+pub(crate) fn stream_of(
+    alloc: Global,
+    plain: &Plain,
+    quiet: &[u8],
+) -> Result<ScriptStream, TrialError>
     ensures said { IfOk result (λ all. script_in quiet.now ≡ Ok all.stream.items) }
     ensures starts { IfOk result (λ all. AreStarts quiet.now all.stream.items all.starts.items) }
     ensures refused { IfErr result (IsUnsaid quiet.now plain.now.lines.items) }
@@ -160,7 +175,10 @@ fn stream_of(alloc: Global, plain: &Plain, quiet: &[u8]) -> Result<ScriptStream,
 }
 
 /// The expectations of a plain script.
-fn expectations_of<'p>(alloc: Global, plain: &'p Plain) -> Result<Vec<Placed<'p>>, TrialError>
+pub(crate) fn expectations_of<'p>(
+    alloc: Global,
+    plain: &'p Plain,
+) -> Result<Vec<Placed<'p>>, TrialError>
     ensures said { IfOk result (λ found. expectations_in plain.now.text.items ≡
         Ok (map placed_of found.items)) }
     ensures refused { IfErr result
@@ -183,7 +201,7 @@ fn has_no_rule(declared: &DeclaredItems<'_>, placed: &Placed<'_>) -> bool
 }
 
 /// The first of these expectations that is about a rule that no text has is refused.
-fn check_rules(
+pub(crate) fn check_rules(
     plain: &Plain,
     declared: &DeclaredItems<'_>,
     expectations: &[Placed<'_>],
@@ -366,6 +384,6 @@ pub fn try_scenario<W: Write>(
 {
     let texts = read_texts(alloc, plan.texts)?;
     let declared = declared_in(alloc, texts.as_slice())?;
-    let plain = plain_script(alloc, scenario, &declared, &[])?;
+    let plain = settle_script(alloc, scenario, plan, &declared)?;
     try_plain(alloc, name, plan, &declared, &plain, out)
 }

@@ -1,11 +1,13 @@
 //! What is to be looked at in a script that was tried.
 
-ghost use Rattle.std.specs.Prelude.{◌≡◌, filter_map, map, IfOk};
+ghost use Rattle.std.specs.Prelude.{◌≡◌, List, filter_map, find, map, option_map, IfOk};
+ghost use Rattle.std.specs.List.{list_any};
+ghost use Rattle.run_stepper.specs.Trace.{Arrived};
 ghost use Rattle.scenario_trial.specs.Arrivals.{arrival_of};
 ghost use Rattle.scenario_trial.specs.Reading.{placed_of};
-ghost use Rattle.scenario_trial.specs.Warned.{has_many_numbers, idle_warning, numbers_warning, numbers_warnings, warnings_of};
+ghost use Rattle.scenario_trial.specs.Warned.{asked_by, asks_checker, has_many_numbers, idle_warning, is_kind_of_checker, is_of_checker, numbers_warning, numbers_warnings, warnings_of};
 
-use crate::expectation::Arrival;
+use crate::expectation::{Arrival, ArrivalKind, Expectation};
 use crate::expectation_lines::Placed;
 use run_stepper::Came;
 use scenarios::{DeclaredItems, Plain};
@@ -67,6 +69,62 @@ fn numbers_warnings(
     Ok(found)
 }
 
+/// Whether a request or an event of this kind is of the Limit Checker, and not of the host itself.
+fn is_kind_of_checker(kind: ArrivalKind) -> bool
+    ensures { result ≡ is_kind_of_checker kind }
+{
+    kind.number() != 2
+}
+
+/// Whether something of what came is of the Limit Checker.
+fn has_run(arrivals: &[Arrival]) -> bool
+    ensures { result ≡ list_any is_of_checker arrivals.now }
+{
+    arrivals.iter().any(|one| is_kind_of_checker(one.kind))
+}
+
+/// Whether an expectation is about the Limit Checker.
+fn asks_checker(placed: &Placed<'_>) -> bool
+    ensures { result ≡ asks_checker (placed_of placed.now) }
+{
+    match placed.expectation {
+        Expectation::Comes(coming) => is_kind_of_checker(coming.what.kind),
+        Expectation::Absent(coming) => is_kind_of_checker(coming.what.kind),
+        Expectation::State(_, _) => true,
+        Expectation::Result(_, _) => true,
+    }
+}
+
+/// The first expectation about the Limit Checker.
+fn first_of_checker<'e, 'a>(expectations: &'e [Placed<'a>]) -> Option<&'e Placed<'a>>
+    ensures { option_map (λ placed. placed_of placed.now) result ≡
+        find asks_checker (map placed_of expectations.now) }
+{
+    for placed in expectations {
+        if asks_checker(placed) {
+            return Some(placed);
+        }
+    }
+    None
+}
+
+/// The warning of a run in which nothing came of the Limit Checker, if something is expected of it.
+fn unrun_warning(
+    plain: &Plain,
+    expectations: &[Placed<'_>],
+    arrivals: &[Arrival],
+) -> Option<TrialWarning>
+    ensures { (came : List Arrived) → arrivals.now ≡ filter_map arrival_of came → result ≡
+        asked_by plain.now.lines.items (find asks_checker (map placed_of expectations.now)) came }
+{
+    match first_of_checker(expectations) {
+        Some(placed) if !has_run(arrivals) => Some(TrialWarning::NothingRan {
+            n: plain.line(placed.n),
+        }),
+        _ => None,
+    }
+}
+
 /// The warning of a run in which nothing was tried, where that is so.
 fn idle_warning(
     plain: &Plain,
@@ -79,10 +137,8 @@ fn idle_warning(
 {
     match expectations {
         [] if came.is_empty() => Some(TrialWarning::NothingTried),
-        [placed, ..] if arrivals.is_empty() => Some(TrialWarning::NothingRan {
-            n: plain.line(placed.n),
-        }),
-        _ => None,
+        [] => None,
+        [_, ..] => unrun_warning(plain, expectations, arrivals),
     }
 }
 

@@ -8,3 +8,4 @@ mod Packets
 mod Reading
 mod Written
 mod Apart
+mod CommandSaid

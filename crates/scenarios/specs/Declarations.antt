@@ -25,7 +25,7 @@ short n = if nat_le n 65_535 then n else 65_535
 abbrev pub number_of : Number → ℕ
 number_of n = short (unsigned_abs n.value)
 
--- a packet, before the first of it is said: all bytes behind its headers are zeros
+-- a packet before its first line: all bytes after its headers are zeros
 abbrev pub packet_declared : PacketItem → NamedPacket
 packet_declared p =
     record { name = p.name.text; mid = number_of p.mid; count = 0; payload = replicate (number_of p.length - telemetry_header_size) 0 }
@@ -51,21 +51,21 @@ with_item text next (item.Field f) d = record { packets = d.packets; fields = d.
 with_item text next (item.Rule r) d =
     record { packets = d.packets; fields = d.fields; rules = d.rules ++ record { name = r.name.text; text = text; number = short next } ∷ [] }
 
--- the number of the next rule behind an item
+-- the number of the next rule after an item
 abbrev pub next_behind : Item → ℕ → ℕ
 next_behind (item.Rule r) next = next + 1
 next_behind other next = next
 
--- what items of a text declare, one behind the other
+-- the declarations of a text's items, in order
 abbrev pub with_items : (text next : ℕ) → List Item → Declarations → Declarations
 with_items text next [] d = d
 with_items text next (i ∷ items) d = with_items text (next_behind i next) items (with_item text next i d)
 
--- the text with this number, behind what is declared by then, declares that
+-- the text with this number adds these declarations to the earlier ones
 abbrev pub IsDeclared : ℕ → List ℕ → Declarations → Declarations → Type 0
 IsDeclared number text before after = (items : List Item) × HasItems text items × (after ≡ with_items number 0 items before)
 
--- so do these texts, one behind the other, the first of which has this number
+-- these texts add their declarations in order; the first text has this number
 abbrev pub AreDeclaredFrom : ℕ → List (List ℕ) → Declarations → Declarations → Type 0
 AreDeclaredFrom number [] before after = after ≡ before
 AreDeclaredFrom number (text ∷ texts) before after =

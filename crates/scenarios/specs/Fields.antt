@@ -13,11 +13,11 @@ use Rattle.scenarios.specs.Named.{NamedField}
 
 -- ---- where a field is
 
--- where it stands in a payload, behind the headers of telemetry
+-- its place in a payload, which begins after the headers of telemetry
 abbrev pub place_of : NamedField → ℕ
 place_of f = f.offset - telemetry_header_size
 
--- whether it stands in a payload of this size
+-- whether it is inside a payload of this size
 abbrev pub is_inside : NamedField → ℕ → Bool
 is_inside f size = nat_le telemetry_header_size f.offset && nat_le (place_of f + width f.kind) size
 

@@ -12,3 +12,4 @@ pub mod Ramp
 pub mod Line
 pub mod Plain
 pub mod HostReads
+pub mod CommandWords

@@ -33,7 +33,7 @@ field_given packet name value fields = do
   z ← value_in value
   Ok (record { field = place; value = z })
 
--- the same, where `=` stands in front of the value
+-- the same for a value after `=`
 abbrev pub given_by : (packet name : List ℕ) → List ℕ → List NamedField → Result Given Reason
 given_by packet name [] fields = Err NoField
 given_by packet name (sign ∷ value) fields = field_given packet name value fields

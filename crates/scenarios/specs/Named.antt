@@ -4,7 +4,7 @@ use Rattle.lc_model.specs.Packet.{count_end}
 use Rattle.lc_model.specs.declared.field.FieldType.{FieldType}
 use Rattle.stream_script.specs.Telemetry.{telemetry_line}
 
--- a packet, with the sequence count of the next one of it, and the bytes behind its headers as they are by now
+-- a packet, with the sequence count of its next line and its current payload
 pub record NamedPacket : Type 0 where
   pub name : List ℕ
   pub mid : ℕ
@@ -25,7 +25,7 @@ pub record NamedRule : Type 0 where
   pub text : ℕ
   pub number : ℕ
 
--- the packet once one more of it was said
+-- the packet with its sequence count incremented
 abbrev pub counted_on : NamedPacket → NamedPacket
 counted_on p = record { name = p.name; mid = p.mid; count = (p.count + 1) % count_end; payload = p.payload }
 

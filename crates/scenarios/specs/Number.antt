@@ -13,7 +13,7 @@ abbrev pub hexadecimal : List ℕ → Option ℕ
 hexadecimal digits =
     if nat_lt 0 (length digits) && nat_le (length digits) 8 && list_all is_ascii_hexdigit digits then Some (number_of_digits 16 digits) else None
 
--- the number that digits write: hexadecimal ones behind `0x`, or those of a plain script
+-- the number that digits write: hexadecimal ones after `0x`, or those of a plain script
 abbrev pub magnitude_in : List ℕ → Option ℕ
 magnitude_in word = if bytes_eq (take 2 word) (codes "0x") then hexadecimal (drop 2 word) else decimal_number word
 

@@ -1,11 +1,12 @@
 -- Commands in words: modes, states of rules, and filters of events. This project's own.
-use Rattle.std.specs.Prelude.{ℕ, Bool, not, ◌&&◌, List, [], ◌∷◌, ◌++◌, length, codes, bytes_eq, nat_le, Option, Some, None, option_map, Result, Ok, Err, if◌then◌else◌}
+use Rattle.std.specs.Prelude.{ℕ, Bool, not, ◌&&◌, List, [], ◌∷◌, ◌++◌, length, codes, bytes_eq, nat_le, nat_lt, Option, Some, None, option_map, Result, Ok, Err, if◌then◌else◌}
 use Rattle.std.specs.Fmt.{decimal}
 use Rattle.lc_model.specs.Bytes.{u16, zero_filled}
 use Rattle.lc_model.specs.Codes.{state_code}
 use Rattle.lc_model.specs.Name.{app_name_size}
 use Rattle.lc_model.specs.Packet.{event_services_mid, lc_command_mid}
 use Rattle.lc_model.specs.Text.Class.{state}
+use Rattle.stream_script.specs.Number.{decimal_number}
 use Rattle.table_listing.specs.Shown.{in_hex}
 use Rattle.scenarios.specs.declared.error.Reason.{Reason}
 use Rattle.scenarios.specs.declared.error.Reason.TheVariants.{NoFilter, NoMode, NoState, UnknownRule}
@@ -46,8 +47,17 @@ abbrev pub number_of_rule : Option NamedRule → Result ℕ Reason
 number_of_rule None = Err UnknownRule
 number_of_rule (Some rule) = Ok rule.number
 
+-- the number of a rule that a word writes, which is not that of all
+abbrev pub number_written : ℕ → Result ℕ Reason
+number_written number = if nat_lt number all_rules then Ok number else Err UnknownRule
+
+-- a word that writes a number is a rule's number, and any other its name: no name begins with a digit
+abbrev pub rule_by : Option ℕ → Option ℕ → List ℕ → List NamedRule → Result ℕ Reason
+rule_by (Some number) force word rules = number_written number
+rule_by None force word rules = number_of_rule (rule_named force word rules)
+
 abbrev pub rule_number : Option ℕ → List ℕ → List NamedRule → Result ℕ Reason
-rule_number force word rules = if is_all word then Ok all_rules else number_of_rule (rule_named force word rules)
+rule_number force word rules = if is_all word then Ok all_rules else rule_by (decimal_number word) force word rules
 
 abbrev pub state_by : ℕ → Option ℕ → Result (List ℕ) Reason
 state_by rule None = Err NoState

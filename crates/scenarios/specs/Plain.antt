@@ -37,12 +37,12 @@ depth_behind words depth =
     else if is_end words then (if depth == 0 then None else Some (depth - 1))
     else Some depth
 
--- the place behind the end, or what the other lines have where it isn't the end
+-- the place after the end, or what the other lines have if this isn't the end
 abbrev pub end_by : (ℕ → Option ℕ) → ℕ → Option ℕ → Option ℕ
 end_by others place None = Some (place + 1)
 end_by others place (Some depth) = others depth
 
--- the place behind the end of a repetition, in lines from this place on, where so many others have begun and not ended
+-- the place after the end of a repetition, in lines from this place on, with a number of open inner repetitions
 abbrev pub behind_end : ℕ → ℕ → List (List ℕ) → Option ℕ
 behind_end depth place [] = None
 behind_end depth place (line ∷ lines) =
@@ -56,7 +56,7 @@ pub record Going : Type 0 where
   pub repetitions : List Repetition
   pub said : Said
 
--- behind a line that begins a repetition: its first line, or the one behind its end where it is said no times
+-- the state after a line that begins a repetition: at its first line, or after its end if it has 0 repetitions
 abbrev pub begun : ℕ → ℕ → Going → Result Going Reason
 begun zero end going = Ok (record { place = end; repetitions = going.repetitions; said = going.said })
 begun (suc left) end going =
@@ -72,7 +72,7 @@ repeat_said lines words going = do
   end ← some_end (behind_end 0 (going.place + 1) (drop (going.place + 1) lines))
   begun times end going
 
--- behind a line that ends a repetition: its first line again, or the one behind
+-- the state after a line that ends a repetition: at its first line again, or after the end
 abbrev pub ended : ℕ → ℕ → List Repetition → Going → Going
 ended first zero others going = record { place = going.place + 1; repetitions = others; said = going.said }
 ended first (suc left) others going =
@@ -82,12 +82,12 @@ abbrev pub end_said : List Repetition → Going → Result Going Reason
 end_said [] going = Err Unbegun
 end_said (last ∷ others) going = Ok (ended last.first last.left others going)
 
--- behind any other line
+-- the state after any other line
 abbrev pub gone_on : Going → Result Said Reason → Result Going Reason
 gone_on going (Err reason) = Err reason
 gone_on going (Ok said) = Ok (record { place = going.place + 1; repetitions = going.repetitions; said = said })
 
--- behind the line with these words
+-- the state after the line with these words
 abbrev pub step : List NamedRule → List ForceChange → List (List ℕ) → List (List ℕ) → Going → Result Going Reason
 step rules changes lines words going =
     if is_repeat words then repeat_said lines words going
@@ -98,12 +98,12 @@ step rules changes lines words going =
 abbrev pub words_at : List (List ℕ) → ℕ → List (List ℕ)
 words_at lines place = words_in (unwrap_or (slice_get lines place) [])
 
--- what all lines say, where those behind one go on so
+-- the script of all lines; the function continues after one line
 abbrev pub behind_step : (Going → Result Said ScenarioFault) → ℕ → Result Going Reason → Result Said ScenarioFault
 behind_step others place (Err reason) = Err (record { line = place + 1; reason = reason })
 behind_step others place (Ok after) = others after
 
--- at most so many lines more, those that repeat others and those that begin and end repetitions among them
+-- at most a number of further lines, each as often as it is repeated, including those that begin and end repetitions
 unfoldable pub said_within : ℕ → List NamedRule → List ForceChange → List (List ℕ) → Going → Result Said ScenarioFault
 said_within zero rules changes lines going =
     if nat_lt going.place (length lines) then Err (record { line = going.place + 1; reason = TooLong }) else Ok going.said

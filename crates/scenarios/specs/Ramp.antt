@@ -11,7 +11,7 @@ use Rattle.scenarios.specs.Said.{Said, field_place, lined, packet_place, with_pa
 
 -- ---- its words
 
--- whether there are ticks: `tick` stands last
+-- whether there are ticks: the last word is `tick`
 abbrev pub has_ticks : List (List ℕ) → Result Bool Reason
 has_ticks [] = Ok false
 has_ticks (word ∷ []) = if bytes_eq word (codes "tick") then Ok true else Err NoRamp
@@ -49,14 +49,14 @@ ramp_paced fields name from to (by ∷ step ∷ each ∷ seconds ∷ rest) =
     if is_paced by each then has_ticks rest >>= ramp_of fields name from to step seconds else Err NoRamp
 ramp_paced fields name from to words = Err NoRamp
 
--- what the words behind `ramp` say
+-- the ramp of the words after `ramp`
 abbrev pub ramp_in : List NamedField → List (List ℕ) → Result Ramp Reason
 ramp_in fields (name ∷ from ∷ to ∷ words) = ramp_paced fields name from to words
 ramp_in fields words = Err NoRamp
 
 -- ---- its lines
 
--- how many values come behind the first, none of which is beyond the end
+-- the number of values after the first, up to the end
 abbrev pub values_behind : Ramp → ℕ
 values_behind ramp = unsigned_abs (ramp.to -ℤ ramp.from) / ramp.step
 
@@ -64,11 +64,11 @@ values_behind ramp = unsigned_abs (ramp.to -ℤ ramp.from) / ramp.step
 abbrev pub most_values : ℕ
 most_values = 100000
 
--- the value behind a value, towards the end
+-- the value after a value, towards the end
 abbrev pub next_value : Ramp → ℤ → ℤ
 next_value ramp z = if int_le ramp.from ramp.to then z +ℤ pos ramp.step else z -ℤ pos ramp.step
 
--- where the packet of a field stands
+-- the index of the packet of a field
 abbrev pub packet_of_field : Said → Option NamedField → Option ℕ
 packet_of_field said None = None
 packet_of_field said (Some f) = packet_place f.packet said.packets
@@ -82,7 +82,7 @@ some_packet n said (Some place) = with_packet n place said
 abbrev pub packet_of : ℕ → ℕ → Said → Result Said Reason
 packet_of n field said = some_packet n said (packet_of_field said (slice_get said.fields field))
 
--- a tick, where ticks are wanted
+-- a tick, if the ramp has ticks
 abbrev pub ticked : ℕ → Bool → Said → Result Said Reason
 ticked n false said = Ok said
 ticked n true said = lined n (codes "tick") said
@@ -95,12 +95,12 @@ value_said n ramp z said = do
   after ← ticked n ramp.has_ticks told
   lined n (codes "after " ++ decimal ramp.each) after
 
--- so many values, from this one on
+-- a number of values, from this one on
 unfoldable pub values_said : ℕ → ℕ → Ramp → ℤ → Said → Result Said Reason
 values_said zero n ramp z said = Ok said
 values_said (suc count) n ramp z said = value_said n ramp z said >>= values_said count n ramp (next_value ramp z)
 
--- all its values, one behind the other
+-- all its values, in order
 abbrev pub ramp_said : ℕ → Ramp → Said → Result Said Reason
 ramp_said n ramp said =
     if nat_lt (values_behind ramp) most_values then values_said (values_behind ramp + 1) n ramp ramp.from said else Err TooLong

@@ -8,7 +8,7 @@ use Rattle.scenarios.specs.Named.{NamedRule}
 
 -- ---- the text in force
 
--- the text in force at a line, where these changes come behind another text
+-- the text in force at a line, after these changes of another text
 abbrev pub force_behind : Option ℕ → List ForceChange → ℕ → Option ℕ
 force_behind text [] line = text
 force_behind text (change ∷ changes) line = if nat_le change.line line then force_behind change.text changes line else text

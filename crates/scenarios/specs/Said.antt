@@ -24,7 +24,7 @@ nothing_said d = record { packets = d.packets; fields = d.fields; script = []; l
 abbrev pub most_lines : ℕ
 most_lines = 1000000
 
--- a line more, which this line of the scenario says
+-- adds a line, which this line of the scenario gives
 abbrev pub lined : ℕ → List ℕ → Said → Result Said Reason
 lined n line said =
     if nat_lt (length said.lines) most_lines then
@@ -33,7 +33,7 @@ lined n line said =
 
 -- ---- by names
 
--- where the first packet of a name stands, and the first field
+-- the index of the first packet of a name, and of the first field
 abbrev pub packet_place : List ℕ → List NamedPacket → Option ℕ
 packet_place name packets = position_from (λ (p : NamedPacket). bytes_eq p.name name) 0 packets
 

@@ -46,7 +46,7 @@ is_plain word = is_record_word word || is_request_word word || is_app_word word 
 
 -- ---- a line as it stands
 
--- words behind another
+-- words after another
 abbrev pub words_behind : List (List ℕ) → List ℕ
 words_behind [] = []
 words_behind (word ∷ words) = codes " " ++ word ++ words_behind words

@@ -1,4 +1,4 @@
-//! What rule texts declare.
+//! The declarations of rule texts.
 
 ghost use Rattle.std.specs.Prelude.{◌≡◌, ◌<◌, ◌≤◌, ◌+◌, ◌^◌, IfOk, List, ℕ};
 ghost use Rattle.rule_parser.specs.Syntax.{item_of, items_of};
@@ -34,7 +34,7 @@ impl<'a> Model for DeclaredItems<'a> {
 }
 
 impl<'a> DeclaredItems<'a> {
-    /// Nothing.
+    /// No declarations.
     fn new(alloc: Global) -> DeclaredItems<'a>
         ensures { result ≡ nothing_declared }
     {
@@ -63,23 +63,23 @@ impl<'a> DeclaredItems<'a> {
         self.rules.as_slice()
     }
 
-    /// The number, in its text, of the rule that a word names, where the text with this number is in force, or none. `NAME` is the
-    /// rule of the text in force, or the first of that name of any text where none is in force or that text has no such rule;
-    /// `TEXT:NAME` is that text's rule, whatever is in force.
+    /// The number, in its text, of the rule that a word names; `force` is the number of the text in force. `NAME` is that text's rule, or
+    /// the first of that name in any text if no text is in force or that text has no such rule. `TEXT:NAME` is the rule of that text.
+    /// `None` if there is no such rule.
     pub fn rule_number(&self, force: Option<usize>, word: &[u8]) -> Option<u16>
         ensures { result ≡ rule_numbered self.now force word.now }
     {
         number_of_rule(self.rules(), force, word)
     }
 
-    /// Whether the rules of a name have different numbers in their texts: which of them `NAME` is depends on the text in force.
+    /// Whether rules of this name have different numbers in their texts, so that the number of `NAME` depends on the text in force.
     pub fn numbers_differ(&self, name: &[u8]) -> bool
         ensures { result ≡ numbers_differ self.now name.now }
     {
         numbers_differ(self.rules(), name)
     }
 
-    /// What is declared with an item of the text with this number, where the next rule of it has that number.
+    /// Adds an item of the text with this number; `next` is the number of the text's next rule.
     fn with_item(
         self,
         alloc: Global,
@@ -108,7 +108,7 @@ impl<'a> DeclaredItems<'a> {
     }
 }
 
-/// The number of the next rule behind an item.
+/// The number of the next rule after an item.
 fn next_behind(item: &Item<'_>, next: usize) -> usize
     requires { next < 2 ^ 63 }
     ensures next { result ≡ next_behind (item_of item.now) next }
@@ -120,7 +120,7 @@ fn next_behind(item: &Item<'_>, next: usize) -> usize
     }
 }
 
-/// What is declared with the items of the text with this number.
+/// Adds the items of the text with this number.
 fn with_items<'a>(
     alloc: Global,
     start: DeclaredItems<'a>,
@@ -139,7 +139,7 @@ fn with_items<'a>(
     Ok(declared)
 }
 
-/// What rule texts declare, which are numbered from 0. Out of memory is the only error.
+/// The declarations of rule texts, which are numbered from 0. The only error is a lack of memory.
 pub fn declared_in<'a>(
     alloc: Global,
     texts: &[RuleText<'a>],

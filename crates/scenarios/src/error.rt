@@ -1,4 +1,4 @@
-//! Why a scenario says no script.
+//! Why a scenario is refused.
 
 ghost use Rattle.std.specs.Prelude.{◌≡◌};
 ghost use Rattle.scenarios.specs.declared.error.LineRefusal.TheVariants as fault;
@@ -10,7 +10,7 @@ use thiserror::Error;
 /// What is wrong with a line of a scenario.
 #[derive(Clone, Copy, Debug, PartialEq, Eq, Error)]
 pub enum Reason {
-    /// Behind a packet's name stands a word that isn't `FIELD=VALUE`.
+    /// A word after a packet's name isn't `FIELD=VALUE`.
     #[error("behind a packet's name stand its fields as `FIELD=VALUE`")]
     NoField,
     /// The packet has no field of that name.
@@ -25,19 +25,19 @@ pub enum Reason {
     /// A word that has to be a number isn't one, or is out of its range.
     #[error("a number is missing or out of range")]
     BadNumber,
-    /// A value isn't one of its field's type.
+    /// A value is outside its field's type.
     #[error("the value is outside the type of the field")]
     OutsideType,
     /// A value has bits outside the mask of its field.
     #[error("the value has bits outside the field's mask")]
     OutsideMask,
-    /// Two fields of a line give one bit two values.
+    /// Two fields of a line give the same bit different values.
     #[error("two fields of this line give one bit two values")]
     TwoValues,
-    /// A field doesn't stand in its packet.
+    /// A field is outside its packet.
     #[error("the field is outside its packet")]
     OutsidePacket,
-    /// A ramp isn't written so.
+    /// A ramp isn't `ramp FIELD FROM TO by STEP each SECONDS [tick]`.
     #[error("a ramp is `ramp FIELD FROM TO by STEP each SECONDS`, with `tick` behind it where ticks are wanted")]
     NoRamp,
     /// The Limit Checker has no such mode.
@@ -46,35 +46,35 @@ pub enum Reason {
     /// A rule has no such state.
     #[error("a state is `active`, `passive`, `disabled` or `off`, behind a rule's name or `all`, which can't be off")]
     NoState,
-    /// A filter isn't written so.
+    /// A filter isn't `filter APPLICATION EVENT MASK`.
     #[error("a filter is `filter APPLICATION EVENT MASK`")]
     NoFilter,
-    /// A repetition isn't written so.
+    /// A repetition doesn't begin with `repeat NUMBER {`.
     #[error("lines are repeated by `repeat NUMBER {{` before them and `}}` behind them")]
     NoRepeat,
-    /// A repetition has no end.
+    /// A repetition has no `}`.
     #[error("`repeat` has no `}}`")]
     Unended,
-    /// A repetition that is no repetition's end.
+    /// A `}` doesn't end a repetition.
     #[error("`}}` ends no `repeat`")]
     Unbegun,
-    /// A script of too many lines.
+    /// The plain script has over 1,000,000 lines, a ramp has over 100,000 values, or over 10,000,000 lines are read with repetitions.
     #[error("the script has over 1000000 lines")]
     TooLong,
 }
 
-/// Why a scenario says no script, at the line that is at fault. Lines count from 1.
+/// Why a scenario has no script; the first faulty line is reported.
 #[derive(Clone, Copy, Debug, PartialEq, Eq, Error)]
 pub enum ScenarioError {
-    /// The line says nothing, for this reason.
+    /// Line `n`, counted from 1, is refused for this reason.
     #[error("line {n}: {reason}")]
     Line { n: usize, reason: Reason },
-    /// Out of memory.
+    /// There is no memory.
     #[error("out of memory")]
     Memory,
 }
 
-/// Why a line says no lines of a script.
+/// Why a line gives no lines of a script.
 #[derive(Clone, Copy)]
 pub(crate) enum LineRefusal {
     Line(Reason),

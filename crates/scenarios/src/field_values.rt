@@ -8,14 +8,14 @@ use crate::error::Reason;
 use crate::named::{ScenarioField, TELEMETRY_HEADERS};
 use stream_script::{bits_of as bits_in_32, write_field};
 
-/// Where a field stands in a payload.
+/// The place of a field in a payload.
 fn place_of(field: &ScenarioField<'_>) -> usize
     ensures { result ≡ place_of field.now }
 {
     usize::from(field.offset()).saturating_sub(TELEMETRY_HEADERS)
 }
 
-/// Whether a field stands in a payload of this size.
+/// Whether a field is inside a payload of this size.
 pub(crate) fn is_inside(field: &ScenarioField<'_>, size: usize) -> bool
     ensures { result ≡ is_inside field.now size }
 {
@@ -23,7 +23,7 @@ pub(crate) fn is_inside(field: &ScenarioField<'_>, size: usize) -> bool
         && place_of(field) + field.kind().width() <= size
 }
 
-/// The bits of a field that stands in the payload.
+/// The bits of a field that is inside the payload.
 fn bits_there(field: &ScenarioField<'_>, payload: &[u8]) -> u32
     requires { IsTrue (is_inside field.now (length payload.now)) }
     ensures { result ≡ bits_there field.now payload.now }
@@ -34,7 +34,7 @@ fn bits_there(field: &ScenarioField<'_>, payload: &[u8]) -> u32
         .bits_in(&payload[place..place + field.kind().width()])
 }
 
-/// The value of a field that stands in the payload, as the host reads it.
+/// The value of a field that is inside the payload, as the host reads it.
 fn value_there(field: &ScenarioField<'_>, payload: &[u8]) -> i64
     requires { IsTrue (is_inside field.now (length payload.now)) }
     ensures { result ≡ value_there field.now payload.now }
@@ -60,7 +60,7 @@ fn bits_of(field: &ScenarioField<'_>, value: i64) -> u32
     bits_in_32(field.kind(), value) & field.kind().full_mask()
 }
 
-/// The bits of a value, which has to be of the field's type, and to have no bits outside its mask.
+/// The bits of a value. Errors: `OutsideType`, and `OutsideMask` if it has bits outside the field's mask.
 #[tactic(auto, unfolding(crate::specs::Fields::value_bits))]
 pub(crate) fn value_bits(field: &ScenarioField<'_>, value: i64) -> Result<u32, Reason>
     ensures exact { result ≡ value_bits field.now value }
@@ -77,14 +77,14 @@ pub(crate) fn value_bits(field: &ScenarioField<'_>, value: i64) -> Result<u32, R
     }
 }
 
-/// Bits in the place of those under the mask.
+/// `before` with the masked bits replaced by those of `bits`.
 fn put_under(mask: u32, bits: u32, before: u32) -> u32
     ensures { result ≡ put_under mask bits before }
 {
     bits | (before & !mask)
 }
 
-/// Writes bits under the mask of a field that stands in the payload.
+/// Writes bits under the mask of a field that is inside the payload.
 #[tactic(auto, unfolding(crate::specs::Fields::with_bits))]
 pub(crate) fn write_bits(field: &ScenarioField<'_>, bits: u32, payload: &mut Vec<u8>)
     requires { IsTrue (is_inside field.now (length payload.old.items)) }

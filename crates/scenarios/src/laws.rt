@@ -1,18 +1,18 @@
-//! What the host reads in the packets that scenarios say: laws of the definitions.
+//! The laws of scenarios, each stated by a function with an empty body.
 
 ghost use Rattle.scenarios.specs.HostReads.{FieldsApartStay, LinesSayTheirValues, WrittenValuesAreRead};
 
-/// A line of a packet that is said says the packet with each value that the line gives: the host reads it so.
+/// States that the packet of a valid line has each value that the line gives, as the host reads it.
 pub fn lines_say_their_values()
     ensures { LinesSayTheirValues }
 {}
 
-/// A value that goes with its field's type and mask is read once it is written, whatever the packet had there.
+/// States that a written value that fits its field's type and mask is read again, whatever the packet had there before.
 pub fn written_values_are_read()
     ensures { WrittenValuesAreRead }
 {}
 
-/// A field keeps its value where another is written that has none of its bytes.
+/// States that a field keeps its value if a field without common bytes is written.
 pub fn fields_apart_stay()
     ensures { FieldsApartStay }
 {}

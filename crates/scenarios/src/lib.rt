@@ -1,7 +1,8 @@
-//! Scenarios in the words of rule texts: packets and fields by their names, ramps, repeated lines, and the Limit Checker's
-//! commands. Each line says lines of a plain script (`stream_script`), which says the stream.
+//! Scenarios in the words of rule texts: packets and fields by name, ramps, repeated lines, and the Limit Checker's commands. Each line
+//! gives lines of a plain script (`stream_script`), which gives the stream.
 #![tactic(auto)]
 
+mod command_words;
 mod declared;
 mod error;
 mod field_values;
@@ -18,6 +19,7 @@ mod rules;
 mod said;
 mod word;
 
+pub use command_words::{command_in_words, record_in_words};
 pub use declared::{DeclaredItems, declared_in};
 pub use error::{Reason, ScenarioError};
 pub use force::ForceChange;

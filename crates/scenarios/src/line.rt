@@ -1,4 +1,4 @@
-//! The lines of a plain script that a line says.
+//! The lines of a plain script that a scenario's line gives.
 
 ghost use Rattle.std.specs.Prelude.{◌≡◌, ◌≤◌, length, IfOk, IfErr, Ok, slice_get};
 ghost use Rattle.std.specs.List.{position_or_len};
@@ -16,7 +16,7 @@ use crate::said::Saying;
 use crate::word::{is, is_plain, line_of};
 use std::alloc::Global;
 
-/// How many bytes come before the first `=`.
+/// The number of bytes before the first `=`.
 fn name_length(word: &[u8]) -> usize
     ensures place { result ≡ position_or_len is_equals word.now }
     ensures inside { result ≤ length word.now }
@@ -24,7 +24,7 @@ fn name_length(word: &[u8]) -> usize
     word.iter().take_while(|byte| **byte != b'=').count()
 }
 
-/// The field at a place has to be of the packet of this name.
+/// Checks that the field at this index is of the packet of this name.
 fn own_field(fields: &[ScenarioField<'_>], place: usize, packet: &[u8]) -> Result<(), Reason>
     ensures { result ≡ own_field packet.now (slice_get fields.now place) }
 {
@@ -45,7 +45,7 @@ pub(crate) struct Given {
     value: i64,
 }
 
-/// The field of this name, which the packet has to have, and the value of this word.
+/// The field of this name and the value of this word. The packet has to have the field.
 fn field_given(
     fields: &[ScenarioField<'_>],
     packet: &[u8],
@@ -60,7 +60,7 @@ fn field_given(
     Ok(Given { field, value })
 }
 
-/// The same, where `=` stands in front of the value.
+/// The same for a value after `=`.
 fn given_by(
     fields: &[ScenarioField<'_>],
     packet: &[u8],
@@ -75,7 +75,7 @@ fn given_by(
     }
 }
 
-/// `FIELD=VALUE`: what a word gives to a field of the packet of this name.
+/// `FIELD=VALUE`: the value that a word gives to a field of the packet of this name.
 fn given_in(fields: &[ScenarioField<'_>], packet: &[u8], word: &[u8]) -> Result<Given, Reason>
     ensures { result ≡ given_in packet.now word.now fields.now }
 {
@@ -83,7 +83,7 @@ fn given_in(fields: &[ScenarioField<'_>], packet: &[u8], word: &[u8]) -> Result<
     given_by(fields, packet, name, rest)
 }
 
-/// A field of the packet of this name has the value that a word gives from now on.
+/// Sets a field of the packet of this name to the value of a word.
 fn assign<'a>(said: Saying<'a>, packet: &[u8], word: &[u8]) -> Result<Saying<'a>, LineRefusal>
     ensures said { IfOk result (λ after. assigned packet.now word.now said.entry ≡ Ok after) }
     ensures refused { IfErr result (IsRefused (assigned packet.now word.now said.entry)) }
@@ -92,7 +92,7 @@ fn assign<'a>(said: Saying<'a>, packet: &[u8], word: &[u8]) -> Result<Saying<'a>
     said.with_value(given.field, given.value)
 }
 
-/// What a word gives has to be what the field reads in the packet at this place, once all words of the line are written.
+/// Checks that the field of a word has the word's value after all words of the line are written. Error: `TwoValues`.
 fn keep(said: &Saying<'_>, place: usize, packet: &[u8], word: &[u8]) -> Result<(), Reason>
     ensures { result ≡ kept place packet.now word.now said.now }
 {
@@ -104,7 +104,7 @@ fn keep(said: &Saying<'_>, place: usize, packet: &[u8], word: &[u8]) -> Result<(
     }
 }
 
-/// The same of all words.
+/// The same check for all words.
 fn keep_all(said: &Saying<'_>, place: usize, packet: &[u8], words: &[&[u8]]) -> Result<(), Reason>
     ensures { result ≡ all_kept place packet.now (texts_of words.now) said.now }
 {
@@ -114,7 +114,7 @@ fn keep_all(said: &Saying<'_>, place: usize, packet: &[u8], words: &[&[u8]]) -> 
     Ok(())
 }
 
-/// All these fields have their values from now on.
+/// Sets the fields of all these words to their values.
 fn all_assigned<'a>(
     start: Saying<'a>,
     packet: &[u8],
@@ -135,7 +135,7 @@ fn all_assigned<'a>(
     Ok(said)
 }
 
-/// The packet at this place, once these fields have their values.
+/// Sets these fields to their values, and adds the packet's line.
 fn packet_said<'a>(
     alloc: Global,
     said: Saying<'a>,
@@ -154,7 +154,7 @@ fn packet_said<'a>(
     said.with_packet(alloc, n, place)
 }
 
-/// A line of a plain script: its words as they stand.
+/// Adds a line of a plain script, with its words unchanged.
 fn plain_said<'a>(
     alloc: Global,
     said: Saying<'a>,
@@ -171,7 +171,7 @@ fn plain_said<'a>(
     said.with_line(n, line.as_slice())
 }
 
-/// A line that begins with none of the words of a plain script, and with no packet's name.
+/// Adds a line that begins neither with a word of a plain script nor with a packet's name.
 fn other_said<'a>(
     alloc: Global,
     rules: &[Rule<'_>],
@@ -205,7 +205,7 @@ fn other_said<'a>(
     plain_said(alloc, said, n, verb, words)
 }
 
-/// A line that says something.
+/// Adds a line that has words.
 fn verb_said<'a>(
     alloc: Global,
     rules: &[Rule<'_>],
@@ -232,7 +232,7 @@ fn verb_said<'a>(
     }
 }
 
-/// What the line of this number says, which has these words.
+/// Adds the line with this number and these words.
 pub(crate) fn line_said<'a>(
     alloc: Global,
     rules: &[Rule<'_>],

@@ -1,6 +1,6 @@
 //! Packets, fields and rules by their names.
 
-ghost use Rattle.std.specs.Prelude.{◌≡◌, ◌<◌, ◌==◌, ◌&&◌, bytes_eq, length, IfOk, IfSome, IsTrue};
+ghost use Rattle.std.specs.Prelude.{◌≡◌, ◌<◌, ◌==◌, ◌&&◌, not, bytes_eq, length, IfOk, IfSome, IsTrue};
 ghost use Rattle.rule_parser.specs.Syntax.{field_of, number_of, packet_of};
 ghost use Rattle.scenarios.specs.Declarations as declared;
 ghost use Rattle.scenarios.specs.Declarations.{field_declared, packet_declared, short};
@@ -20,7 +20,7 @@ use stream_script::telemetry_line;
 /// The bytes of telemetry's headers.
 pub(crate) const TELEMETRY_HEADERS: usize = 12;
 
-/// In 16 bits, which hold each of these numbers of a rule text.
+/// The number in 16 bits; numbers of a valid rule text fit.
 pub(crate) fn short(number: u64) -> u16
     ensures { result ≡ short number }
 {
@@ -38,7 +38,7 @@ fn short_of(number: Number) -> u16
     short(number.value.unsigned_abs())
 }
 
-/// A mask of a rule text in 32 bits, which hold each of a text that compiles.
+/// A mask of a rule text in 32 bits; masks of a valid text fit.
 fn mask_of(number: Number) -> u32
     ensures { result ≡ declared.mask_of (number_of number) }
 {
@@ -50,7 +50,7 @@ fn mask_of(number: Number) -> u32
     }
 }
 
-/// A packet that is declared, with the sequence count of the next one of it, and the bytes behind its headers as they are by now.
+/// A declared packet, with the sequence count of its next line and its current payload.
 #[derive(Drop)]
 pub(crate) struct Packet<'a> {
     name: &'a [u8],
@@ -73,7 +73,7 @@ impl<'a> Model for Packet<'a> {
 }
 
 impl<'a> Packet<'a> {
-    /// A packet of a rule text, before the first one of it. Out of memory is the only error.
+    /// A declared packet before its first line. The only error is a lack of memory.
     pub(crate) fn from_item(alloc: Global, item: &PacketItem<'a>) -> Result<Packet<'a>, AllocError>
         ensures { IfOk result (λ packet. packet ≡ packet_declared (packet_of item.now)) }
     {
@@ -86,7 +86,7 @@ impl<'a> Packet<'a> {
         })
     }
 
-    /// The same packet. Out of memory is the only error.
+    /// A copy of the packet. The only error is a lack of memory.
     pub(crate) fn same(&self, alloc: Global) -> Result<Packet<'a>, AllocError>
         ensures { IfOk result (λ packet. packet ≡ self.now) }
     {
@@ -110,14 +110,14 @@ impl<'a> Packet<'a> {
         self.payload.as_slice()
     }
 
-    /// One more of it was said.
+    /// Counts the packet: increments its sequence count.
     pub(crate) fn count_on(&mut self)
         ensures { self.new ≡ counted_on self.old }
     {
         self.count = ((u32::from(self.count) + 1) % u32::from(COUNT_END)) as u16;
     }
 
-    /// Writes bits under the mask of a field that stands in it.
+    /// Writes bits under the mask of a field that is inside the packet.
     pub(crate) fn write(&mut self, field: &ScenarioField<'_>, bits: u32)
         requires { IsTrue (is_inside field.now (length self.old.payload)) }
         ensures { self.new ≡
@@ -126,7 +126,7 @@ impl<'a> Packet<'a> {
         write_bits(field, bits, &mut self.payload);
     }
 
-    /// The line of the next packet, with all values that its fields have by now. Out of memory is the only error.
+    /// The line of the next packet, with the current values of its fields. The only error is a lack of memory.
     pub(crate) fn line(&self, alloc: Global) -> Result<Vec<u8>, AllocError>
         ensures { IfOk result (λ line. line.items ≡ packet_line self.now) }
     {
@@ -134,7 +134,7 @@ impl<'a> Packet<'a> {
     }
 }
 
-/// Where the first packet of a name stands.
+/// The index of the first packet of a name.
 pub(crate) fn packet_place(packets: &[Packet<'_>], name: &[u8]) -> Option<usize>
     ensures place { result ≡ packet_place name.now packets.now }
     ensures inside { IfSome result (λ place. place < length packets.now) }
@@ -142,7 +142,7 @@ pub(crate) fn packet_place(packets: &[Packet<'_>], name: &[u8]) -> Option<usize>
     packets.iter().position(|packet| packet.is_named(name))
 }
 
-/// A field that is declared: its type, its offset in its packet, and the bits that are its own.
+/// A declared field: its type, its offset in its packet, and its mask.
 #[derive(Drop)]
 pub(crate) struct ScenarioField<'a> {
     name: &'a [u8],
@@ -184,7 +184,7 @@ impl<'a> ScenarioField<'a> {
         }
     }
 
-    /// The same field.
+    /// A copy of the field.
     pub(crate) fn same(&self) -> ScenarioField<'a>
         ensures { result ≡ self.now }
     {
@@ -203,7 +203,7 @@ impl<'a> ScenarioField<'a> {
         is(self.name, name)
     }
 
-    /// Whether it is one of the packet of this name.
+    /// Whether it is a field of the packet of this name.
     pub(crate) fn is_of(&self, packet: &[u8]) -> bool
         ensures { result ≡ bytes_eq self.now.packet packet.now }
     {
@@ -235,7 +235,7 @@ impl<'a> ScenarioField<'a> {
     }
 }
 
-/// Where the first field of a name stands.
+/// The index of the first field of a name.
 pub(crate) fn field_place(fields: &[ScenarioField<'_>], name: &[u8]) -> Option<usize>
     ensures place { result ≡ field_place name.now fields.now }
     ensures inside { IfSome result (λ place. place < length fields.now) }
@@ -243,7 +243,7 @@ pub(crate) fn field_place(fields: &[ScenarioField<'_>], name: &[u8]) -> Option<u
     fields.iter().position(|field| field.is_named(name))
 }
 
-/// A rule that is declared, with its text's number and its own number in it.
+/// A declared rule, with the number of its text and its number in that text.
 #[derive(Drop)]
 pub(crate) struct Rule<'a> {
     pub(crate) name: &'a [u8],
@@ -283,5 +283,12 @@ impl<'a> Rule<'a> {
         ensures { result ≡ self.now.number }
     {
         self.number
+    }
+
+    /// Whether it is the rule of this number in its text, by another name.
+    pub(crate) fn is_otherwise(&self, number: u16, name: &[u8]) -> bool
+        ensures { result ≡ (self.now.number == number && not (bytes_eq self.now.name name.now)) }
+    {
+        self.number == number && !self.is_named(name)
     }
 }

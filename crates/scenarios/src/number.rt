@@ -41,7 +41,7 @@ fn hexadecimal(digits: &[u8]) -> Option<u64>
     Some(number)
 }
 
-/// The number that digits write, hexadecimal ones behind `0x`.
+/// The number that decimal digits, or hexadecimal digits after `0x`, write.
 fn magnitude_in(word: &[u8]) -> Option<u64>
     ensures { result ≡ magnitude_in word.now }
 {
@@ -51,7 +51,7 @@ fn magnitude_in(word: &[u8]) -> Option<u64>
     }
 }
 
-/// The number that a word writes, from 0 to the most.
+/// The number that a word writes, from 0 to `most`. The error is `BadNumber`.
 pub(crate) fn number_in(most: u32, word: &[u8]) -> Result<u32, Reason>
     ensures exact { result ≡ number_in most word.now }
     ensures most { IfOk result (λ number. number ≤ most) }
@@ -62,7 +62,7 @@ pub(crate) fn number_in(most: u32, word: &[u8]) -> Result<u32, Reason>
     }
 }
 
-/// Whether `-` stands in front.
+/// Whether a word begins with `-`.
 fn is_negative(word: &[u8]) -> bool
     ensures { result ≡ bytes_eq (take 1 word.now) (codes "-") }
 {
@@ -76,7 +76,7 @@ fn without_sign(word: &[u8]) -> &[u8]
     if is_negative(word) { &word[1..] } else { word }
 }
 
-/// The value that a word writes, behind `-` a negative one: without its sign it has at most 32 bits.
+/// The value that a word writes, negative after `-`; without its sign it has at most 32 bits. The error is `BadNumber`.
 pub(crate) fn value_in(word: &[u8]) -> Result<i64, Reason>
     ensures { result ≡ value_in word.now }
 {

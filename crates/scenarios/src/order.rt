@@ -3,7 +3,8 @@
 ghost use Rattle.std.specs.Prelude.{◌≡◌, IfOk, IfErr, Ok, Some};
 ghost use Rattle.text_lines.specs.Lines.{texts_of};
 ghost use Rattle.scenarios.specs.Error.{IsRefused};
-ghost use Rattle.scenarios.specs.Orders.{command_line, filter_line, filter_of, is_all, is_off, mode_line, rule_number, some_name, standing_number, state_line, state_of, state_said};
+ghost use Rattle.scenarios.specs.Rules.{rule_named};
+ghost use Rattle.scenarios.specs.Orders.{command_line, filter_line, filter_of, is_all, is_off, mode_line, number_of_rule, number_written, rule_number, some_name, standing_number, state_line, state_of, state_said};
 
 use crate::error::{LineRefusal, Reason};
 use crate::named::Rule;
@@ -12,10 +13,11 @@ use crate::rules::number_of_rule;
 use crate::word::is;
 use lc_model::{ApMode, mids};
 use std::alloc::{AllocError, Global};
+use stream_script::decimal_number;
 use table_listing::InHex;
 
-/// All rules, in the place of a rule's number.
-const ALL: u16 = 0xFFFF;
+/// The rule number that means all rules.
+pub(crate) const ALL: u16 = 0xFFFF;
 
 /// The line of a command.
 fn command_line(alloc: Global, mid: u16, code: u8, payload: &[u8]) -> Result<Vec<u8>, AllocError>
@@ -61,23 +63,44 @@ fn is_all(word: &[u8]) -> bool
     is(word, b"all")
 }
 
-/// Whether a rule is off from then on, which all rules can't be.
+/// Whether the command puts one rule off for good; it can't put all rules off.
 fn is_off(name: &[u8], state: &[u8]) -> bool
     ensures { result ≡ is_off name.now state.now }
 {
     is(state, b"off") && !is_all(name)
 }
 
-/// The number of the rule that a word names where this text is in force, or of all.
+/// The number of a rule that a word writes: any but the one that means all rules.
+fn number_written(number: u64) -> Result<u16, Reason>
+    ensures { result ≡ number_written number }
+{
+    if number < u64::from(ALL) {
+        Ok(number as u16)
+    } else {
+        Err(Reason::UnknownRule)
+    }
+}
+
+/// The number of the rule that a word names; `force` is the text in force.
+fn number_named(rules: &[Rule<'_>], force: Option<usize>, word: &[u8]) -> Result<u16, Reason>
+    ensures { result ≡ number_of_rule (rule_named force word.now rules.now) }
+{
+    match number_of_rule(rules, force, word) {
+        Some(number) => Ok(number),
+        None => Err(Reason::UnknownRule),
+    }
+}
+
+/// The number of the rule that a word writes or names, or of all rules; `force` is the text in force.
 fn rule_number(rules: &[Rule<'_>], force: Option<usize>, word: &[u8]) -> Result<u16, Reason>
     ensures { result ≡ rule_number force word.now rules.now }
 {
     if is_all(word) {
         return Ok(ALL);
     }
-    match number_of_rule(rules, force, word) {
-        Some(number) => Ok(number),
-        None => Err(Reason::UnknownRule),
+    match decimal_number(word) {
+        Some(number) => number_written(number),
+        None => number_named(rules, force, word),
     }
 }
 
@@ -99,7 +122,7 @@ fn state_of(alloc: Global, name: &[u8], state: &[u8], rule: u16) -> Result<Vec<u
     }
 }
 
-/// The command that puts the rule that a word names into a state, where this text is in force.
+/// The command that puts the rule that a word names into a state; `force` is the text in force.
 fn state_said(
     alloc: Global,
     rules: &[Rule<'_>],
@@ -115,7 +138,7 @@ fn state_said(
     state_of(alloc, name, state, rule)
 }
 
-/// `state RULE STATE`, where this text is in force: the Limit Checker's command 3, or 4 where the rule is off from then on.
+/// `state RULE STATE`: the Limit Checker's command 3, or 4 to put the rule off for good; `force` is the text in force.
 pub(crate) fn state_line(
     alloc: Global,
     rules: &[Rule<'_>],
@@ -132,7 +155,7 @@ pub(crate) fn state_line(
     state_said(alloc, rules, force, name, state)
 }
 
-/// An application's name in its field of 20 bytes, with zeros behind it.
+/// An application's name in its field of 20 bytes, with zeros after it.
 fn some_name(name: &[u8]) -> Result<[u8; 20], Reason>
     ensures { result ≡ some_name name.now }
 {

@@ -1,4 +1,4 @@
-//! From a scenario to a plain script.
+//! Turns a scenario into a plain script.
 
 ghost use Rattle.std.specs.Prelude.{◌≡◌, ◌<◌, ◌+◌, ◌^◌, drop, length, IfOk, IfErr, IsErr, Ok, Err};
 ghost use Rattle.lc_model.specs.Host.ScheduleText.{lines_of};
@@ -21,18 +21,20 @@ use std::collections::VecDeque;
 use std::marker::Model;
 use text_lines::first_line;
 
-/// The most lines that are said, those that repeat others and those that begin and end repetitions among them.
+/// The most lines that are read, each as often as it is repeated, including those that begin and end repetitions.
 const MOST_STEPS: u64 = 10_000_000;
 
-/// A plain script, and of each of its lines the number of the scenario's line that says it, from 1.
+/// A plain script, with the scenario's line of each of its lines.
 #[derive(Drop)]
 pub struct Plain {
+    /// The plain script.
     pub text: Vec<u8>,
+    /// For each of its lines the number of the scenario's line that gives it, counted from 1.
     pub lines: Vec<usize>,
 }
 
 impl Plain {
-    /// The scenario's line that says a line of the plain script; both count from 1. The same number, where there's no such line.
+    /// The scenario's line that gives line `n` of the plain script; both count from 1. Returns `n` if there is no such line.
     pub fn line(&self, n: usize) -> usize
         ensures { result ≡ line_of self.now.lines.items n }
     {
@@ -43,8 +45,7 @@ impl Plain {
     }
 }
 
-/// The place of the line that is said next, the repetitions that are being said, the innermost first, and what was said so far.
-/// Contracts see all (`Going`).
+/// The place of the next line, the current repetitions with the innermost first, and the script so far. Contracts see all (`Going`).
 #[derive(Drop)]
 struct Going<'a> {
     place: usize,
@@ -64,7 +65,7 @@ impl<'a> Model for Going<'a> {
     } };
 }
 
-/// The lines of a scenario. Out of memory is the only error.
+/// The lines of a scenario. The only error is a lack of memory.
 fn lines_of(alloc: Global, scenario: &[u8]) -> Result<Vec<&[u8]>, AllocError>
     ensures { IfOk result (λ lines. texts_of lines.items ≡ lines_of scenario.now) }
 {
@@ -78,7 +79,7 @@ fn lines_of(alloc: Global, scenario: &[u8]) -> Result<Vec<&[u8]>, AllocError>
     Ok(lines)
 }
 
-/// The place behind the end of a repetition whose first line is at this place, which has to be there.
+/// The place after the end of the repetition whose first line is at this place. The error is `Unended`.
 fn some_end(alloc: Global, lines: &[&[u8]], first: usize) -> Result<usize, LineRefusal>
     ensures said { IfOk result
         (λ end. some_end (behind_end 0 first (drop first (texts_of lines.now))) ≡ Ok end) }
@@ -91,7 +92,7 @@ fn some_end(alloc: Global, lines: &[&[u8]], first: usize) -> Result<usize, LineR
     }
 }
 
-/// Behind a line that begins a repetition of so many times, whose end is before this place.
+/// The state after a line that begins a repetition; `end` is the place after the repetition's end.
 fn begin_repetition(going: Going<'_>, times: u32, end: usize) -> Result<Going<'_>, AllocError>
     requires { going.place < 2 ^ 63 }
     ensures { IfOk result (λ after. begun times end going.entry ≡ Ok after) }
@@ -119,7 +120,7 @@ fn begin_repetition(going: Going<'_>, times: u32, end: usize) -> Result<Going<'_
     })
 }
 
-/// Behind a line with these words, which begins a repetition.
+/// The state after a line with these words, which begins a repetition.
 fn repeat_said<'a>(
     alloc: Global,
     lines: &[&[u8]],
@@ -137,7 +138,7 @@ fn repeat_said<'a>(
     Ok(begin_repetition(going, times, end)?)
 }
 
-/// Behind a line that ends a repetition.
+/// The state after a line that ends a repetition. The error is `Unbegun`.
 fn end_said(going: Going<'_>) -> Result<Going<'_>, LineRefusal>
     requires { going.place < 2 ^ 63 }
     ensures said { IfOk result (λ after. end_said going.entry.repetitions going.entry ≡ Ok after) }
@@ -169,7 +170,7 @@ fn end_said(going: Going<'_>) -> Result<Going<'_>, LineRefusal>
     })
 }
 
-/// Behind any other line with these words.
+/// The state after any other line with these words.
 fn gone_on<'a>(
     alloc: Global,
     rules: &[Rule<'_>],
@@ -197,7 +198,7 @@ fn gone_on<'a>(
     })
 }
 
-/// Behind the line with these words.
+/// The state after the line with these words.
 fn step<'a>(
     alloc: Global,
     rules: &[Rule<'_>],
@@ -221,7 +222,7 @@ fn step<'a>(
     gone_on(alloc, rules, changes, words, going)
 }
 
-/// Behind the line that is said next.
+/// The state after the next line.
 fn step_on<'a>(
     alloc: Global,
     rules: &[Rule<'_>],
@@ -239,7 +240,7 @@ fn step_on<'a>(
     step(alloc, rules, changes, lines, words.as_slice(), going)
 }
 
-/// What lines say.
+/// The script of the lines.
 fn said_within<'a>(
     alloc: Global,
     rules: &[Rule<'_>],
@@ -278,7 +279,7 @@ fn said_within<'a>(
     })
 }
 
-/// What a scenario says in the words of these declarations, where the text in force changes so.
+/// The script of a scenario with these declarations and these changes of the text in force.
 fn scenario_said<'a>(
     alloc: Global,
     scenario: &[u8],
@@ -297,12 +298,12 @@ fn scenario_said<'a>(
     said_within(alloc, declared.rules(), changes, lines.as_slice(), going)
 }
 
-/// The plain script of a scenario in the words of these declarations. `changes` says which text is in force at which lines of the
-/// plain script, in the order of lines: a rule that a line names is that text's. Without changes no text is in force. A line that begins as a line of a plain script does stays
-/// one, without what stands behind a word that begins with `#`; so does one that says nothing else.
+/// The plain script of a scenario with these declarations. `changes` has the text in force from lines of the plain script on, in their
+/// order; a rule that a line names is that text's. Without changes no text is in force. A line that begins as a line of a plain script
+/// is copied without its comment, and so is a line that has no other meaning.
 ///
-/// Errors, of which the first line's is answered: `Line` with the line's number from 1 and what is wrong with it; `Memory` only
-/// where the script or a line finds no room.
+/// Errors: `Line` for the first faulty line, with its number from 1 and its reason; `Memory` only if there is no memory for the script or
+/// a line.
 pub fn plain_script(
     alloc: Global,
     scenario: &[u8],

@@ -1,4 +1,4 @@
-//! A field that goes from one value to another.
+//! Ramps: a field goes from one value to another in steps.
 
 ghost use Rattle.std.specs.Prelude.{◌≡◌, ◌<◌, ◌^◌, ◌++◌, codes, slice_get, IfOk, IfErr, Ok, unsigned_abs};
 ghost use Rattle.std.specs.Fmt.{decimal};
@@ -14,10 +14,10 @@ use crate::said::Saying;
 use crate::word::is;
 use std::alloc::{AllocError, Global};
 
-/// The most values.
+/// The most values of a ramp.
 const MOST_VALUES: u64 = 100_000;
 
-/// `ramp FIELD FROM TO by STEP each SECONDS [tick]`: the field by its place.
+/// `ramp FIELD FROM TO by STEP each SECONDS [tick]`, with the index of the field.
 #[derive(Clone, Copy)]
 pub(crate) struct Ramp {
     field: usize,
@@ -28,7 +28,7 @@ pub(crate) struct Ramp {
     has_ticks: bool,
 }
 
-/// Whether there are ticks, by the words behind the others.
+/// Whether there are ticks, by the words after the others.
 fn has_ticks(words: &[&[u8]]) -> Result<bool, Reason>
     ensures { result ≡ has_ticks (texts_of words.now) }
 {
@@ -43,14 +43,14 @@ fn has_ticks(words: &[&[u8]]) -> Result<bool, Reason>
     }
 }
 
-/// Whether these two words say a pace.
+/// Whether these two words are `by` and `each`.
 fn is_paced(by: &[u8], each: &[u8]) -> bool
     ensures { result ≡ is_paced by.now each.now }
 {
     is(by, b"by") && is(each, b"each")
 }
 
-/// Where the first field of a name stands, which has to be there.
+/// The index of the first field of a name. The error is `UnknownField`.
 pub(crate) fn some_field(fields: &[ScenarioField<'_>], name: &[u8]) -> Result<usize, Reason>
     ensures { result ≡ some_field (field_place name.now fields.now) }
 {
@@ -60,7 +60,7 @@ pub(crate) fn some_field(fields: &[ScenarioField<'_>], name: &[u8]) -> Result<us
     }
 }
 
-/// A step, which isn't 0.
+/// The step that a word writes, which can't be 0.
 fn step_in(word: &[u8]) -> Result<u32, Reason>
     ensures exact { result ≡ step_in word.now }
     ensures some { IfOk result (λ step. 0 < step) }
@@ -101,7 +101,7 @@ fn ramp_of(
     })
 }
 
-/// The ramp whose pace these words say.
+/// The ramp with the pace of these words.
 fn ramp_paced(
     fields: &[ScenarioField<'_>],
     name: &[u8],
@@ -122,7 +122,7 @@ fn ramp_paced(
     ramp_of(fields, name, from, to, step, seconds, has_ticks)
 }
 
-/// What the words behind `ramp` say.
+/// The ramp of the words after `ramp`.
 fn ramp_in(fields: &[ScenarioField<'_>], words: &[&[u8]]) -> Result<Ramp, Reason>
     ensures exact { result ≡ ramp_in fields.now (texts_of words.now) }
     ensures steps { IfOk result (λ ramp. 0 < ramp.step) }
@@ -134,7 +134,7 @@ fn ramp_in(fields: &[ScenarioField<'_>], words: &[&[u8]]) -> Result<Ramp, Reason
 }
 
 impl Ramp {
-    /// How many values come behind the first, none of which is beyond the end.
+    /// The number of values after the first, up to the end.
     fn values_behind(&self) -> u64
         requires { 0 < self.now.step }
         ensures { result ≡ values_behind self.now }
@@ -142,7 +142,7 @@ impl Ramp {
         self.to.abs_diff(self.from) / u64::from(self.step)
     }
 
-    /// The value behind a value, towards the end.
+    /// The value after a value, towards the end.
     fn next_value(&self, value: i64) -> i64
         requires { unsigned_abs value < 2 ^ 32 }
         ensures { result ≡ next_value self.now value }
@@ -155,7 +155,7 @@ impl Ramp {
     }
 }
 
-/// Where the packet of a field stands.
+/// The index of the packet of a field.
 fn packet_place_of(said: &Saying<'_>, field: usize) -> Option<usize>
     ensures { result ≡ packet_of_field said.now (slice_get said.now.fields field) }
 {
@@ -165,7 +165,7 @@ fn packet_place_of(said: &Saying<'_>, field: usize) -> Option<usize>
     }
 }
 
-/// The next packet of a field.
+/// Adds the next packet of a field.
 fn packet_of<'a>(
     alloc: Global,
     said: Saying<'a>,
@@ -181,7 +181,7 @@ fn packet_of<'a>(
     }
 }
 
-/// A tick, where ticks are wanted.
+/// Adds a tick if the ramp has ticks.
 fn add_tick(said: Saying<'_>, n: usize, has_ticks: bool) -> Result<Saying<'_>, LineRefusal>
     ensures said { IfOk result (λ after. ticked n has_ticks said.entry ≡ Ok after) }
     ensures refused { IfErr result (IsRefused (ticked n has_ticks said.entry)) }
@@ -192,7 +192,7 @@ fn add_tick(said: Saying<'_>, n: usize, has_ticks: bool) -> Result<Saying<'_>, L
     Ok(said)
 }
 
-/// The line by which seconds go by.
+/// The line that moves the moment by seconds.
 fn seconds_line(alloc: Global, seconds: u32) -> Result<Vec<u8>, AllocError>
     ensures { IfOk result (λ line. line.items ≡ codes "after " ++ decimal seconds) }
 {
@@ -200,7 +200,7 @@ fn seconds_line(alloc: Global, seconds: u32) -> Result<Vec<u8>, AllocError>
     Ok(line.into_bytes())
 }
 
-/// A value's packet, its tick, and the seconds that go by then.
+/// Adds a value's packet, its tick, and the seconds after it.
 fn value_said<'a>(
     alloc: Global,
     said: Saying<'a>,
@@ -219,7 +219,7 @@ fn value_said<'a>(
     said.with_line(n, line.as_slice())
 }
 
-/// So many values, from the first on.
+/// Adds the first `count` values.
 fn values_said<'a>(
     alloc: Global,
     start: Saying<'a>,
@@ -244,7 +244,7 @@ fn values_said<'a>(
     Ok(said)
 }
 
-/// All values, one behind the other.
+/// Adds all values, one after the other.
 fn ramp_said<'a>(
     alloc: Global,
     said: Saying<'a>,
@@ -262,8 +262,8 @@ fn ramp_said<'a>(
     values_said(alloc, said, n, ramp, behind + 1)
 }
 
-/// The lines of a packet for each value, from the first up to the last that isn't beyond the end: behind each packet a tick, where
-/// ticks are wanted, and then the seconds go by.
+/// Adds the lines of a ramp: a packet for each value up to the end, after each packet a tick if the ramp has ticks, and then the seconds
+/// between values.
 pub(crate) fn ramp_lines<'a>(
     alloc: Global,
     said: Saying<'a>,

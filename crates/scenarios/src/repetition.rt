@@ -1,4 +1,4 @@
-//! Repeated lines: `repeat NUMBER {` before them, and `}` behind them.
+//! Repeated lines: `repeat NUMBER {` before them, and `}` after them.
 
 ghost use Rattle.std.specs.Prelude.{◌≡◌, ◌<◌, ◌≤◌, ◌+◌, ◌^◌, drop, IfOk, IfSome};
 ghost use Rattle.text_lines.specs.Lines.{texts_of};
@@ -9,7 +9,7 @@ use crate::number::number_in;
 use crate::word::{is, words_in};
 use std::alloc::{AllocError, Global};
 
-/// A repetition that is being said: where its first line is, and how often it comes again.
+/// A current repetition: the place of its first line, and how often it is repeated again.
 #[derive(Clone, Copy)]
 pub(crate) struct Repetition {
     pub(crate) first: usize,
@@ -36,7 +36,7 @@ pub(crate) fn is_end(words: &[&[u8]]) -> bool
     }
 }
 
-/// How often the lines behind a line with these words are said: `repeat NUMBER {`.
+/// The number of repetitions in a line with these words: `repeat NUMBER {`.
 pub(crate) fn times_in(words: &[&[u8]]) -> Result<u32, Reason>
     ensures { result ≡ times_in (texts_of words.now) }
 {
@@ -49,8 +49,7 @@ pub(crate) fn times_in(words: &[&[u8]]) -> Result<u32, Reason>
     number_in(1_000_000, number)
 }
 
-/// How many repetitions have begun and not ended behind a line with these words, among the lines of another; none where that one
-/// ends.
+/// The number of open inner repetitions after a line with these words; `None` if the outer repetition ends.
 fn depth_behind(words: &[&[u8]], depth: usize) -> Option<usize>
     requires { depth < 2 ^ 63 }
     ensures depth { result ≡ depth_behind (texts_of words.now) depth }
@@ -68,7 +67,7 @@ fn depth_behind(words: &[&[u8]], depth: usize) -> Option<usize>
     Some(depth - 1)
 }
 
-/// The place behind the end of a repetition whose first line is at this place. Out of memory is the only error.
+/// The place after the end of the repetition whose first line is at this place. The only error is a lack of memory.
 pub(crate) fn behind_end(
     alloc: Global,
     lines: &[&[u8]],

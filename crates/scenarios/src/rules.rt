@@ -1,4 +1,4 @@
-//! Rules by their names.
+//! Finds rules by name.
 
 ghost use Rattle.std.specs.Prelude.{◌≡◌, ◌≤◌, ◌&&◌, ◌==◌, not, bytes_eq, length};
 ghost use Rattle.std.specs.List.{list_any, position_or_len};
@@ -33,7 +33,7 @@ fn number_in_text(rules: &[Rule<'_>], text: usize, name: &[u8]) -> Option<u16>
     None
 }
 
-/// The number of the rule of a name in the text in force, or of the first rule of that name where there's none.
+/// The number of the rule of a name in the text in force. Without such a text or rule, that of the first rule of that name.
 fn number_in_force(rules: &[Rule<'_>], force: Option<usize>, name: &[u8]) -> Option<u16>
     ensures { result ≡ number_of (rule_in_force force name.now rules.now) }
 {
@@ -57,7 +57,7 @@ fn number_by_number(rules: &[Rule<'_>], text: &[u8], name: &[u8]) -> Option<u16>
     }
 }
 
-/// How many bytes come before the first `:`.
+/// The number of bytes before the first `:`.
 fn text_length(word: &[u8]) -> usize
     ensures place { result ≡ position_or_len is_colon word.now }
     ensures inside { result ≤ length word.now }
@@ -65,7 +65,7 @@ fn text_length(word: &[u8]) -> usize
     word.iter().take_while(|byte| **byte != b':').count()
 }
 
-/// The number of the rule that a word names, where this text is in force: `NAME`, or `TEXT:NAME`.
+/// The number of the rule that a word names, `NAME` or `TEXT:NAME`; `force` is the text in force.
 pub(crate) fn number_of_rule(rules: &[Rule<'_>], force: Option<usize>, word: &[u8]) -> Option<u16>
     ensures { result ≡ number_of (rule_named force word.now rules.now) }
 {

@@ -1,4 +1,4 @@
-//! What a scenario says so far.
+//! The state of a scenario that is being read.
 
 ghost use Rattle.std.specs.Prelude.{◌≡◌, ◌<◌, ◌^◌, length, slice_get, unsigned_abs, Some, IfOk, IfErr, Ok, Err};
 ghost use Rattle.scenarios.specs.Named.{NamedPacket};
@@ -15,8 +15,8 @@ use std::marker::Model;
 /// The most lines of a plain script.
 const MOST_LINES: usize = 1_000_000;
 
-/// The packets, each with what was said of it by now, the fields, the plain script, and of each of its lines the number of the
-/// scenario's line that says it. Contracts see all (`Said`).
+/// The packets with their current payloads, the fields, the plain script so far, and the scenario's line of each of its lines. Contracts
+/// see all (`Said`).
 #[derive(Drop)]
 pub(crate) struct Saying<'a> {
     packets: Vec<Packet<'a>>,
@@ -38,7 +38,7 @@ impl<'a> Model for Saying<'a> {
     } };
 }
 
-/// The same packets. Out of memory is the only error.
+/// A copy of the packets. The only error is a lack of memory.
 fn packets_of<'a>(alloc: Global, packets: &[Packet<'a>]) -> Result<Vec<Packet<'a>>, AllocError>
     ensures { IfOk result (λ own. own.items ≡ packets.now) }
 {
@@ -49,7 +49,7 @@ fn packets_of<'a>(alloc: Global, packets: &[Packet<'a>]) -> Result<Vec<Packet<'a
     Ok(own)
 }
 
-/// The same fields. Out of memory is the only error.
+/// A copy of the fields. The only error is a lack of memory.
 fn fields_of<'a>(
     alloc: Global,
     fields: &[ScenarioField<'a>],
@@ -63,7 +63,7 @@ fn fields_of<'a>(
     Ok(own)
 }
 
-/// The field at a place, which has to be there.
+/// The field at this index, which has to exist.
 fn some_field_at<'s, 'a>(
     fields: &'s [ScenarioField<'a>],
     place: usize,
@@ -79,7 +79,7 @@ fn some_field_at<'s, 'a>(
     }
 }
 
-/// The packets, where the one at this place has these bits of a field, which has to stand in it.
+/// The packets, with these bits of a field in the packet at this index. The field has to be inside it.
 fn with_bits_at<'a>(
     mut packets: Vec<Packet<'a>>,
     place: usize,
@@ -101,7 +101,7 @@ fn with_bits_at<'a>(
     Ok(packets)
 }
 
-/// Where the packet of a field stands, which has to be declared.
+/// The index of the packet of a field, which has to be declared.
 fn some_packet_at(packets: &[Packet<'_>], field: &ScenarioField<'_>) -> Result<usize, Reason>
     ensures { result ≡ some_packet_at (packet_place field.now.packet packets.now) }
 {
@@ -128,7 +128,7 @@ fn packets_with<'a>(
     with_bits_at(packets, place, field, bits)
 }
 
-/// Whether a field reads this value in the packet at a place.
+/// Whether a field has this value in the packet at this index.
 fn packet_reads(field: &ScenarioField<'_>, value: i64, packets: &[Packet<'_>], place: usize) -> bool
     ensures { result ≡ packet_reads field.now value (slice_get packets.now place) }
 {
@@ -139,7 +139,7 @@ fn packet_reads(field: &ScenarioField<'_>, value: i64, packets: &[Packet<'_>], p
 }
 
 impl<'a> Saying<'a> {
-    /// Before the first line. Out of memory is the only error.
+    /// The state before the first line. The only error is a lack of memory.
     pub(crate) fn new(alloc: Global, declared: &DeclaredItems<'a>) -> Result<Saying<'a>, AllocError>
         ensures { IfOk result (λ said. said ≡ nothing_said declared.now) }
     {
@@ -173,7 +173,7 @@ impl<'a> Saying<'a> {
         self.lines.len()
     }
 
-    /// The plain script, and the lines that say its lines.
+    /// The plain script, and the scenario's line of each of its lines.
     pub(crate) fn into_parts(self) -> (Vec<u8>, Vec<usize>)
         ensures script { result.0.items ≡ self.entry.script }
         ensures lines { result.1.items ≡ self.entry.lines }
@@ -181,7 +181,7 @@ impl<'a> Saying<'a> {
         (self.script, self.lines)
     }
 
-    /// A line more, which the scenario's line of this number says.
+    /// Adds a line of the plain script, which the scenario's line `n` gives. Errors: `TooLong`, or a lack of memory.
     pub(crate) fn with_line(self, n: usize, line: &[u8]) -> Result<Saying<'a>, LineRefusal>
         ensures said { IfOk result (λ after. lined n line.now self.entry ≡ Ok after) }
         ensures refused { IfErr result (IsRefused (lined n line.now self.entry)) }
@@ -206,7 +206,7 @@ impl<'a> Saying<'a> {
         })
     }
 
-    /// The field at this place has this value from now on, which has to be of its type.
+    /// Sets the field at this index to a value, which has to fit its type and mask.
     pub(crate) fn with_value(self, place: usize, value: i64) -> Result<Saying<'a>, LineRefusal>
         ensures said { IfOk result (λ after. with_value place value self.entry ≡ Ok after) }
         ensures refused { IfErr result (IsRefused (with_value place value self.entry)) }
@@ -228,7 +228,7 @@ impl<'a> Saying<'a> {
         })
     }
 
-    /// Whether the field at a place reads this value in the packet at a place, by now.
+    /// Whether the field at this index now has this value in the packet at this index.
     pub(crate) fn reads_value(&self, packet: usize, field: usize, value: i64) -> bool
         ensures { result ≡ reads_value packet field value self.now }
     {
@@ -238,7 +238,7 @@ impl<'a> Saying<'a> {
         }
     }
 
-    /// The same, with the next packet of this place counted.
+    /// The same state with the packet at this index counted.
     fn count_packet(self, place: usize) -> Saying<'a>
         requires { place < length self.packets }
         ensures { (p : NamedPacket) → slice_get self.entry.packets place ≡ Some p →
@@ -259,7 +259,7 @@ impl<'a> Saying<'a> {
         }
     }
 
-    /// The next packet of this place, with all values that its fields have by now.
+    /// Adds the line of the packet at this index, with the current values of its fields, and counts the packet.
     pub(crate) fn with_packet(
         self,
         alloc: Global,

@@ -21,7 +21,7 @@ fn is_comment(word: &[u8]) -> bool
     matches!(word, [b'#', ..])
 }
 
-/// The words in front of a comment.
+/// The words before a comment.
 fn before_comment<'a>(alloc: Global, words: &[&'a [u8]]) -> Result<Vec<&'a [u8]>, AllocError>
     ensures { IfOk result
         (λ before. texts_of before.items ≡ before_comment (texts_of words.now)) }
@@ -36,7 +36,7 @@ fn before_comment<'a>(alloc: Global, words: &[&'a [u8]]) -> Result<Vec<&'a [u8]>
     Ok(before)
 }
 
-/// The words of a line, up to the first that begins with `#`. Out of memory is the only error.
+/// The words of a line, up to the first that begins with `#`. The only error is a lack of memory.
 pub(crate) fn words_in(alloc: Global, line: &[u8]) -> Result<Vec<&[u8]>, AllocError>
     ensures { IfOk result (λ words. texts_of words.items ≡ words_in line.now) }
 {
@@ -44,7 +44,7 @@ pub(crate) fn words_in(alloc: Global, line: &[u8]) -> Result<Vec<&[u8]>, AllocEr
     before_comment(alloc, all.as_slice())
 }
 
-/// Whether lines that begin with this word say moments and what comes at them.
+/// Whether the word begins lines of moments and records.
 fn is_record_word(word: &[u8]) -> bool
     ensures { result ≡ is_record_word word.now }
 {
@@ -57,21 +57,21 @@ fn is_record_word(word: &[u8]) -> bool
         || is(word, b"record")
 }
 
-/// Whether they ask for something, or say what is expected.
+/// Whether the word begins lines of requests or expectations.
 fn is_request_word(word: &[u8]) -> bool
     ensures { result ≡ is_request_word word.now }
 {
     is(word, b"tick") || is(word, b"sample") || is(word, b"housekeeping") || is(word, b"expect")
 }
 
-/// Whether they are orders to the executive services.
+/// Whether the word begins lines of commands to the executive services.
 fn is_app_word(word: &[u8]) -> bool
     ensures { result ≡ is_app_word word.now }
 {
     is(word, b"start") || is(word, b"stop") || is(word, b"restart") || is(word, b"reload")
 }
 
-/// Whether they are orders to the table services, or bring files.
+/// Whether the word begins lines of commands to the table services, or of files.
 fn is_table_word(word: &[u8]) -> bool
     ensures { result ≡ is_table_word word.now }
 {
@@ -84,15 +84,14 @@ fn is_table_word(word: &[u8]) -> bool
         || is(word, b"file")
 }
 
-/// Whether a line that begins with this word is one of a plain script, or an expectation: what these say stays as it is, whatever
-/// rule texts declare.
+/// Whether the word begins a line of a plain script or an expectation. Such a line keeps its meaning, whatever rule texts declare.
 pub(crate) fn is_plain(word: &[u8]) -> bool
     ensures { result ≡ is_plain word.now }
 {
     is_record_word(word) || is_request_word(word) || is_app_word(word) || is_table_word(word)
 }
 
-/// A text with these words behind it, each behind a space.
+/// A text with these words after it, each after a space.
 fn with_words(text: Vec<u8>, words: &[&[u8]]) -> Result<Vec<u8>, AllocError>
     ensures { IfOk result
         (λ after. after.items ≡ text.items ++ words_behind (texts_of words.now)) }

@@ -5,7 +5,7 @@ use Rattle.lc_model.specs.Host.ScheduleText.{ScheduleFault, bad_line, too_many_s
 use Rattle.schedules.specs.declared.error.ScheduleError.{ScheduleError}
 use Rattle.schedules.specs.declared.error.ScheduleError.TheVariants.{BadLine, TooManySlots, TooManyEntries, Memory}
 
--- the fault of the text; want of memory is none
+-- the fault of the text; lack of memory is none
 abbrev pub fault_of : ScheduleError → Option ScheduleFault
 fault_of (BadLine line) = Some (record { code = bad_line; line = line })
 fault_of (TooManySlots line) = Some (record { code = too_many_slots; line = line })
@@ -19,11 +19,11 @@ error_code (TooManySlots line) = Some too_many_slots
 error_code (TooManyEntries line) = Some too_many_entries
 error_code Memory = None
 
--- what was answered is this, but for want of memory
+-- the schedule's definition gives this fault; without a fault (lack of memory) nothing is promised
 abbrev pub IsFaultOr : Option ScheduleFault → Result Schedule ScheduleFault → Type 0
 IsFaultOr (Some fault) said = said ≡ Err fault
 IsFaultOr None said = ⊤
 
--- what was refused is at fault so, want of memory aside
+-- the definition gives the error's fault, except for lack of memory
 abbrev pub IsRefused : Result Schedule ScheduleFault → ScheduleError → Type 0
 IsRefused said error = IsFaultOr (fault_of error) said

@@ -6,7 +6,7 @@ pub enum Entry {
     /// A sample of the rules from the first to the last, or of all rules with 0xFFFF for both, and whether the watchpoints age
     /// afterwards.
     Sample { first: u16, last: u16, ages: bool },
-    /// Its housekeeping.
+    /// A request for the Limit Checker's housekeeping.
     #[default]
     Housekeeping,
 }

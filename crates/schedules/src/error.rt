@@ -1,4 +1,4 @@
-//! Why a text says no schedule.
+//! Why a text is no schedule.
 
 ghost use Rattle.std.specs.Prelude.{◌≡◌};
 ghost use Rattle.schedules.specs.Error.{error_code};
@@ -7,10 +7,10 @@ ghost use Rattle.schedules.specs.declared.error.ScheduleError.TheVariants.{Memor
 use std::alloc::AllocError;
 use thiserror::Error;
 
-/// Why a text says no schedule, at its first line that is at fault. Lines count from 1.
+/// Why a text is no schedule, at its first faulty line `n`, counted from 1.
 #[derive(Clone, Copy, Debug, PartialEq, Eq, Error)]
 pub enum ScheduleError {
-    /// The line says nothing that may stand there; or no line says anything, which is line 0.
+    /// The line is not one that may stand there; or the text has only blank lines and comments, and `n` is 0.
     #[error("line {n} is no line of a schedule")]
     BadLine { n: usize },
     /// The line asks for more than 64 slots.
@@ -33,7 +33,7 @@ impl From<AllocError> for ScheduleError {
 }
 
 impl ScheduleError {
-    /// The refusal's number, 131 to 133. Want of memory has none, since the text isn't at fault.
+    /// The refusal's number, 131 to 133. `Memory` has none, since the text isn't at fault.
     pub fn code(self) -> Option<u8>
         ensures { result ≡ error_code self }
     {

@@ -71,7 +71,7 @@ fn housekeeping_in(slot: &[u8], verb: &[u8]) -> Option<(usize, Entry)>
     Some((slot as usize, Entry::Housekeeping))
 }
 
-/// Whether these are all rules, or a range of rules that there may be.
+/// Whether these are all rules, or a range of numbers of a table's entries.
 fn is_range(first: u64, last: u64) -> bool
     ensures { result ≡ is_range first last }
 {

@@ -33,7 +33,7 @@ fn with_entry(mut schedule: Schedule, words: &[&[u8]], n: usize) -> Result<Sched
         (λ after. entry_added schedule (entry_in (texts_of words.now)) n ≡ Ok after) }
     ensures refused { IfErr result
         (IsRefused (entry_added schedule (entry_in (texts_of words.now)) n)) }
-    // It takes no memory, so that it isn't refused for want of it.
+    // It allocates nothing, so it can't fail for lack of memory.
     ensures judged { IfErr result (λ error. error ≢ Memory) }
 {
     let (slot, entry) = line::entry_in(words).ok_or(ScheduleError::BadLine { n })?;
@@ -47,7 +47,7 @@ fn with_entry(mut schedule: Schedule, words: &[&[u8]], n: usize) -> Result<Sched
     Ok(schedule)
 }
 
-/// What is known of the schedule behind this line.
+/// The schedule so far, after this line.
 fn read_line(
     alloc: Global,
     known: Option<Schedule>,
@@ -70,14 +70,13 @@ fn read_line(
     Ok(Some(schedule))
 }
 
-/// The schedule that a text says. Lines end at a line feed or at the end of the text, and words are parted by spaces, tabs and
-/// carriage returns; a line without words, or whose first word begins with `#`, says nothing. The first other line is
+/// The schedule that a text says. Lines end at a line feed or at the end of the text, and words are separated by spaces, tabs
+/// and carriage returns; a line without words, or whose first word begins with `#`, is ignored. The first other line is
 /// `slots N`, and each further one `S sample START END age`, `S sample START END keep` or `S housekeeping`, with S below N,
 /// START and END as in a sample request, and numbers of one to five decimal digits.
 ///
-/// Errors, of which the least line's is answered: `BadLine` for anything else, with line 0 where no line says anything;
-/// `TooManySlots` where N is over 64; `TooManyEntries` for the ninth entry of a slot; `Memory` only where the slots find no
-/// room.
+/// Errors, at the first faulty line: `BadLine` for any other line, or with line 0 where all lines are ignored; `TooManySlots`
+/// where N is over 64; `TooManyEntries` for the ninth entry of a slot. `Memory` comes only where there is none for the slots.
 pub fn parse_schedule(alloc: Global, text: &[u8]) -> Result<Schedule, ScheduleError>
     ensures said { IfOk result (λ schedule. schedule_in text.now ≡ Ok schedule) }
     ensures refused { IfErr result (IsRefused (schedule_in text.now)) }

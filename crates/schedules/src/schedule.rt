@@ -90,7 +90,7 @@ impl Model for Schedule {
 }
 
 impl Schedule {
-    /// So many slots without entries.
+    /// A schedule of this many slots without entries.
     pub(crate) fn new(alloc: Global, slots: usize) -> Result<Schedule, AllocError>
         requires { (1 ≤ slots) × (slots ≤ most_slots) }
         ensures { IfOk result (λ schedule. schedule ≡ replicate slots []) }
@@ -138,7 +138,7 @@ impl Schedule {
         self.slots[slot].is_full()
     }
 
-    /// One entry more, behind those of its slot.
+    /// Adds an entry after those of its slot.
     pub(crate) fn push(&mut self, slot: usize, entry: Entry)
         requires slot { slot < length self.old }
         requires room { length (entries_at self.old slot) < most_entries }

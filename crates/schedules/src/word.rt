@@ -10,7 +10,7 @@ use text_lines::first_word;
 /// One more word than any line of a schedule has.
 const ENOUGH: usize = 6;
 
-/// The words of a line that isn't silent, as many as tell what it says: of more than six the first six.
+/// The words of a line that isn't silent. Of more than six, the first six: no line of a schedule has that many.
 pub(crate) fn words(line: &[u8]) -> ArrayVec<&[u8], ENOUGH>
     ensures { SaySame (texts_of result.items) (words_of line.now) }
 {

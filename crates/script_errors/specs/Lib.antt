@@ -1,3 +1,3 @@
--- What the contracts of messages on lines cite.
+-- Named by the contracts of messages about lines.
 pub mod Line
 pub mod Telling

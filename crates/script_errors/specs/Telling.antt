@@ -1,4 +1,4 @@
--- What a message says of a line that is refused: its number, and a place on the line. This project's own.
+-- Messages about a refused line: the number of the message, and its place on the line. This project's own.
 use Rattle.std.specs.Prelude.{◌≡◌, ℕ, ◌≤◌, List, length, ⊤, IsSomeAnd, Result, Ok, Err}
 use Rattle.lc_model.specs.Host.Schedule.{Schedule}
 use Rattle.lc_model.specs.Host.ScheduleText.{ScheduleFault}
@@ -10,32 +10,32 @@ use Rattle.diagnostics.specs.declared.message.Message.{Message}
 use Rattle.script_errors.specs.declared.refusal.Refusal.{Refusal}
 use Rattle.script_errors.specs.declared.refusal.Refusal.TheVariants.{Told, Memory}
 
--- a place on the line with this number; no line has the number 0, and what is told of it stands at the text's end
+-- a place on the line with this number; no line has the number 0, which stands for the text's end
 pub record IsOnLine (text : List ℕ) (line at : ℕ) : Type 0 where
   pub within : at ≤ length text
   pub on : 1 ≤ line → line_number text at ≡ line
   pub end : line ≡ 0 → at ≡ length text
 
--- the message has this number, and stands on this line
+-- the message has this number, and its place is on this line
 pub record IsOn (text : List ℕ) (code line : ℕ) (message : Message) : Type 0 where
   pub told : message.code ≡ code
   pub place : IsSomeAnd (first_place message) (IsOnLine text line)
 
 -- ---- schedules
 
--- the message tells of the reader's fault: its number, on its line
+-- the message reports the reader's fault: the fault's number, on its line
 abbrev pub TellsFault : List ℕ → Result Schedule ScheduleFault → Message → Type 0
 TellsFault text (Ok schedule) message = ⊥
 TellsFault text (Err fault) message = IsOn text fault.code fault.line message
 
--- where there is no schedule, the reader's fault is told, want of memory aside
+-- if a schedule is refused, the message reports the reader's fault, unless memory ran out
 abbrev pub IsScheduleRefusal : List ℕ → Result Schedule ScheduleFault → Refusal → Type 0
 IsScheduleRefusal text said (Told message) = TellsFault text said message
 IsScheduleRefusal text said Memory = ⊤
 
 -- ---- scripts
 
--- the number of each reason to refuse a line of a script
+-- the number of the message for each reason to refuse a line of a script
 abbrev pub reason_code : Reason → ℕ
 reason_code UnknownStatement = 161
 reason_code BadNumber = 162

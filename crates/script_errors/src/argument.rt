@@ -1,4 +1,4 @@
-//! What is said of a word of a statement that isn't what it has to be.
+//! Messages about a word of a statement that doesn't have its required shape.
 
 use crate::said::{LineMessage, advise, expect_word, expected_word, said_of};
 use crate::statement::{Wanted, WordShape};
@@ -8,24 +8,24 @@ use std::alloc::{AllocError, Global};
 use std::str;
 use stream_script::decimal_number;
 
-/// The digits of a message id.
+/// The number of digits of a message id.
 const ID_DIGITS: usize = 4;
 
 /// The most hexadecimal digits of a number of a scenario.
 const NUMBER_DIGITS: usize = 8;
 
-/// The most that a value of a scenario is without its sign.
+/// The greatest value of a scenario, without its sign.
 const MOST_VALUE: u64 = 4_294_967_295;
 
-/// How bytes are written.
+/// The advice for bytes.
 const BYTES_ADVICE: &str = "bytes have two digits each, of 0 to 9 and A to F";
 
-/// Whether a word is a number between these.
+/// Whether a word is a decimal number from `least` to `most`.
 fn is_number(word: &[u8], least: u64, most: u64) -> bool {
     decimal_number(word).is_some_and(|number| (least..=most).contains(&number))
 }
 
-/// The number that a word of a scenario writes: decimal digits, or up to eight hexadecimal ones behind `0x`.
+/// The number that a word of a scenario writes: decimal digits, or one to eight hexadecimal ones after `0x`.
 fn any_number(word: &[u8]) -> Option<u64> {
     match word {
         [b'0', b'x', digits @ ..] => {
@@ -38,7 +38,7 @@ fn any_number(word: &[u8]) -> Option<u64> {
     }
 }
 
-/// The value that a word of a scenario writes, which may have `-` in front.
+/// The value that a word of a scenario writes: a number, with or without `-` in front, whose size is below 2^32.
 pub fn value_in(word: &[u8]) -> Option<i64> {
     let (is_negative, digits) = match word {
         [b'-', digits @ ..] => (true, digits),
@@ -53,24 +53,24 @@ pub fn value_in(word: &[u8]) -> Option<i64> {
     })
 }
 
-/// How many hexadecimal digits stand in front.
+/// The number of hexadecimal digits at the word's beginning.
 fn hex_digits(word: &[u8]) -> usize {
     word.iter()
         .take_while(|byte| byte.is_ascii_hexdigit())
         .count()
 }
 
-/// Whether a word has hexadecimal digits alone, so many.
+/// Whether a word is four hexadecimal digits.
 fn is_message_id(word: &[u8]) -> bool {
     word.len() == ID_DIGITS && hex_digits(word) == ID_DIGITS
 }
 
-/// Whether a word writes bytes.
+/// Whether a word writes bytes: `-` for none, or two hexadecimal digits each.
 fn are_bytes(word: &[u8]) -> bool {
     matches!(word, b"-") || hex_digits(word) == word.len() && word.len() % 2 == 0
 }
 
-/// Whether a word is what it has to be.
+/// Whether a word has its required shape. The line's end never has.
 pub fn is_right(wanted: Wanted, word: Word<'_>) -> bool {
     let text = word.text;
     if word.is_end() {
@@ -89,7 +89,7 @@ pub fn is_right(wanted: Wanted, word: Word<'_>) -> bool {
     }
 }
 
-/// What is said of a word that is no number between these.
+/// The message about a word that is not a number in its range.
 fn number_said(
     alloc: Global,
     wanted: Wanted,
@@ -109,7 +109,7 @@ fn number_said(
     advise(alloc, word, head, wanted.advice)
 }
 
-/// What is behind `0x`.
+/// What follows `0x` or `0X`.
 fn behind_prefix(word: &[u8]) -> Option<&[u8]> {
     match word {
         [b'0', b'x' | b'X', digits @ ..] => Some(digits),
@@ -117,12 +117,12 @@ fn behind_prefix(word: &[u8]) -> Option<&[u8]> {
     }
 }
 
-/// The message id that was meant, where it is known: what is written without `0x`.
+/// The message id that was probably meant: four digits after `0x`.
 fn meant_id(word: &[u8]) -> Option<&[u8]> {
     behind_prefix(word).filter(|digits| is_message_id(*digits))
 }
 
-/// What is said of digits of which there aren't four.
+/// The message about a message id that doesn't have four digits.
 fn digits_said(alloc: Global, word: Word<'_>) -> Result<LineMessage, AllocError> {
     let shown = word.quote(alloc)?;
     let count = word.text.len();
@@ -137,7 +137,7 @@ fn digits_said(alloc: Global, word: Word<'_>) -> Result<LineMessage, AllocError>
     Ok(said_of(word, head, label))
 }
 
-/// What is said of a word that is no message id.
+/// The message about a word that is not a message id.
 fn id_said(alloc: Global, wanted: Wanted, word: Word<'_>) -> Result<LineMessage, AllocError> {
     if hex_digits(word.text) == word.text.len() {
         return digits_said(alloc, word);
@@ -150,7 +150,7 @@ fn id_said(alloc: Global, wanted: Wanted, word: Word<'_>) -> Result<LineMessage,
     expect_word(alloc, word, wanted.what, label.as_str())
 }
 
-/// What is said of the character behind so many digits, which is none.
+/// The message about the character after this number of digits, which is not a digit.
 fn character_said(alloc: Global, word: Word<'_>, digits: usize) -> Result<LineMessage, AllocError> {
     let rest = word.text.split_at(digits.min(word.text.len())).1;
     let size = if rest.is_empty() {
@@ -167,7 +167,7 @@ fn character_said(alloc: Global, word: Word<'_>, digits: usize) -> Result<LineMe
     advise(alloc, character, head, BYTES_ADVICE)
 }
 
-/// What is said of a word that writes no bytes.
+/// The message about a word that doesn't write bytes.
 fn bytes_said(alloc: Global, wanted: Wanted, word: Word<'_>) -> Result<LineMessage, AllocError> {
     if behind_prefix(word.text).is_some() {
         return expect_word(alloc, word, wanted.what, "leave out `0x`");
@@ -181,7 +181,7 @@ fn bytes_said(alloc: Global, wanted: Wanted, word: Word<'_>) -> Result<LineMessa
     advise(alloc, word, head, wanted.advice)
 }
 
-/// What is said of a name that is too long.
+/// The message about a name that is too long.
 fn name_said(alloc: Global, word: Word<'_>, most: usize) -> Result<LineMessage, AllocError> {
     let count = word.text.len();
     let over = count.saturating_sub(most);
@@ -190,7 +190,7 @@ fn name_said(alloc: Global, word: Word<'_>, most: usize) -> Result<LineMessage, 
     Ok(said_of(word, head, label))
 }
 
-/// What is said of a word that isn't what it has to be.
+/// The message about a word that doesn't have its required shape. Error: out of memory.
 pub fn word_said(alloc: Global, wanted: Wanted, word: Word<'_>) -> Result<LineMessage, AllocError> {
     if word.is_end() {
         return expect_word(alloc, word, wanted.what, wanted.advice);

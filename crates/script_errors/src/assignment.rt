@@ -1,4 +1,4 @@
-//! What is said of the words `FIELD=VALUE` of a scenario, and of the values of a ramp.
+//! Messages about the words `FIELD=VALUE` of a scenario, and about the values of a ramp.
 
 use crate::argument::value_in;
 use crate::names::{DeclaredNames, FieldName};
@@ -7,10 +7,10 @@ use crate::word::{Word, nth_word};
 use diagnostics::{Signed, nearest, quote};
 use std::alloc::{AllocError, Global};
 
-/// The most names that advice lists.
+/// The most names that a message suggests.
 const MOST_LISTED: usize = 4;
 
-/// The word in front of `=`, and the one behind it.
+/// The words before and after the first `=`; none if there is no `=`.
 fn assignment_in(word: Word<'_>) -> Option<(Word<'_>, Word<'_>)> {
     let place = word.text.iter().position(|byte| *byte == b'=')?;
     let (name, rest) = word.text.split_at_checked(place)?;
@@ -27,7 +27,7 @@ fn assignment_in(word: Word<'_>) -> Option<(Word<'_>, Word<'_>)> {
     ))
 }
 
-/// What to write in the place of a word, among these names: the one that is near, or else the first few.
+/// A suggestion for a word, among these names: a similar name, or else the first four.
 fn meant_among(alloc: Global, word: Word<'_>, names: &[&[u8]]) -> Result<String, AllocError> {
     if let Some(meant) = nearest(alloc, word.text, names)? {
         let meant = quote(alloc, meant)?;
@@ -48,7 +48,7 @@ fn meant_among(alloc: Global, word: Word<'_>, names: &[&[u8]]) -> Result<String,
     Ok(label)
 }
 
-/// The first word behind the verb that gives no field a value.
+/// The first word after the verb that has no `=`.
 fn first_unassigned(line: &[u8]) -> Option<Word<'_>> {
     for number in 1..line.len() {
         let word = nth_word(line, number);
@@ -62,7 +62,7 @@ fn first_unassigned(line: &[u8]) -> Option<Word<'_>> {
     None
 }
 
-/// What is said of a line with a word that gives no field a value.
+/// The message about the first word after the verb that has no `=`, if there is one.
 pub fn unassigned_said(
     alloc: Global,
     line: &[u8],
@@ -86,7 +86,7 @@ pub fn unassigned_said(
     Ok(Some(said))
 }
 
-/// The name of the first field of another packet that the line gives a value.
+/// The first field name of the line that belongs to another packet.
 fn first_foreign<'a>(line: &'a [u8], packet: &[u8], names: &DeclaredNames<'_>) -> Option<Word<'a>> {
     for number in 1..line.len() {
         let word = nth_word(line, number);
@@ -105,7 +105,7 @@ fn first_foreign<'a>(line: &'a [u8], packet: &[u8], names: &DeclaredNames<'_>) -
     None
 }
 
-/// The name of the first field that the line gives a value and that no rule text declares.
+/// The first field name of the line that no rule text declares.
 fn first_unknown<'a>(line: &'a [u8], names: &DeclaredNames<'_>) -> Option<Word<'a>> {
     for number in 1..line.len() {
         let word = nth_word(line, number);
@@ -121,7 +121,7 @@ fn first_unknown<'a>(line: &'a [u8], names: &DeclaredNames<'_>) -> Option<Word<'
     None
 }
 
-/// What is said of a line that gives a field of another packet a value.
+/// The message about a field of another packet, if the line has one.
 pub fn other_said(
     alloc: Global,
     line: &[u8],
@@ -146,7 +146,7 @@ fn is_ramp(verb: Word<'_>) -> bool {
     matches!(verb.text, b"ramp")
 }
 
-/// What is said of a line with a field's name that no rule text declares.
+/// The message about a field name that no rule text declares, if the line has one. Of a ramp it is always its field's name.
 pub fn unknown_said(
     alloc: Global,
     line: &[u8],
@@ -168,7 +168,7 @@ pub fn unknown_said(
     Ok(Some(said_of(name, head, label)))
 }
 
-/// What is said of a value that isn't one of this field's type.
+/// The message about a value outside this field's type.
 fn outside_said(
     alloc: Global,
     field: FieldName<'_>,
@@ -182,7 +182,7 @@ fn outside_said(
     Ok(said_of(value, head, label))
 }
 
-/// What is said of a word that is no value, or not one of this field's type, if it is so.
+/// The message about a word that is not a value, or a value outside this field's type or mask. None for a value that the field can have.
 fn field_value_said(
     alloc: Global,
     field: FieldName<'_>,
@@ -203,7 +203,7 @@ fn field_value_said(
     }
 }
 
-/// What is said of a value with bits outside the mask of this field.
+/// The message about a value with bits outside this field's mask.
 fn mask_said(
     alloc: Global,
     field: FieldName<'_>,
@@ -216,7 +216,7 @@ fn mask_said(
     Ok(said_of(value, head, label))
 }
 
-/// What is said of a line in which two fields give one bit two values: of the first two that stand in the same bytes.
+/// The message about the first two fields of the line that give one bit two values, if there are two.
 pub fn shared_said(
     alloc: Global,
     line: &[u8],
@@ -227,7 +227,7 @@ pub fn shared_said(
         if word.is_end() {
             return Ok(None);
         }
-        if let Some(earlier) = sharing_before(line, number, names) {
+        if let Some(earlier) = contradicted_before(line, number, names) {
             let (shown, other) = (word.quote(alloc)?, earlier.quote(alloc)?);
             let head = format!(in alloc; "{shown} and {other} give one bit two values")?;
             let label = String::from_str(alloc, "these fields share bits")?;
@@ -239,24 +239,30 @@ pub fn shared_said(
     Ok(None)
 }
 
-/// The earlier word whose field shares bytes with the field of the word with this number.
-fn sharing_before<'a>(
+/// The field and the value of a word `FIELD=VALUE`; none if the field is not declared or the value is not a number.
+fn given_in<'a>(word: Word<'_>, names: &DeclaredNames<'a>) -> Option<(FieldName<'a>, i64)> {
+    let (name, value) = assignment_in(word)?;
+    Some((names.field(name.text)?, value_in(value.text)?))
+}
+
+/// The first earlier word that gives a bit another value than the word with this number does, if all words before it are valid.
+fn contradicted_before<'a>(
     line: &'a [u8],
     number: usize,
     names: &DeclaredNames<'_>,
 ) -> Option<Word<'a>> {
-    let field = names.field(assignment_in(nth_word(line, number))?.0.text)?;
+    let (field, value) = given_in(nth_word(line, number), names)?;
     for earlier in 1..number {
         let word = nth_word(line, earlier);
-        let other = names.field(assignment_in(word)?.0.text)?;
-        if field.shares_bytes(other) && field.name != other.name {
+        let (other, given) = given_in(word, names)?;
+        if field.contradicts(value, other, given) {
             return Some(word);
         }
     }
     None
 }
 
-/// What is said of the values of a ramp: of the first that isn't one of its field's type.
+/// The message about the first value of a ramp that is outside its field's type or mask, if there is one.
 fn ramp_values_said(
     alloc: Global,
     line: &[u8],
@@ -277,7 +283,8 @@ fn ramp_values_said(
     Ok(None)
 }
 
-/// What is said of the first value of a line that isn't one of its field.
+/// The message about the first value of the line that its field can't have: not a number, or outside its type or mask. None if there is no
+/// such value.
 pub fn value_said(
     alloc: Global,
     line: &[u8],

@@ -1,11 +1,11 @@
-//! What is said of a line whose words are right, one by one, and whose record can't be.
+//! Messages about a line whose words are valid one by one, but not together.
 
 use crate::said::{LineMessage, advise, said_of};
 use crate::word::{Word, nth_word};
 use diagnostics::Grouped;
 use std::alloc::{AllocError, Global};
 
-/// How many bytes a word writes.
+/// The number of bytes that a word writes.
 fn byte_count(word: Word<'_>) -> usize {
     match word.text {
         b"-" => 0,
@@ -13,7 +13,7 @@ fn byte_count(word: Word<'_>) -> usize {
     }
 }
 
-/// What is said of a packet or a record that has these bytes behind so many others, where it may have at most so many in all.
+/// The message about a packet or record, as `what` says, of these bytes after `before` others: it has more than `most` bytes in all.
 fn too_long(
     alloc: Global,
     what: &str,
@@ -29,7 +29,7 @@ fn too_long(
     Ok(said_of(bytes, head, label))
 }
 
-/// What is said of a record whose kind can't have its bytes.
+/// The message about a record whose kind can't have its bytes.
 fn record_said(alloc: Global, kind: Word<'_>, bytes: Word<'_>) -> Result<LineMessage, AllocError> {
     let (head, advice) = match kind.text {
         b"tick" => ("a tick has no bytes", "write `-`"),
@@ -46,7 +46,7 @@ fn record_said(alloc: Global, kind: Word<'_>, bytes: Word<'_>) -> Result<LineMes
     advise(alloc, bytes, String::from_str(alloc, head)?, advice)
 }
 
-/// What is said of a line whose words are right one by one: together they are no record.
+/// The message about a line whose words are valid one by one, but make no record. Error: out of memory.
 pub fn body_said(alloc: Global, line: &[u8]) -> Result<LineMessage, AllocError> {
     let verb = nth_word(line, 0);
     match verb.text {

@@ -1,4 +1,4 @@
-//! What is said of a line that should be an entry of a slot.
+//! Messages about a line of a schedule that should be an entry of a slot.
 
 use crate::said::{LineMessage, advise, expect_word, expected_word, too_many};
 use crate::word::{Word, are_digits, nth_word};
@@ -8,27 +8,27 @@ use text_lines::decimal_number;
 
 const VERBS: &[&[u8]] = &[b"sample", b"housekeeping"];
 
-/// The last words of a sample.
+/// The possible last words of a sample.
 pub const AGES: &[&[u8]] = &[b"age", b"keep"];
 
-/// What the last word of a sample says.
+/// The advice for the last word of a sample.
 pub const AGES_ADVICE: &str = "write `age` where watchpoints age after the sample, else `keep`";
 
-/// Which rules may be sampled.
+/// The advice for the range of rules of a sample.
 pub const RULES_ADVICE: &str = "write 0 to 175, or 65535 twice for all rules";
 
-/// The last rule that there may be.
+/// The greatest number of a rule.
 const LAST_RULE: u64 = 175;
 
-/// What stands for all rules.
+/// The number that stands for all rules.
 const ALL_RULES: u64 = 65_535;
 
-/// The number of a word, or one that is none of a schedule's.
+/// The number that a word writes; 2^64 - 1, which no schedule may have, if it writes none.
 fn number(word: Word<'_>) -> u64 {
     decimal_number(MOST_DIGITS, word.text).unwrap_or(u64::MAX)
 }
 
-/// What is said of a slot that isn't there, where there are so many.
+/// The message about a slot outside a schedule with this number of slots.
 fn slot_said(alloc: Global, line: &[u8], slots: u64) -> Result<LineMessage, AllocError> {
     let slot = nth_word(line, 0);
     let last = slots.saturating_sub(1);
@@ -41,12 +41,12 @@ fn slot_said(alloc: Global, line: &[u8], slots: u64) -> Result<LineMessage, Allo
     advise(alloc, slot, head, advice.as_str())
 }
 
-/// Whether the number is one of a rule, or stands for all.
+/// Whether the number is a rule's, or stands for all rules.
 fn is_rule(number: u64) -> bool {
     number <= LAST_RULE || number == ALL_RULES
 }
 
-/// What is said of rules that aren't a range.
+/// The message about two numbers that are not a range of rules.
 fn range_said(alloc: Global, line: &[u8]) -> Result<LineMessage, AllocError> {
     let (first, last) = (nth_word(line, 2), nth_word(line, 3));
     if !is_rule(number(first)) {
@@ -64,12 +64,12 @@ fn range_said(alloc: Global, line: &[u8]) -> Result<LineMessage, AllocError> {
     advise(alloc, first, head, RULES_ADVICE)
 }
 
-/// Whether the word says what watchpoints do after a sample.
+/// Whether the word is `age` or `keep`.
 fn is_age(word: Word<'_>) -> bool {
     matches!(word.text, b"age" | b"keep")
 }
 
-/// What is said of a sample.
+/// The message about an invalid sample.
 fn sample_said(alloc: Global, line: &[u8]) -> Result<LineMessage, AllocError> {
     let (first, last) = (nth_word(line, 2), nth_word(line, 3));
     if !are_digits(first.text) {
@@ -89,7 +89,7 @@ fn sample_said(alloc: Global, line: &[u8]) -> Result<LineMessage, AllocError> {
     range_said(alloc, line)
 }
 
-/// What is said of a line that should be an entry of one of so many slots.
+/// The message about an invalid entry of a schedule with this number of slots. Error: out of memory.
 pub fn entry_said(alloc: Global, line: &[u8], slots: u64) -> Result<LineMessage, AllocError> {
     if number(nth_word(line, 0)) >= slots {
         return slot_said(alloc, line, slots);
@@ -108,7 +108,7 @@ pub fn entry_said(alloc: Global, line: &[u8], slots: u64) -> Result<LineMessage,
     }
 }
 
-/// What is said of the ninth entry of a slot.
+/// The message about the ninth entry of a slot. Error: out of memory.
 pub fn full_said(alloc: Global, line: &[u8]) -> Result<LineMessage, AllocError> {
     let slot = nth_word(line, 0);
     let shown = slot.quote(alloc)?;

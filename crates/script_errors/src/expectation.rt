@@ -1,4 +1,4 @@
-//! What is said of an expectation that can't be read.
+//! Messages about an invalid expectation.
 
 ghost use Rattle.std.specs.Prelude.{◌≡◌, ◌≤◌, IfOk};
 ghost use Rattle.script_errors.specs.Line.{line_count};
@@ -13,19 +13,19 @@ use crate::word::{Word, before_comment, nth_word};
 use diagnostics::Message;
 use std::alloc::{AllocError, Global};
 
-/// The number of a line that says no expectation.
+/// The number of the message about an invalid expectation.
 pub const NO_EXPECTATION: u8 = 170;
 
-/// What may be expected.
+/// The words for what may be expected.
 const EXPECTED: &[&[u8]] = &[b"sequence", b"event", b"state", b"result", b"no"];
 
-/// What may be expected not to come.
+/// The words for what may be expected not to come.
 const ABSENT: &[&[u8]] = &[b"sequence", b"event"];
 
-/// The words that tell seconds.
+/// The words in front of seconds.
 const SPANS: &[&[u8]] = &[b"from", b"at", b"by", b"until"];
 
-/// How the seconds of an expectation are told.
+/// The advice for the seconds of an expectation.
 const SPAN_ADVICE: &str =
     "seconds are told by `from`, `at`, `by` or `until`, or by `from` and one of the last two";
 
@@ -55,17 +55,20 @@ const TWO_SPANS: &[Wanted] = &[SPAN, SECOND, SPAN, SECOND];
 
 const ONE_NUMBER: &[Wanted] = &[NUMBER];
 
-/// Whether a word begins as a number does.
+/// Whether a word begins with a digit.
 fn is_numeral(word: Word<'_>) -> bool {
     word.text.first().is_some_and(|byte| byte.is_ascii_digit())
 }
 
-/// Whether a word tells one second alone.
-fn is_at(word: Word<'_>) -> bool {
-    matches!(word.text, b"at")
+/// Whether two words give seconds together: `from` with `by` or `until`, in either order.
+fn go_together(word: Word<'_>, other: Word<'_>) -> bool {
+    matches!(
+        (word.text, other.text),
+        (b"from", b"by" | b"until") | (b"by" | b"until", b"from")
+    )
 }
 
-/// What is said of seconds that are told right word by word, from the word with this number on.
+/// The message about seconds whose words, from the one with this number on, are valid one by one, but not together.
 fn together_said(alloc: Global, line: &[u8], first: usize) -> Result<LineMessage, AllocError> {
     let (second, other) = (
         nth_word(line, first.saturating_add(1)),
@@ -76,7 +79,7 @@ fn together_said(alloc: Global, line: &[u8], first: usize) -> Result<LineMessage
         return advise(alloc, second, head, "write 1 at least");
     }
     let word = nth_word(line, first);
-    if word.text == other.text || is_at(word) || is_at(other) {
+    if !go_together(word, other) {
         let shown = other.quote(alloc)?;
         let head = format!(in alloc; "{shown} doesn't go with what stands before it")?;
         return advise(alloc, other, head, SPAN_ADVICE);
@@ -89,7 +92,7 @@ fn together_said(alloc: Global, line: &[u8], first: usize) -> Result<LineMessage
     advise(alloc, last, head, "`from` has the lesser second")
 }
 
-/// What is said of the words that tell seconds, from the word with this number on.
+/// The message about invalid seconds, from the word with this number on.
 fn span_said(alloc: Global, line: &[u8], first: usize) -> Result<LineMessage, AllocError> {
     if !nth_word(line, first).is_end() {
         if let Some(said) = wrong_said(alloc, line, first, SPAN_WORD)? {
@@ -104,9 +107,19 @@ fn span_said(alloc: Global, line: &[u8], first: usize) -> Result<LineMessage, Al
     }
 }
 
-/// What is said of something that comes, or doesn't, whose kind is the word with this number.
+/// Whether the word with this number begins an event of the host: `event HOST`.
+fn is_of_host(line: &[u8], kind: usize) -> bool {
+    let sender = nth_word(line, kind.saturating_add(1));
+    matches!(
+        (nth_word(line, kind).text, sender.text),
+        (b"event", b"HOST")
+    )
+}
+
+/// The message about an invalid expectation of a sequence or an event; `kind` is the number of the word for which of the two.
 fn coming_said(alloc: Global, line: &[u8], kind: usize) -> Result<LineMessage, AllocError> {
-    let next = kind.saturating_add(1);
+    let kind_words = if is_of_host(line, kind) { 2 } else { 1 };
+    let next = kind.saturating_add(kind_words);
     if !is_numeral(nth_word(line, next)) {
         return span_said(alloc, line, next);
     }
@@ -116,7 +129,7 @@ fn coming_said(alloc: Global, line: &[u8], kind: usize) -> Result<LineMessage, A
     }
 }
 
-/// What is said of a rule's state or result, of which these words are wanted.
+/// The message about an invalid expectation of a rule's state or result, which needs these words.
 fn standing_said(alloc: Global, line: &[u8], wanted: &[Wanted]) -> Result<LineMessage, AllocError> {
     match wanted_said(alloc, line, 2, wanted)? {
         Some(said) => Ok(said),
@@ -127,7 +140,7 @@ fn standing_said(alloc: Global, line: &[u8], wanted: &[Wanted]) -> Result<LineMe
     }
 }
 
-/// What is said of a line that says no expectation.
+/// The message about a line with an invalid expectation.
 fn line_said(alloc: Global, line: &[u8]) -> Result<LineMessage, AllocError> {
     let what = nth_word(line, 1);
     match what.text {
@@ -150,7 +163,7 @@ fn line_said(alloc: Global, line: &[u8]) -> Result<LineMessage, AllocError> {
     }
 }
 
-/// What is said of the line with this number.
+/// The message about the line with this number.
 fn message(alloc: Global, text: &[u8], number: usize) -> Result<Message, AllocError>
     requires some { 1 ≤ number }
     requires there { number ≤ line_count text.now }
@@ -161,10 +174,10 @@ fn message(alloc: Global, text: &[u8], number: usize) -> Result<Message, AllocEr
     message_on(alloc, line, NO_EXPECTATION, said)
 }
 
-/// What is said of the line with this number, from 1, of a scenario, which says no expectation: which word is wrong or what is missing,
-/// and what would be right. Of a number that no line has the nearest line is told. Its number is 170.
+/// The message, with number 170, about the line with this number, from 1, of a scenario, which has an invalid expectation: which word is
+/// wrong or missing, and what would be right. If no line has the number, the message is about the nearest line.
 ///
-/// Errors: there is no memory for what is said.
+/// Error: out of memory.
 pub fn expectation_message(alloc: Global, text: &[u8], number: usize) -> Result<Message, AllocError>
     ensures { 1 ≤ number → number ≤ line_count text.now → IfOk result (IsOn text.now 170 number) }
 {

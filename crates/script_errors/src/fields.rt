@@ -1,4 +1,4 @@
-//! What is said of the fields of a packet.
+//! Messages about the fields of a packet, as the statement `fields` gives them.
 
 use crate::argument::{is_right, word_said};
 use crate::said::{LineMessage, advise, expect_word, mark_word};
@@ -9,13 +9,13 @@ use lc_model::FieldType;
 use std::alloc::{AllocError, Global};
 use stream_script::decimal_number;
 
-/// The bytes of telemetry's headers.
+/// The length of telemetry's headers, in bytes.
 const HEADERS: u64 = 12;
 
 /// The number of the word with the packet's length.
 const LENGTH: usize = 3;
 
-/// What to write where a number of a type is wanted.
+/// The advice for a number of a type.
 fn range_advice(alloc: Global, kind: FieldType) -> Result<String, AllocError> {
     let (least, greatest) = (Signed(kind.least()), Signed(kind.greatest()));
     format!(in alloc; "write {least} to {greatest}")
@@ -29,7 +29,7 @@ fn without_sign(word: &[u8]) -> &[u8] {
     }
 }
 
-/// The number that a word writes, with `-` in front of a negative one.
+/// The decimal number that a word writes, with or without `-` in front.
 fn value_in(word: &[u8]) -> Option<i64> {
     let number = decimal_number(without_sign(word))?;
     let value = i64::try_from(number).ok()?;
@@ -45,7 +45,7 @@ fn is_value(kind: FieldType, word: &[u8]) -> bool {
     value_in(word).is_some_and(|value| kind.has(value))
 }
 
-/// What is said of a word that writes none.
+/// The message about a word that doesn't write a number of this type.
 fn value_said(alloc: Global, kind: FieldType, value: Word<'_>) -> Result<LineMessage, AllocError> {
     let advice = range_advice(alloc, kind)?;
     let advice = advice.as_str();
@@ -57,17 +57,17 @@ fn value_said(alloc: Global, kind: FieldType, value: Word<'_>) -> Result<LineMes
     advise(alloc, value, head, advice)
 }
 
-/// Whether a field of so many bytes at a place lies between the headers of a packet of this size and its end.
+/// Whether a field of `width` bytes at a place is between the headers of a packet of `size` bytes and its end.
 fn is_inside(width: u64, place: u64, size: u64) -> bool {
     place >= HEADERS && place.saturating_add(width) <= size
 }
 
-/// The size of the packet, as the line says it.
+/// The size of the packet in bytes, by the line; 0 if it gives none.
 fn size_of(line: &[u8]) -> u64 {
     decimal_number(nth_word(line, LENGTH).text).unwrap_or(0)
 }
 
-/// So many bytes, in words.
+/// A number of bytes as a message shows it.
 fn bytes_of(alloc: Global, width: u64) -> Result<String, AllocError> {
     if width == 1 {
         String::from_str(alloc, "1 byte")
@@ -76,7 +76,7 @@ fn bytes_of(alloc: Global, width: u64) -> Result<String, AllocError> {
     }
 }
 
-/// What to do about a field of so many bytes that isn't inside a packet of this size.
+/// The advice for a field of `width` bytes that isn't inside a packet of `size` bytes.
 fn inside_advice(alloc: Global, width: u64, size: u64) -> Result<String, AllocError> {
     let bytes = bytes_of(alloc, width)?;
     let last = size.saturating_sub(width);
@@ -89,7 +89,7 @@ fn inside_advice(alloc: Global, width: u64, size: u64) -> Result<String, AllocEr
     }
 }
 
-/// What is said of a field that isn't inside its packet.
+/// The message about a field that isn't inside its packet.
 fn outside_said(
     alloc: Global,
     line: &[u8],
@@ -113,7 +113,7 @@ fn outside_said(
     })
 }
 
-/// What is said of a field of this type, if it isn't inside its packet or its value isn't one of the type.
+/// The message about a field of this type that isn't inside its packet, or whose value is outside the type. None if neither is so.
 fn placed_said(
     alloc: Global,
     line: &[u8],
@@ -131,7 +131,7 @@ fn placed_said(
     Ok(None)
 }
 
-/// What is said of a field with these three words, if something is wrong with it.
+/// The message about a field with these three words, if it is invalid.
 fn field_said(
     alloc: Global,
     line: &[u8],
@@ -148,7 +148,7 @@ fn field_said(
     placed_said(alloc, line, named, offset, value)
 }
 
-/// What is said of the first field of the line that something is wrong with.
+/// The message about the first invalid field of the line, if there is one. Error: out of memory.
 pub fn fields_said(alloc: Global, line: &[u8]) -> Result<Option<LineMessage>, AllocError> {
     let mut from = nth_word(line, LENGTH).end();
     for _ in 0..line.len() {

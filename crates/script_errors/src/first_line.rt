@@ -1,4 +1,4 @@
-//! What is said of a line that should be `slots N`.
+//! Messages about a line that should be `slots N`.
 
 use crate::said::{LineMessage, advise, expect_word, expected_word, too_many};
 use crate::word::{are_digits, nth_word};
@@ -6,18 +6,18 @@ use schedules::MOST_DIGITS;
 use std::alloc::{AllocError, Global};
 use text_lines::decimal_number;
 
-/// The first word.
+/// The first word of a schedule.
 const SLOTS: &[&[u8]] = &[b"slots"];
 
-/// How many slots there may be.
+/// The advice for the number of slots.
 const RANGE: &str = "write 1 to 64";
 
-/// The number of slots that the first line with words asks for.
+/// The number of slots in the first line with words; 0 if it has none.
 pub fn slots_in(line: &[u8]) -> u64 {
     decimal_number(MOST_DIGITS, nth_word(line, 1).text).unwrap_or(0)
 }
 
-/// What is wrong with the number of slots.
+/// The message about an invalid number of slots.
 fn number_said(alloc: Global, line: &[u8]) -> Result<LineMessage, AllocError> {
     let number = nth_word(line, 1);
     if !are_digits(number.text) {
@@ -28,7 +28,7 @@ fn number_said(alloc: Global, line: &[u8]) -> Result<LineMessage, AllocError> {
     advise(alloc, number, head, RANGE)
 }
 
-/// What is said of the first line with words.
+/// The message about the first line with words, which is invalid. Error: out of memory.
 pub fn first_said(alloc: Global, line: &[u8]) -> Result<LineMessage, AllocError> {
     let first = nth_word(line, 0);
     let is_slots = matches!(first.text, b"slots");

@@ -1,5 +1,5 @@
-//! What the author of a schedule or of a script is told of a text that is refused: the line that the reader refuses, which word of it is
-//! wrong or what it lacks, and what would be right; and of a script that says a stream what is to be looked at.
+//! Messages for the author of a refused schedule or script: the line that the reader refuses, the word that is wrong or missing, and what
+//! would be right. Also warnings about valid scripts.
 #![tactic(auto)]
 
 mod argument;

@@ -8,13 +8,13 @@ use diagnostics::line_of;
 /// A line of a text.
 #[derive(Clone, Copy)]
 pub struct Line<'a> {
-    /// Bytes of the text before it.
+    /// The number of bytes of the text before it.
     pub begin: usize,
     /// Its bytes, without the line feed.
     pub bytes: &'a [u8],
 }
 
-/// How many bytes of the text stand before the line with this number.
+/// The number of bytes of the text before the line with this number, from 1.
 fn line_begin(text: &[u8], number: usize) -> usize
     requires some { 1 ≤ number }
     requires there { number ≤ line_count text.now }
@@ -31,14 +31,14 @@ fn line_begin(text: &[u8], number: usize) -> usize
     at
 }
 
-/// How many lines the text has: one more than line feeds.
+/// The number of lines of the text: one more than line feeds.
 pub fn line_count(text: &[u8]) -> usize
     ensures { result ≡ line_count text.now }
 {
     text.iter().filter(|byte| **byte == b'\n').count() + 1
 }
 
-/// The line with this number.
+/// The line with this number, from 1.
 pub fn line_numbered(text: &[u8], number: usize) -> Line<'_>
     requires some { 1 ≤ number }
     requires there { number ≤ line_count text.now }

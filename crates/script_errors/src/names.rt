@@ -1,47 +1,85 @@
-//! What rule texts declare, by its names: lines of a script may use these.
+//! The names that rule texts declare: lines of a scenario may use them.
 
 use lc_model::FieldType;
 use rpn_compiler::RuleText;
 use rule_parser::Item;
 use std::alloc::{AllocError, Global};
 
+/// The greatest length of a field, in bytes.
+const LONGEST_FIELD: i64 = 4;
+
 /// A field that a rule text declares.
 #[derive(Clone, Copy)]
 pub struct FieldName<'a> {
+    /// The name of the field.
     pub name: &'a [u8],
     /// The name of its packet.
     pub packet: &'a [u8],
+    /// The type of the field.
     pub kind: FieldType,
-    /// The bytes of the packet before it.
+    /// The number of bytes of the packet before it.
     pub offset: i64,
-    /// The bits that count: all of its type, where the rule text names no mask.
+    /// The mask of the field; all bits of its type if the rule text gives no mask.
     pub mask: i64,
 }
 
 impl FieldName<'_> {
-    /// The bits of a value beside the mask, in two's complement.
+    /// The bits of a value outside the mask, in two's complement.
     pub(crate) fn bits_beside(self, value: i64) -> i64 {
         value & i64::from(self.kind.full_mask()) & !self.mask
     }
 
-    /// Whether it stands in a byte in which another stands, too.
-    pub(crate) fn shares_bytes(self, other: FieldName<'_>) -> bool {
-        let end = self.offset.saturating_add(self.kind.width() as i64);
-        let other_end = other.offset.saturating_add(other.kind.width() as i64);
-        self.offset < other_end && other.offset < end
+    /// The byte of a value, in two's complement, at a place among the field's bytes; none outside the field.
+    fn byte_at(self, bits: i64, place: usize) -> Option<u8> {
+        let last = self.kind.width().checked_sub(1)?;
+        let number = if self.kind.is_little() {
+            place
+        } else {
+            last.checked_sub(place)?
+        };
+        let word = u32::try_from(bits & i64::from(self.kind.full_mask())).ok()?;
+        if last < number {
+            return None;
+        }
+        word.to_le_bytes().get(number).copied()
+    }
+
+    /// The field's mask in the packet's byte with this index, and this byte of the field's value; none if the byte is not the field's.
+    fn bits_given(self, value: i64, byte: i64) -> Option<(u8, u8)> {
+        let place = usize::try_from(byte.checked_sub(self.offset)?).ok()?;
+        Some((self.byte_at(self.mask, place)?, self.byte_at(value, place)?))
+    }
+
+    /// Whether this value and the one given to the other field set a shared bit differently.
+    pub(crate) fn contradicts(self, value: i64, other: FieldName<'_>, given: i64) -> bool {
+        for place in 0..LONGEST_FIELD {
+            let byte = self.offset.saturating_add(place);
+            if let (Some((mask, bits)), Some((other_mask, other_bits))) = (
+                self.bits_given(value, byte),
+                other.bits_given(given, byte),
+            ) {
+                if (bits ^ other_bits) & mask & other_mask != 0 {
+                    return true;
+                }
+            }
+        }
+        false
     }
 }
 
-/// The names that rule texts declare, those of the first text first.
+/// The names that rule texts declare, in the order of the texts and of their lines.
 #[derive(Drop)]
 pub struct DeclaredNames<'a> {
+    /// The names of packets.
     pub packets: Vec<&'a [u8]>,
+    /// The fields.
     pub fields: Vec<FieldName<'a>>,
+    /// The names of rules.
     pub rules: Vec<&'a [u8]>,
 }
 
 impl<'a> DeclaredNames<'a> {
-    /// The names that these rule texts declare. Out of memory is the only error.
+    /// Collects the names that these rule texts declare. The only error is out of memory.
     pub fn of_texts(
         alloc: Global,
         texts: &[RuleText<'a>],
@@ -59,7 +97,7 @@ impl<'a> DeclaredNames<'a> {
         Ok(names)
     }
 
-    /// What an item declares is one more of them.
+    /// Adds what an item declares.
     fn take(&mut self, item: &Item<'a>) -> Result<(), AllocError> {
         match item {
             Item::Packet(packet) => self.packets.push(packet.name.text)?,
@@ -78,7 +116,7 @@ impl<'a> DeclaredNames<'a> {
         Ok(())
     }
 
-    /// The first field of a name.
+    /// The first field with this name.
     pub(crate) fn field(&self, name: &[u8]) -> Option<FieldName<'a>> {
         self.fields.iter().find(|field| field.name == name).copied()
     }
@@ -94,7 +132,7 @@ impl<'a> DeclaredNames<'a> {
         Ok(found)
     }
 
-    /// The names of the fields of this packet, or of all where it has none.
+    /// The names of the fields of this packet; of all fields if this packet has none.
     pub(crate) fn fields_of(
         &self,
         alloc: Global,

@@ -1,12 +1,10 @@
-//! The statements of scenarios that stand for commands or for other lines, and the words that each has.
+//! The statements of scenarios that become commands or other lines, and the words of each.
 
 use crate::statement::{Wanted, WordShape};
+use lc_model::STATE_WORDS;
 
 /// The word that stands for all rules.
 pub const ALL: &[u8] = b"all";
-
-/// The modes that the Limit Checker can be set to.
-const MODES: &[&[u8]] = &[b"active", b"passive", b"disabled"];
 
 /// The states that a rule can be set to.
 const STATES: &[&[u8]] = &[b"active", b"passive", b"disabled", b"off"];
@@ -17,7 +15,7 @@ const RESULTS: &[&[u8]] = &[b"none", b"pass", b"fail", b"stale", b"error"];
 const MODE: Wanted = Wanted {
     what: "a mode",
     advice: "write `active`, `passive` or `disabled`",
-    shape: WordShape::OneOf(MODES),
+    shape: WordShape::OneOf(STATE_WORDS),
 };
 
 const RULE: Wanted = Wanted {
@@ -122,13 +120,13 @@ const OPEN: Wanted = Wanted {
     shape: WordShape::OneOf(&[b"{"]),
 };
 
-const MODE_WORDS: &[Wanted] = &[MODE];
+const MODE_ORDER: &[Wanted] = &[MODE];
 
-const STATE_WORDS: &[Wanted] = &[RULE_OR_ALL, STATE];
+const STATE_ORDER: &[Wanted] = &[RULE_OR_ALL, STATE];
 
-const FILTER_WORDS: &[Wanted] = &[SENDER, EVENT, MASK];
+const FILTER_ORDER: &[Wanted] = &[SENDER, EVENT, MASK];
 
-const REPEAT_WORDS: &[Wanted] = &[TIMES, OPEN];
+const REPEAT_ORDER: &[Wanted] = &[TIMES, OPEN];
 
 /// What follows `expect state`.
 pub const EXPECTED_STATE: &[Wanted] = &[RULE, STATE];
@@ -136,18 +134,18 @@ pub const EXPECTED_STATE: &[Wanted] = &[RULE, STATE];
 /// What follows `expect result`.
 pub const EXPECTED_RESULT: &[Wanted] = &[RULE, RESULT];
 
-/// The words of a ramp.
+/// What follows `ramp`, without `tick` and with it.
 const RAMP: &[Wanted] = &[FIELD, FROM, TO, BY, STEP, EACH, PACE];
 
 const RAMP_WITH_TICKS: &[Wanted] = &[FIELD, FROM, TO, BY, STEP, EACH, PACE, TICK];
 
-/// What follows the first word of such a line, which has so many words behind it.
+/// The words that have to follow this first word, on a line with `count` words after it. None if the word begins no such statement.
 pub fn order_words(verb: &[u8], count: usize) -> Option<&'static [Wanted]> {
     match verb {
-        b"mode" => Some(MODE_WORDS),
-        b"state" => Some(STATE_WORDS),
-        b"filter" => Some(FILTER_WORDS),
-        b"repeat" => Some(REPEAT_WORDS),
+        b"mode" => Some(MODE_ORDER),
+        b"state" => Some(STATE_ORDER),
+        b"filter" => Some(FILTER_ORDER),
+        b"repeat" => Some(REPEAT_ORDER),
         b"ramp" => Some(if count > RAMP.len() {
             RAMP_WITH_TICKS
         } else {

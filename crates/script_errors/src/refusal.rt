@@ -1,4 +1,4 @@
-//! Why a text says nothing.
+//! Why a text is refused.
 
 ghost use Rattle.std.specs.Prelude.{◌≡◌};
 ghost use Rattle.script_errors.specs.declared.refusal.Refusal.TheVariants.{Memory};
@@ -6,12 +6,12 @@ ghost use Rattle.script_errors.specs.declared.refusal.Refusal.TheVariants.{Memor
 use diagnostics::Message;
 use std::alloc::AllocError;
 
-/// Why a text says no schedule or no stream.
+/// Why a schedule or a script is refused.
 #[derive(Drop)]
 pub enum Refusal {
-    /// What its author is told of the first line that is at fault.
+    /// The message about the text's first fault.
     Told(Message),
-    /// There was no memory for reading it, or for what is said.
+    /// Out of memory, for the text or for the message.
     Memory,
 }
 

@@ -1,4 +1,4 @@
-//! What is said of a line.
+//! Messages about a line.
 
 ghost use Rattle.std.specs.Prelude.{◌≡◌, ◌<◌, ◌≤◌, ◌+◌, ◌^◌, ℕ, List, length, IfOk};
 ghost use Rattle.script_errors.specs.Line.{IsLine};
@@ -9,18 +9,18 @@ use crate::word::Word;
 use diagnostics::{Mark, Message, nearest, quote};
 use std::alloc::{AllocError, Global};
 
-/// What is said of a line, before it is known where the line begins.
+/// A message about a line. Its places count from the line's first byte.
 #[derive(Drop)]
 pub struct LineMessage {
     /// What is wrong, in one sentence.
     pub head: String,
-    /// The word that is wrong, with what to do. Its place counts from the line's first byte.
+    /// The word that is wrong, with advice.
     pub first: Mark,
-    /// Another word of the line that matters, with what stands there.
+    /// Another word of the line that matters, with a label, if there is one.
     pub other: Option<Mark>,
 }
 
-/// A word with what is said of it.
+/// Marks a word, with a label.
 pub fn mark_word(word: Word<'_>, label: String) -> Mark {
     Mark {
         at: word.at,
@@ -29,7 +29,7 @@ pub fn mark_word(word: Word<'_>, label: String) -> Mark {
     }
 }
 
-/// What is said of a word.
+/// A message about a word, with a label.
 pub fn said_of(word: Word<'_>, head: String, label: String) -> LineMessage {
     LineMessage {
         head,
@@ -38,7 +38,7 @@ pub fn said_of(word: Word<'_>, head: String, label: String) -> LineMessage {
     }
 }
 
-/// What is said of a word, with advice.
+/// A message about a word, with advice. Error: out of memory.
 pub fn advise(
     alloc: Global,
     word: Word<'_>,
@@ -48,7 +48,7 @@ pub fn advise(
     Ok(said_of(word, head, String::from_str(alloc, advice)?))
 }
 
-/// What is said where another word should be, with advice.
+/// The message that another word is expected, with advice. Error: out of memory.
 pub fn expect_word(
     alloc: Global,
     word: Word<'_>,
@@ -60,7 +60,7 @@ pub fn expect_word(
     advise(alloc, word, head, advice)
 }
 
-/// The same where one of these words should be, the nearest of which is told.
+/// The same if one of these words is expected: it suggests the most similar one, or else gives the advice. Error: out of memory.
 pub fn expected_word(
     alloc: Global,
     word: Word<'_>,
@@ -76,7 +76,7 @@ pub fn expected_word(
     expect_word(alloc, word, wanted, label.as_str())
 }
 
-/// What is said of a word too many.
+/// The message about a word too many. Error: out of memory.
 pub fn too_many(alloc: Global, word: Word<'_>) -> Result<LineMessage, AllocError> {
     let advice = if word.text.starts_with(b"#") {
         "a comment has a line of its own"
@@ -86,7 +86,7 @@ pub fn too_many(alloc: Global, word: Word<'_>) -> Result<LineMessage, AllocError
     expect_word(alloc, word, "the end of the line", advice)
 }
 
-/// The mark at its place of the text, where its line begins behind so many bytes. A place behind the line's end is its end.
+/// The same mark, with its place counted from the text's first byte. A place after the line's end becomes its end.
 fn place_mark(line: Line<'_>, mark: Mark) -> Mark
     requires { line.begin + length line.bytes.now < 2 ^ 63 }
     ensures from { line.entry.begin ≤ result.at }
@@ -100,7 +100,7 @@ fn place_mark(line: Line<'_>, mark: Mark) -> Mark
     }
 }
 
-/// Another mark at its place of the text, where there is one.
+/// The same for a mark that may be missing.
 fn placed_too(line: Line<'_>, mark: Option<Mark>) -> Option<Mark>
     requires { line.begin + length line.bytes.now < 2 ^ 63 }
 {
@@ -110,7 +110,7 @@ fn placed_too(line: Line<'_>, mark: Option<Mark>) -> Option<Mark>
     }
 }
 
-/// What is said of a line, as a message with this number.
+/// The message about a line, with this number and with places in the text. Error: out of memory.
 pub fn message_on(
     alloc: Global,
     line: Line<'_>,
@@ -126,7 +126,7 @@ pub fn message_on(
     message.with(placed_too(line, other))
 }
 
-/// What is said at a text's end, as a message with this number.
+/// A message with this number at a text's end. Error: out of memory.
 pub fn message_at_end(
     alloc: Global,
     text: &[u8],

@@ -1,4 +1,4 @@
-//! What is said of a scenario's line that is refused.
+//! Messages about a refused line of a scenario.
 
 ghost use Rattle.std.specs.Prelude.{◌≡◌, ◌≤◌, IfOk};
 ghost use Rattle.script_errors.specs.Line.{line_count};
@@ -15,10 +15,10 @@ use diagnostics::{Message, nearest, quote};
 use scenarios::Reason;
 use std::alloc::{AllocError, Global};
 
-/// The number of a line of a scenario that says no line of a plain script.
+/// The number of the message about a line in a rule text's words that is invalid.
 pub const NO_WORDS: u8 = 169;
 
-/// What is said of a rule's name that no rule text has.
+/// The message about a rule's name that no rule text has. Error: out of memory.
 pub fn rule_said(
     alloc: Global,
     word: Word<'_>,
@@ -36,7 +36,7 @@ pub fn rule_said(
     }
 }
 
-/// How many words the line has behind its first.
+/// The number of words of the line after its first.
 fn count_behind(line: &[u8]) -> usize {
     let mut count = 0usize;
     for number in 1..line.len() {
@@ -48,7 +48,7 @@ fn count_behind(line: &[u8]) -> usize {
     count
 }
 
-/// What is said of a line whose words are right one by one.
+/// The message about a line whose words are valid one by one, by the reason.
 fn whole_said(alloc: Global, line: &[u8], reason: Reason) -> Result<LineMessage, AllocError> {
     let verb = nth_word(line, 0);
     let (head, advice) = match reason {
@@ -75,7 +75,7 @@ fn whole_said(alloc: Global, line: &[u8], reason: Reason) -> Result<LineMessage,
     advise(alloc, verb, String::from_str(alloc, head)?, advice)
 }
 
-/// What is said of a line that stands for a command or for other lines.
+/// The message about a line that should become a command or other lines.
 fn order_said(alloc: Global, line: &[u8], reason: Reason) -> Result<LineMessage, AllocError> {
     let verb = nth_word(line, 0);
     let said = match order_words(verb.text, count_behind(line)) {
@@ -88,7 +88,7 @@ fn order_said(alloc: Global, line: &[u8], reason: Reason) -> Result<LineMessage,
     }
 }
 
-/// What is said of a line in these names that is refused for this reason.
+/// The message about a line that is refused for this reason, with these declared names.
 fn line_said(
     alloc: Global,
     line: &[u8],
@@ -115,7 +115,7 @@ fn line_said(
     }
 }
 
-/// What is said of the line with this number.
+/// The message about the line with this number.
 fn message(
     alloc: Global,
     text: &[u8],
@@ -132,10 +132,10 @@ fn message(
     message_on(alloc, line, NO_WORDS, said)
 }
 
-/// What is said of the line with this number, from 1, of a scenario, which is refused for this reason: which word is wrong or what is
-/// missing, and what would be right, in these names. Of a number that no line has the nearest line is told. Its number is 169.
+/// The message, with number 169, about the line with this number, from 1, of a scenario, which is refused for this reason: which word is
+/// wrong or missing, and what would be right, with these declared names. If no line has the number, the message is about the nearest line.
 ///
-/// Errors: there is no memory for what is said.
+/// Error: out of memory.
 pub fn scenario_message(
     alloc: Global,
     text: &[u8],

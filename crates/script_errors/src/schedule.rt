@@ -1,4 +1,4 @@
-//! Schedules, and what is said of a text that is none.
+//! Reads schedules, with messages about a text that is refused.
 
 ghost use Rattle.std.specs.Prelude.{◌≡◌, ◌≤◌, IfOk, IfErr, Ok, Err};
 ghost use Rattle.lc_model.specs.Host.ScheduleText.{schedule_in, bad_line, too_many_slots, too_many_entries};
@@ -16,16 +16,16 @@ use schedules::{Schedule, ScheduleError, parse_schedule};
 use std::alloc::{AllocError, Global};
 use text_lines::is_silent;
 
-/// The number of a line that may not stand there.
+/// The number of the refusal of an invalid line.
 const BAD_LINE: u8 = 131;
 
-/// The number of a schedule with too many slots.
+/// The number of the refusal of too many slots.
 const TOO_MANY_SLOTS: u8 = 132;
 
-/// The number of a slot with too many entries.
+/// The number of the refusal of too many entries in a slot.
 const TOO_MANY_ENTRIES: u8 = 133;
 
-/// The first line that says something, if there is one in so many bytes of a text.
+/// The first line of these bytes with words that are not a comment, if there is one.
 fn first_with_words(text: &[u8]) -> Option<&[u8]> {
     for line in text.split(|byte| *byte == b'\n') {
         if !is_silent(line) {
@@ -35,7 +35,7 @@ fn first_with_words(text: &[u8]) -> Option<&[u8]> {
     None
 }
 
-/// What is said of a line that may not stand there.
+/// The message about an invalid line after these bytes of the text.
 fn bad_line_said(alloc: Global, before: &[u8], line: &[u8]) -> Result<LineMessage, AllocError> {
     match first_with_words(before) {
         Some(first) => entry_said(alloc, line, slots_in(first)),
@@ -43,7 +43,7 @@ fn bad_line_said(alloc: Global, before: &[u8], line: &[u8]) -> Result<LineMessag
     }
 }
 
-/// What is said of a line that has this refusal, behind these bytes of the text.
+/// The message about a line with this refusal, after these bytes of the text.
 fn line_said(
     alloc: Global,
     code: u8,
@@ -57,7 +57,7 @@ fn line_said(
     }
 }
 
-/// What is said of the line with this number.
+/// The message about the line with this number.
 fn numbered_message(
     alloc: Global,
     text: &[u8],
@@ -73,7 +73,7 @@ fn numbered_message(
     message_on(alloc, line, code, said)
 }
 
-/// What is said of a refusal: of no line where it has the number 0.
+/// The message about a refusal on the line with this number, or at the text's end if the number is 0.
 fn message(alloc: Global, text: &[u8], code: u8, number: usize) -> Result<Message, AllocError>
     requires { number ≤ line_count text.now }
     ensures { IfOk result (IsOn text.now code number) }
@@ -96,7 +96,7 @@ fn refusal_of(alloc: Global, text: &[u8], code: u8, number: usize) -> Refusal
     }
 }
 
-/// The refusal of a text that the reader refuses so.
+/// The refusal of a text for which the reader gives this error.
 fn refusal(alloc: Global, text: &[u8], error: ScheduleError) -> Refusal
     requires { IsRefused (schedule_in text.now) error }
     ensures { IsScheduleRefusal text.now (schedule_in text.now) result }
@@ -109,11 +109,11 @@ fn refusal(alloc: Global, text: &[u8], error: ScheduleError) -> Refusal
     }
 }
 
-/// The schedule that a text says, as `schedules::parse_schedule` reads it.
+/// Reads a schedule as `schedules::parse_schedule` does.
 ///
-/// Errors: `Told` with what the text's author is told of its first fault, by the fault's number (131 to 133) and on its line, which word
-/// is wrong or what is missing, and what would be right; where no line says anything that is told at the text's end. `Memory` where the
-/// slots or what is said find no room.
+/// Errors: `Told` with a message about the first fault, with the fault's number (131 to 133) and on its line: which word is wrong or
+/// missing, and what would be right. In a text without statements the message is at the text's end. `Memory` if there is no memory for the
+/// slots or the message.
 pub fn read_schedule(alloc: Global, text: &[u8]) -> Result<Schedule, Refusal>
     ensures said { IfOk result (λ schedule. schedule_in text.now ≡ Ok schedule) }
     ensures refused { IfErr result (IsScheduleRefusal text.now (schedule_in text.now)) }

@@ -1,4 +1,4 @@
-//! What is said of a script's line that is refused.
+//! Messages about a refused line of a script.
 
 ghost use Rattle.std.specs.Prelude.{◌≡◌, ◌≤◌, IfOk};
 ghost use Rattle.script_errors.specs.Line.{line_count};
@@ -15,14 +15,17 @@ use diagnostics::Message;
 use std::alloc::{AllocError, Global};
 use stream_script::Reason;
 
-/// What is said where no statement begins so.
+/// The advice for a line that begins no statement.
 const VERBS_ADVICE: &str = "write `at`, `after`, `fields`, `tick`, `sample`, `start` or another";
 
-/// The same where packets are declared.
+/// The same if packets are declared.
 const PACKETS_ADVICE: &str =
     "write a packet's name, `after`, `tick`, `start`, `state`, `expect` or another";
 
-/// The number of the refusal of a line.
+/// The advice for a word that begins with a byte order mark, as some editors write it in front of a text.
+const MARK_ADVICE: &str = "remove the byte order mark (U+FEFF) in front of it";
+
+/// The number of the message for each reason.
 fn code_of(reason: Reason) -> u8
     ensures { result ≡ reason_code reason }
 {
@@ -38,7 +41,7 @@ fn code_of(reason: Reason) -> u8
     }
 }
 
-/// What is said of the words of a packet whose fields follow.
+/// The message about a `fields` line: its words, or its fields. None if all are valid one by one.
 fn packet_said(
     alloc: Global,
     line: &[u8],
@@ -53,7 +56,7 @@ fn packet_said(
     fields_said(alloc, line)
 }
 
-/// What is said of a line that is refused, of a statement.
+/// The message about a refused line that begins as this statement.
 fn statement_said(
     alloc: Global,
     line: &[u8],
@@ -70,7 +73,7 @@ fn statement_said(
     }
 }
 
-/// With these names of packets the words with which a line may begin.
+/// All words with which a line may begin, with these names of packets.
 fn packets_and_verbs<'a>(alloc: Global, packets: &[&'a [u8]]) -> Result<Vec<&'a [u8]>, AllocError> {
     let mut known = Vec::from_slice(alloc, packets)?;
     for verb in VERBS {
@@ -79,7 +82,12 @@ fn packets_and_verbs<'a>(alloc: Global, packets: &[&'a [u8]]) -> Result<Vec<&'a 
     Ok(known)
 }
 
-/// What is said of a line that begins no statement, where these packets are declared.
+/// Whether a word begins with the byte order mark of UTF-8 (Unicode standard, section 23.8).
+fn has_order_mark(word: Word<'_>) -> bool {
+    matches!(word.text, [0xEF, 0xBB, 0xBF, ..])
+}
+
+/// The message about a line that begins no statement, with these declared packets.
 fn verb_said(alloc: Global, verb: Word<'_>, packets: &[&[u8]]) -> Result<LineMessage, AllocError> {
     let known = packets_and_verbs(alloc, packets)?;
     let (wanted, advice) = if packets.is_empty() {
@@ -87,10 +95,13 @@ fn verb_said(alloc: Global, verb: Word<'_>, packets: &[&[u8]]) -> Result<LineMes
     } else {
         ("a packet's name or a statement", PACKETS_ADVICE)
     };
+    if has_order_mark(verb) {
+        return expected_word(alloc, verb, &[], wanted, MARK_ADVICE);
+    }
     expected_word(alloc, verb, known.as_slice(), wanted, advice)
 }
 
-/// What is said of a line that is refused, where these packets are declared.
+/// The message about a refused line, with these declared packets.
 fn line_said(alloc: Global, line: &[u8], packets: &[&[u8]]) -> Result<LineMessage, AllocError> {
     let line = before_comment(line);
     let verb = nth_word(line, 0);
@@ -100,7 +111,7 @@ fn line_said(alloc: Global, line: &[u8], packets: &[&[u8]]) -> Result<LineMessag
     }
 }
 
-/// What is said of the line with this number.
+/// The message about the line with this number.
 fn message(
     alloc: Global,
     text: &[u8],
@@ -117,12 +128,11 @@ fn message(
     message_on(alloc, line, code, said)
 }
 
-/// What is said of the line with this number, from 1, for which the reader gives this reason: which word is wrong or what is missing,
-/// and what would be right, by a number for each reason: 161 no statement is written so, 162 a number, 163 bytes, 164 a kind of record,
-/// 165 a type of a field, 166 a field outside its packet, 167 bytes that such a record can't have, 168 a name that is too long. Of a
-/// number that no line has the nearest line is told. `packets` are the names of the packets that are declared, if there are some.
+/// The message about the line with this number, from 1, that the reader refuses for this reason: which word is wrong or missing, and what
+/// would be right. If no line has the number, the message is about the nearest line. `packets` are the names of declared packets.
 ///
-/// Errors: there is no memory for what is said.
+/// The message has a number for each reason: 161 no such statement, 162 a number, 163 bytes, 164 a kind of record, 165 a type of a field,
+/// 166 a field outside its packet, 167 bytes that such a record can't have, 168 a name that is too long. Error: out of memory.
 pub fn script_message(
     alloc: Global,
     text: &[u8],

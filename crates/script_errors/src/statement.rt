@@ -1,34 +1,35 @@
-//! The statements of scripts, and the words that each has.
+//! The statements of scripts, and the words of each.
 
 use crate::entry::{AGES, AGES_ADVICE, RULES_ADVICE};
 use lc_model::TYPE_WORDS;
 
-/// What a word has to be.
+/// The required shape of a word.
 #[derive(Clone, Copy)]
 pub enum WordShape {
-    /// A number in decimal digits, of at least and at most so much.
+    /// A number in decimal digits, from the first number to the second.
     Number(u64, u64),
-    /// The same, or in hexadecimal digits behind `0x`.
+    /// The same, or in up to eight hexadecimal digits after `0x`.
     AnyNumber(u64, u64),
-    /// A number that may have `-` in front, of at most 32 bits without it.
+    /// A decimal or hexadecimal number below 2^32, with or without `-` in front.
     Value,
     /// Four hexadecimal digits.
     MessageId,
-    /// `-`, or two hexadecimal digits for each byte.
+    /// `-` for no bytes, or two hexadecimal digits for each byte.
     Bytes,
-    /// A name of so many bytes at most.
+    /// A name of at most this number of bytes.
     Name(usize),
     /// One of these words.
     OneOf(&'static [&'static [u8]]),
 }
 
-/// What a word has to be, for who writes it.
+/// A required word, as messages describe it.
 #[derive(Clone, Copy)]
 pub struct Wanted {
-    /// What it is.
+    /// What it is, after "expected".
     pub what: &'static str,
     /// What to write.
     pub advice: &'static str,
+    /// Its shape.
     pub shape: WordShape,
 }
 
@@ -37,9 +38,9 @@ pub struct Wanted {
 pub struct Statement {
     /// Its first word.
     pub verb: &'static [u8],
-    /// The words behind that.
+    /// The words that follow.
     pub wanted: &'static [Wanted],
-    /// Whether fields follow, of three words each.
+    /// Whether fields of three words each follow these.
     pub has_fields: bool,
 }
 
@@ -258,7 +259,7 @@ const STATEMENTS: &[Statement] = &[
     },
 ];
 
-/// The first words of all lines, those of scenarios and expectations among them.
+/// The first words of all lines, also of scenarios and expectations.
 pub const VERBS: &[&[u8]] = &[
     b"at",
     b"after",
@@ -290,7 +291,7 @@ pub const VERBS: &[&[u8]] = &[
     b"expect",
 ];
 
-/// The statement that begins with this word.
+/// The statement that begins with this word, if there is one.
 pub fn statement_of(verb: &[u8]) -> Option<Statement> {
     STATEMENTS
         .iter()

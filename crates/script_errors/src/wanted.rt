@@ -1,4 +1,4 @@
-//! What is said of words that a line has to have, one behind the other.
+//! Messages about the words that a line has to have, one after the other.
 
 use crate::argument::{is_right, word_said};
 use crate::said::{LineMessage, too_many};
@@ -6,7 +6,7 @@ use crate::statement::Wanted;
 use crate::word::nth_word;
 use std::alloc::{AllocError, Global};
 
-/// What is said of the first of these words that the line lacks, the first of which is its word with this number.
+/// The message about the first of these words that the line lacks, if it lacks one. `first` is the number of the first of them.
 pub fn missing_said(
     alloc: Global,
     line: &[u8],
@@ -24,7 +24,7 @@ pub fn missing_said(
     Ok(None)
 }
 
-/// What is said of the first of these words that isn't what it has to be, where the line has them.
+/// The message about the first of these words that doesn't have its required shape, if there is one.
 pub fn wrong_said(
     alloc: Global,
     line: &[u8],
@@ -42,7 +42,7 @@ pub fn wrong_said(
     Ok(None)
 }
 
-/// What is said of a word with this number, where no word may be.
+/// The message about a word with this number, which is one too many, if there is one.
 pub fn surplus_said(
     alloc: Global,
     line: &[u8],
@@ -55,7 +55,8 @@ pub fn surplus_said(
     Ok(Some(too_many(alloc, behind)?))
 }
 
-/// What is said of the words from this number on, where the line has to have these and no others behind them.
+/// The message about the words from this number on: a missing one, else one too many, else one without its required shape. None if they are
+/// exactly these words.
 pub fn wanted_said(
     alloc: Global,
     line: &[u8],

@@ -1,4 +1,4 @@
-//! What a script may say and hardly means.
+//! Warnings about lines of a script that are valid and probably mistakes.
 
 use crate::word::nth_word;
 use diagnostics::{Mark, Message, nearest, quote};
@@ -6,27 +6,28 @@ use lc_model::mids;
 use std::alloc::{AllocError, Global};
 use std::str;
 
-/// The most warnings that are told of a script.
+/// The most warnings of a script.
 const MOST: usize = 100;
 
-/// The name of a warning of a message id.
+/// The name of the warning about a message id.
 const NAME: &str = "message-id";
 
-/// The names of warnings of an application, and of a table, that nobody has.
+/// The name of the warning about an application that this profile doesn't have.
 const NO_APPLICATION: &str = "unknown-application";
 
+/// The name of the warning about a table that this profile doesn't have.
 const NO_TABLE: &str = "unknown-table";
 
 /// The applications of this profile.
 const APPLICATIONS: &[&[u8]] = &[b"LC", b"SCH", b"COUNTER"];
 
-/// Those that send events.
+/// The senders of events.
 const SENDERS: &[&[u8]] = &[b"LC", b"SCH", b"COUNTER", b"HOST"];
 
 /// The tables of this profile.
 const TABLES: &[&[u8]] = &[b"LC.LC_WDT", b"LC.LC_ADT"];
 
-/// The digits of a message id.
+/// The number of digits of a message id.
 const ID_DIGITS: usize = 4;
 
 /// The message id that a word writes.
@@ -38,12 +39,12 @@ fn id_in(word: &[u8]) -> Option<u16> {
     u16::from_str_radix(digits, 16).ok()
 }
 
-/// Whether a message id is a command's: it has a secondary header and the type of a command (CCSDS 133.0-B).
+/// Whether a message id has the type of a command and a secondary header (CCSDS 133.0-B, primary header).
 fn is_command(id: u16) -> bool {
     (0x1800..=0x1FFF).contains(&id)
 }
 
-/// What the message id isn't, and which there are, where it isn't one of those that go with this statement.
+/// Why a message id doesn't fit this statement, and which ids do; none if it fits.
 fn not_fitting(verb: &[u8], id: u16) -> Option<(&'static str, &'static str)> {
     match verb {
         b"fields" | b"telemetry" if !mids::is_telemetry(id) => {
@@ -57,16 +58,18 @@ fn not_fitting(verb: &[u8], id: u16) -> Option<(&'static str, &'static str)> {
     }
 }
 
-/// Names that a statement takes, and what is said of any other.
+/// The names that a statement takes, and the warning about any other.
 #[derive(Clone, Copy)]
 struct KnownNames {
+    /// The name of the warning.
     warning: &'static str,
+    /// What the names are of.
     what: &'static str,
     names: &'static [&'static [u8]],
     advice: &'static str,
 }
 
-/// The names that the word behind this one may be, if it is a name of the profile's.
+/// The names that may follow this verb, if it takes one of the profile's names.
 fn names_behind(verb: &[u8]) -> Option<KnownNames> {
     match verb {
         b"start" | b"stop" | b"restart" | b"reload" => Some(KnownNames {
@@ -91,7 +94,7 @@ fn names_behind(verb: &[u8]) -> Option<KnownNames> {
     }
 }
 
-/// What is said of a line behind so many bytes, if it names an application or a table that nobody has.
+/// The warning about a line that names an unknown application or table. `begin` is the line's place in the text.
 fn name_warning(alloc: Global, line: &[u8], begin: usize) -> Result<Option<Message>, AllocError> {
     let word = nth_word(line, 1);
     let Some(known) = names_behind(nth_word(line, 0).text) else {
@@ -118,7 +121,7 @@ fn name_warning(alloc: Global, line: &[u8], begin: usize) -> Result<Option<Messa
     Ok(Some(Message::warning(alloc, known.warning, head, mark)))
 }
 
-/// What is said of a line behind so many bytes, if it names a message id that isn't one of its statement.
+/// The warning about a line whose message id doesn't fit its statement. `begin` is the line's place in the text.
 fn id_warning(alloc: Global, line: &[u8], begin: usize) -> Result<Option<Message>, AllocError> {
     let (verb, word) = (nth_word(line, 0), nth_word(line, 1));
     let Some(id) = id_in(word.text) else {
@@ -137,7 +140,7 @@ fn id_warning(alloc: Global, line: &[u8], begin: usize) -> Result<Option<Message
     Ok(Some(Message::warning(alloc, NAME, head, mark)))
 }
 
-/// What is to be looked at in a line behind so many bytes.
+/// The warning about a line, if there is one. `begin` is the line's place in the text.
 fn line_warning(alloc: Global, line: &[u8], begin: usize) -> Result<Option<Message>, AllocError> {
     match name_warning(alloc, line, begin)? {
         Some(warning) => Ok(Some(warning)),
@@ -145,10 +148,10 @@ fn line_warning(alloc: Global, line: &[u8], begin: usize) -> Result<Option<Messa
     }
 }
 
-/// What is to be looked at in a script that says a stream: telemetry whose message id isn't one of telemetry, commands whose isn't one
-/// of a command, and applications and tables that nobody has. Of more than a hundred such lines the first hundred are told.
+/// The warnings about a valid script, at most one for each line: telemetry whose message id isn't one of telemetry, commands whose id isn't
+/// one of a command, and unknown applications and tables. After a hundred warnings the rest is left out.
 ///
-/// Errors: there is no memory for what is said.
+/// Error: out of memory.
 pub fn script_warnings(alloc: Global, text: &[u8]) -> Result<Vec<Message>, AllocError> {
     let mut told = Vec::new(alloc);
     let mut begin = 0usize;

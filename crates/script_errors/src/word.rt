@@ -4,10 +4,10 @@ use diagnostics::quote;
 use std::alloc::{AllocError, Global};
 use text_lines::{first_word, is_blank};
 
-/// The most bytes of a word that a sentence shows.
+/// The most bytes of a word that a message shows.
 const MOST_SHOWN: usize = 40;
 
-/// The bytes shown of a longer one, before the dots.
+/// How many bytes of a longer word are shown, before the dots.
 const SHOWN: usize = 37;
 
 const DOTS: &[u8] = b"...";
@@ -15,12 +15,13 @@ const DOTS: &[u8] = b"...";
 /// A word, or the line's end, which has no bytes.
 #[derive(Clone, Copy)]
 pub struct Word<'a> {
-    /// Bytes of the line before it.
+    /// The number of bytes of the line before it.
     pub at: usize,
+    /// Its bytes.
     pub text: &'a [u8],
 }
 
-/// The place behind the line's last word.
+/// The place after the line's last word.
 fn line_end(line: &[u8]) -> usize {
     let blanks = line
         .iter()
@@ -31,17 +32,17 @@ fn line_end(line: &[u8]) -> usize {
 }
 
 impl<'a> Word<'a> {
-    /// Whether the line has no such word.
+    /// Whether this is the line's end, and not a word.
     pub fn is_end(self) -> bool {
         self.text.is_empty()
     }
 
-    /// The bytes of the line up to the word's end.
+    /// The number of bytes of the line up to the word's end.
     pub fn end(self) -> usize {
         self.at.saturating_add(self.text.len())
     }
 
-    /// The word as a sentence shows it.
+    /// The word as a message shows it: quoted, and cut after 37 bytes if it has over 40.
     pub fn quote(self, alloc: Global) -> Result<String, AllocError> {
         if self.is_end() {
             return String::from_str(alloc, "the end of the line");
@@ -55,7 +56,7 @@ impl<'a> Word<'a> {
     }
 }
 
-/// The first word behind so many bytes of the line.
+/// The first word of the line from this byte on, or the line's end.
 pub fn word_behind(line: &[u8], from: usize) -> Word<'_> {
     let rest = line.split_at(from.min(line.len())).1;
     match first_word(rest) {
@@ -73,7 +74,7 @@ pub fn word_behind(line: &[u8], from: usize) -> Word<'_> {
     }
 }
 
-/// What stands before a comment, which begins with a word that has `#` in front.
+/// The line without its comment, which begins with the first word that has `#` in front.
 pub fn before_comment(line: &[u8]) -> &[u8] {
     let mut from = 0;
     for _ in 0..line.len() {
@@ -89,7 +90,7 @@ pub fn before_comment(line: &[u8]) -> &[u8] {
     line
 }
 
-/// The word with this number, from 0.
+/// The word with this number, from 0, or the line's end.
 pub fn nth_word(line: &[u8], number: usize) -> Word<'_> {
     let mut from = 0;
     for _ in 0..number {
@@ -98,7 +99,7 @@ pub fn nth_word(line: &[u8], number: usize) -> Word<'_> {
     word_behind(line, from)
 }
 
-/// Whether all bytes are digits, one at least.
+/// Whether the word is one or more decimal digits.
 pub fn are_digits(word: &[u8]) -> bool {
     !word.is_empty() && word.iter().all(|byte| byte.is_ascii_digit())
 }

@@ -3,13 +3,13 @@ use Rattle.std.specs.Prelude.{◌≡◌, ℕ, zero, suc, ◌+◌, ◌<◌, ◌�
 use Rattle.lc_model.specs.Host.ScheduleText.{lines_of, words_of}
 use Rattle.stream_script.specs.Script.{Said, line_said, nothing_said, script_in}
 
--- how many bytes of the stream are said before each of these lines, where so much is said before the first
+-- the length of the stream before each of these lines, from its length before the first
 abbrev pub starts_from : Said → List (List ℕ) → List ℕ
 starts_from said [] = []
 starts_from said (line ∷ lines) =
     length said.bytes ∷ elim (line_said said (words_of line)) [ Err reason ↦ [] | Ok after ↦ starts_from after lines ]
 
--- the same of each line of a script
+-- the length of the stream before each line of a script
 abbrev pub starts_in : List ℕ → List ℕ
 starts_in script = starts_from nothing_said (lines_of script)
 

@@ -6,7 +6,7 @@ use Rattle.stream_script.specs.declared.error.StatementFault.TheVariants as faul
 use Rattle.stream_script.specs.declared.error.ScriptError.{ScriptError}
 use Rattle.stream_script.specs.declared.error.ScriptError.TheVariants as error
 
--- a line that says nothing, and why
+-- a refused line, and why
 pub record ScriptFault : Type 0 where
   pub line : ℕ
   pub reason : Reason
@@ -17,12 +17,12 @@ abbrev pub ◌>>=◌ : {A B : Type 0} → Result A Reason → (A → Result B Re
 (Ok x) >>= next = next x
 (Err reason) >>= next = Err reason
 
--- the line was refused for this reason, want of memory aside
+-- the line was refused for this reason, unless memory ran out
 abbrev pub IsRefused : {A : Type 0} → Result A Reason → StatementFault → Type 0
 IsRefused said (fault.Line reason) = said ≡ Err reason
 IsRefused said fault.Memory = ⊤
 
--- the script was refused at this line for this reason, want of memory aside
+-- the script was refused at this line for this reason, unless memory ran out
 abbrev pub IsScriptError : {A : Type 0} → Result A ScriptFault → ScriptError → Type 0
 IsScriptError said (error.Line n reason) = said ≡ Err (record { line = n; reason = reason })
 IsScriptError said error.Memory = ⊤

@@ -36,13 +36,13 @@ value_in kind word = do
 abbrev pub behind_headers : ℕ → Result ℕ Reason
 behind_headers size = if nat_le 12 size then Ok (size - 12) else Err BadNumber
 
--- how long the payload is, where the packet has so many bytes
+-- the size of the payload in a packet of this length
 abbrev pub payload_size : List ℕ → Result ℕ Reason
 payload_size word = do
   size ← number_in 2048 word
   behind_headers size
 
--- where in a payload of this size a field of this type stands, by its offset in the packet
+-- the place of a field of this type in a payload of this size, from its offset in the packet
 abbrev pub place_of : FieldType → ℕ → ℕ → Result ℕ Reason
 place_of kind size offset =
     if nat_le 12 offset && nat_le (offset + width kind) (12 + size) then Ok (offset - 12) else Err OutsidePacket

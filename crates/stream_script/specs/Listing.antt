@@ -1,4 +1,4 @@
--- The listing of a stream: a line for each record, and one for what is none. This project's own.
+-- The listing of a stream: a line for each record, and one for bytes that aren't a record. This project's own.
 use Rattle.std.specs.Prelude.{ℕ, zero, suc, ◌+◌, ◌-◌, ◌&&◌, ◌==◌, List, [], ◌++◌, length, take, drop, map, slice_index, codes, decimal, nat_le, nat_lt, Option, Some, None, if◌then◌else◌}
 use denote.Ref.{Bor}
 use Rattle.lc_model.specs.declared.record.Moment.{Moment}
@@ -28,7 +28,7 @@ name_shown name = codes " " ++ map printable name
 abbrev pub size_shown : ℕ → List ℕ
 size_shown size = codes " " ++ decimal size ++ codes " bytes"
 
--- whom a message id is for, where it is a command of the host's, or that it is telemetry
+-- the receiver of a command to the host, or the word for telemetry, by message id
 abbrev pub mid_shown : ℕ → List ℕ
 mid_shown mid =
     by_service mid (codes " event services") (codes " table services") (codes " executive services")
@@ -114,7 +114,7 @@ abbrev pub lines_by : (ℕ → List ℕ → List ℕ) → ℕ → List ℕ → F
 lines_by others number bytes (Record kind size) = line_shown number bytes (Record kind size) ++ others (number + 1) (drop (record_size bytes) bytes)
 lines_by others number bytes front = line_shown number bytes front
 
--- the lines of at most so many records, the first of which has this number
+-- the lines of at most this number of records, from the number of the first on
 abbrev pub lines_within : ℕ → ℕ → List ℕ → List ℕ
 lines_within zero number bytes = []
 lines_within (suc most) number bytes = lines_by (lines_within most) number bytes (front_in bytes)

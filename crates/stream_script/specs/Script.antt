@@ -28,11 +28,11 @@ nothing_said = record { moment = record { seconds = 0; subseconds = 0 }; bytes =
 abbrev pub record_bytes : Moment → RecordKind → List ℕ → List ℕ
 record_bytes moment kind body = kind_number kind ∷ u32 moment.seconds ++ u16 moment.subseconds ++ u32 (length body) ++ body
 
--- a record more, at the moment
+-- adds a record at the moment
 abbrev pub recorded : RecordKind → List ℕ → Said → Said
 recorded kind body said = record { moment = said.moment; bytes = said.bytes ++ record_bytes said.moment kind body }
 
--- a record more, where one of this kind may have this body
+-- adds a record if one of this kind may have this body
 abbrev pub brought : RecordKind → List ℕ → Said → Result Said Reason
 brought kind body said = if may_bring kind body then Ok (recorded kind body said) else Err BadBody
 

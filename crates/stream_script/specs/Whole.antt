@@ -17,7 +17,7 @@ abbrev pub record_line : Moment → RecordKind → List ℕ → List ℕ
 record_line moment kind body =
     codes "record " ++ decimal moment.seconds ++ codes " " ++ decimal moment.subseconds ++ codes " " ++ kind_word kind ++ codes " " ++ bytes_word body
 
--- the lines from what stands in front, where the rest goes on so
+-- the lines, by what is in front; the function continues with what follows
 abbrev pub script_by : (List ℕ → List ℕ) → List ℕ → Front → List ℕ
 script_by others bytes End = []
 script_by others bytes (Record kind size) =
@@ -25,7 +25,7 @@ script_by others bytes (Record kind size) =
 script_by others bytes NoRecord = codes "# no record\n"
 script_by others bytes Cut = codes "# cut short\n"
 
--- the lines of at most so many records
+-- the lines of at most this number of records
 abbrev pub script_within : ℕ → List ℕ → List ℕ
 script_within zero bytes = []
 script_within (suc most) bytes = script_by (script_within most) bytes (front_in bytes)
@@ -39,12 +39,12 @@ abbrev pub script_of_rest : Option (Bor (List ℕ)) → List ℕ
 script_of_rest None = []
 script_of_rest (Some bytes) = script_of bytes.now
 
--- the bytes of the records before a fault, where the rest goes on so
+-- the bytes of the records before a fault, by what is in front; the function continues with what follows
 abbrev pub records_by : (List ℕ → List ℕ) → List ℕ → Front → List ℕ
 records_by others bytes (Record kind size) = take (record_size bytes) bytes ++ others (drop (record_size bytes) bytes)
 records_by others bytes front = []
 
--- the bytes of at most so many records
+-- the bytes of at most this number of records
 abbrev pub records_within : ℕ → List ℕ → List ℕ
 records_within zero bytes = []
 records_within (suc most) bytes = records_by (records_within most) bytes (front_in bytes)
@@ -57,6 +57,6 @@ whole_records stream = records_within (length stream) stream
 abbrev pub SaysTheRecords : Type 0
 SaysTheRecords = (stream : List ℕ) → IsBytes stream → script_in (script_of stream) ≡ Ok (whole_records stream)
 
--- the law: the script of a stream that ends behind a whole record says the stream
+-- the law: the script of a stream that ends after a whole record gives back the stream
 abbrev pub SaysTheStream : Type 0
 SaysTheStream = (stream : List ℕ) → IsBytes stream → (records_of any_text stream).1 ≡ Whole → script_in (script_of stream) ≡ Ok stream

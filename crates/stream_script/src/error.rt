@@ -1,4 +1,4 @@
-//! Why a text says no stream.
+//! Why a script is refused.
 
 ghost use Rattle.std.specs.Prelude.{◌≡◌};
 ghost use Rattle.stream_script.specs.declared.error.StatementFault.TheVariants.{Line, Memory};
@@ -7,10 +7,10 @@ ghost use Rattle.stream_script.specs.declared.error.ScriptError.TheVariants as e
 use std::alloc::{AllocError, AllocFailed};
 use thiserror::Error;
 
-/// Why a line of a script says nothing.
+/// Why a line of a script is refused.
 #[derive(Clone, Copy, Debug, PartialEq, Eq, Error)]
 pub enum Reason {
-    /// No statement is written so: it has another first word, too few or too many words, or a word that none may have there.
+    /// The line isn't a statement: an unknown first word, too few or too many words, or a word that isn't allowed in its place.
     #[error("no statement")]
     UnknownStatement,
     /// A word that has to be a number isn't one, or is out of its range.
@@ -19,13 +19,13 @@ pub enum Reason {
     /// A word that has to be bytes isn't `-` or an even number of hexadecimal digits.
     #[error("bytes are missing")]
     BadBytes,
-    /// A word that has to be a kind of record is none of `packet`, `tick`, `file` and `half`.
+    /// A word that has to be a kind of record isn't `packet`, `tick`, `file` or `half`.
     #[error("no kind of record")]
     UnknownKind,
-    /// A word that has to be a field's type is none of rule texts' ten.
+    /// A word that has to be a field's type isn't one of the ten types of rule texts.
     #[error("no type of a field")]
     UnknownType,
-    /// A field doesn't stand between the headers of its packet and the end.
+    /// A field isn't wholly inside its packet, after the headers.
     #[error("a field is outside its packet")]
     OutsidePacket,
     /// A record of this kind can't have this body.
@@ -36,10 +36,10 @@ pub enum Reason {
     LongName,
 }
 
-/// Why a text says no stream, at its first line that is at fault. Lines count from 1.
+/// Why a script has no stream; the first faulty line is reported.
 #[derive(Clone, Copy, Debug, PartialEq, Eq, Error)]
 pub enum ScriptError {
-    /// The line says nothing, for this reason.
+    /// Line `n`, counted from 1, is refused for this reason.
     #[error("line {n}: {reason}")]
     Line { n: usize, reason: Reason },
     /// No memory for the stream.
@@ -55,7 +55,7 @@ impl<T: Drop> From<AllocFailed<T>> for ScriptError {
     }
 }
 
-/// Why a line adds nothing to a stream.
+/// Why a line can't be added to a stream.
 #[derive(Clone, Copy)]
 pub(crate) enum StatementFault {
     Line(Reason),

@@ -18,7 +18,7 @@ use std::alloc::Global;
 /// The bytes of telemetry's headers.
 const HEADERS: usize = 12;
 
-/// The type that a word names, which has to be there.
+/// The type that a word names. The error is `UnknownType`.
 fn some_type(word: &[u8]) -> Result<FieldType, Reason>
     ensures { result ≡ some_type (field_type word.now) }
 {
@@ -62,7 +62,7 @@ fn value_in(kind: FieldType, word: &[u8]) -> Result<i64, Reason>
     Ok(value)
 }
 
-/// How long the payload of a packet is whose length the word writes.
+/// The payload's size in a packet of the length that the word writes, both in bytes.
 fn payload_size(word: &[u8]) -> Result<usize, Reason>
     ensures exact { result ≡ payload_size word.now }
     ensures most { IfOk result (λ size. size ≤ longest_packet - telemetry_header_size) }
@@ -74,7 +74,7 @@ fn payload_size(word: &[u8]) -> Result<usize, Reason>
     Ok(size - HEADERS)
 }
 
-/// Where in a payload of this size the field of this type stands whose offset in the packet the word writes.
+/// The place in the payload of a field of this type. The word writes its offset from the packet's first byte.
 fn place_in(kind: FieldType, size: usize, word: &[u8]) -> Result<usize, Reason>
     requires { size ≤ longest_packet - telemetry_header_size }
     ensures exact { result ≡ place_in kind size word.now }
@@ -87,7 +87,7 @@ fn place_in(kind: FieldType, size: usize, word: &[u8]) -> Result<usize, Reason>
     Ok(offset - HEADERS)
 }
 
-/// A number in 32 bits, in two's complement.
+/// The low 32 bits of a value, in two's complement; the value has to fit the type.
 pub fn bits_of(kind: FieldType, value: i64) -> u32
     requires { IsTrue (fits_32_bits kind value) }
     ensures { result ≡ bits_32 value }
@@ -108,7 +108,7 @@ fn write_at(payload: &mut Vec<u8>, place: usize, bytes: &[u8])
     payload[place..place + bytes.len()].copy_from_slice(bytes);
 }
 
-/// Writes the last of these bits into the field of this type at a place of a payload.
+/// Writes the low bits into the field of this type at a place of a payload, as many as the field has.
 pub fn write_field(payload: &mut Vec<u8>, kind: FieldType, place: usize, bits: u32)
     requires { place + width kind ≤ length payload.old.items }
     ensures written { payload.new.items ≡

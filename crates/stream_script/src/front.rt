@@ -1,4 +1,4 @@
-//! What stands at the front of a stream.
+//! What is at the front of a stream: a record, a part of one, or neither.
 
 ghost use Rattle.std.specs.Prelude.{◌≡◌, ◌≤◌, length, slice_index};
 ghost use Rattle.lc_model.specs.Host.Stream.{body_size, header_size};
@@ -8,20 +8,20 @@ ghost use Rattle.stream_script.specs.Kind.{kind_numbered};
 use crate::kind::RecordKind;
 use lc_model::stream::{HEADER, body_size};
 
-/// What stands at the front of a stream.
+/// What is at the front of a stream.
 #[derive(Clone, Copy)]
 pub enum Front {
-    /// Nothing.
+    /// The stream is at its end.
     End,
-    /// A whole record of so many bytes.
+    /// A whole record of this kind and this size in bytes, header included.
     Record { kind: RecordKind, size: usize },
-    /// No record, whatever follows.
+    /// Bytes that can't begin a record, whatever follows.
     NoRecord,
-    /// The beginning of a record.
+    /// The beginning of a record that is cut short.
     Cut,
 }
 
-/// What stands in front, where a header is there.
+/// What is at the front of bytes that have a whole header.
 fn front_of_header(bytes: &[u8]) -> Front
     requires { header_size ≤ length bytes.now }
     ensures stands { result ≡ front_of_kind (kind_numbered (slice_index bytes.now 0)) bytes.now }
@@ -46,7 +46,7 @@ fn front_of_header(bytes: &[u8]) -> Front
     Front::Record { kind, size }
 }
 
-/// What stands in front.
+/// Returns what is at the front of these bytes.
 pub fn front_of(bytes: &[u8]) -> Front
     ensures stands { result ≡ front_in bytes.now }
     ensures inside { IsInside bytes.now result }

@@ -9,7 +9,7 @@ use crate::error::Reason;
 use crate::word::is;
 use lc_model::stream::{NAME, fits_body};
 
-/// What a record brings.
+/// The kind of a record, by what it brings.
 #[derive(Clone, Copy)]
 pub enum RecordKind {
     /// The bytes of a packet.
@@ -60,7 +60,7 @@ impl RecordKind {
         }
     }
 
-    /// Whether a record of this kind may have a body of so many bytes.
+    /// Whether a record of this kind may have a body of this size in bytes.
     pub(crate) fn fits(self, size: usize) -> bool
         ensures exact { result ≡ fits_body all_kinds (kind_number self) size }
         ensures longest { result ≡ true → size ≤ max_body }
@@ -68,7 +68,7 @@ impl RecordKind {
         fits_body(self.number(), size)
     }
 
-    /// Whether a body that fits names a half of a rule text, where it has to.
+    /// Whether a body of a fitting size names half 1 or 2, if the kind is `Half`; true for other kinds.
     pub(crate) fn has_half(self, body: &[u8]) -> bool
         requires { fits_kind self (length body.now) }
         ensures { result ≡ has_half self body.now }
@@ -105,7 +105,7 @@ fn kind_in(word: &[u8]) -> Option<RecordKind>
     }
 }
 
-/// The kind that a word names, which has to be one.
+/// The kind that a word names. The error is `UnknownKind`.
 pub(crate) fn some_kind(word: &[u8]) -> Result<RecordKind, Reason>
     ensures { result ≡ some_kind (kind_in word.now) }
 {

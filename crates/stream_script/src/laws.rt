@@ -1,25 +1,26 @@
-//! What scripts keep of streams: laws of the definitions.
+//! The laws of scripts and streams, each stated by a function with an empty body.
 
 ghost use Rattle.stream_script.specs.ByLines.{SaysItsFronts};
 ghost use Rattle.stream_script.specs.Telemetry.{SaysTelemetry};
 ghost use Rattle.stream_script.specs.Whole.{SaysTheRecords, SaysTheStream};
 
-/// The script of a stream says its records, up to the first fault, byte for byte.
+/// States that the script of a stream gives back its records, up to the first fault, byte for byte.
 pub fn scripts_say_their_records()
     ensures { SaysTheRecords }
 {}
 
-/// The script of a stream that ends behind a whole record says the stream, byte for byte, whatever numbers of rule texts it has.
+/// States that the script of a stream that ends after a whole record gives back the stream, byte for byte. The numbers of its rule
+/// texts may be any.
 pub fn scripts_say_whole_streams()
     ensures { SaysTheStream }
 {}
 
-/// What comes before a line of a script says what comes before its place in the stream.
+/// States that the part of a script before a line gives the part of the stream before that line's place.
 pub fn scripts_say_their_fronts()
     ensures { SaysItsFronts }
 {}
 
-/// The line that says telemetry adds one record at the moment: the packet with that message id, count and payload.
+/// States that a `telemetry` line adds one record at the moment: the packet with its message id, count and payload.
 pub fn telemetry_lines_say_telemetry()
     ensures { SaysTelemetry }
 {}

@@ -1,5 +1,4 @@
-//! Streams of records as text: a script says a stream, line by line, and each stream has the script that says it (this
-//! project's own).
+//! Streams of records as text: a script writes a stream line by line, and each stream has a script (this project's own).
 #![tactic(auto)]
 
 mod error;

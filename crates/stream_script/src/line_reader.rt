@@ -13,7 +13,7 @@ use crate::statement::statement;
 use std::alloc::Global;
 use text_lines::{first_line, is_silent, words};
 
-/// What is said behind this line.
+/// The script after this line.
 fn line_said(alloc: Global, script: Script, line: &[u8]) -> Result<Script, StatementFault>
     ensures said { IfOk result (λ after. line_said script (words_of line.now) ≡ Ok after) }
     ensures refused { IfErr result (IsRefused (line_said script (words_of line.now))) }
@@ -25,7 +25,7 @@ fn line_said(alloc: Global, script: Script, line: &[u8]) -> Result<Script, State
     statement(alloc, script, words.as_slice())
 }
 
-/// What a line adds to the script, or its fault with the line's number.
+/// The script after a line, or the line's fault with its number.
 fn read_line(alloc: Global, script: Script, line: &[u8], n: usize) -> Result<Script, ScriptError>
     ensures said { IfOk result (λ after. (lines : List (List ℕ)) →
         lines_said script n (line.now ∷ lines) ≡ lines_said after (n + 1) lines) }
@@ -40,7 +40,7 @@ fn read_line(alloc: Global, script: Script, line: &[u8], n: usize) -> Result<Scr
     }
 }
 
-/// What all lines say, and how many bytes of the stream are said before each.
+/// The script after all lines, and the length of the stream before each line in bytes.
 fn read_lines(alloc: Global, script: &[u8]) -> Result<(Script, Vec<usize>), ScriptError>
     ensures said { IfOk result
         (λ all. lines_said nothing_said 1 (lines_of script.now) ≡ Ok all.0) }
@@ -63,19 +63,21 @@ fn read_lines(alloc: Global, script: &[u8]) -> Result<(Script, Vec<usize>), Scri
     Ok((said, starts))
 }
 
-/// The stream that a script says, and for each line how many bytes of the stream the lines before it say: the line at place `k`,
-/// from 0, says the bytes from `starts[k]` up to `starts[k + 1]`, and the last line those from its start on.
+/// A script's stream, and where in it each line begins. Line `k`, counted from 0, gives the bytes from `starts[k]` up to
+/// `starts[k + 1]`; the last line gives those from its start on.
 #[derive(Drop)]
 pub struct ScriptStream {
+    /// The stream's bytes.
     pub stream: Vec<u8>,
+    /// For each line, the length of the stream before it in bytes.
     pub starts: Vec<usize>,
 }
 
-/// The stream that a script says, with the place of each line in it. Lines end at a line feed or at the end of the text, and words
-/// are parted by spaces, tabs and carriage returns; a line without words, or whose first word begins with `#`, says nothing.
+/// Reads a script to its stream, with the place of each line. Lines end at a line feed or at the end of the text. Spaces, tabs and
+/// carriage returns separate words. A line without words, or whose first word begins with `#`, is skipped.
 ///
-/// Errors, of which the least line's is answered: `Line` with the line's number from 1 and what is wrong with it; `Memory` only
-/// where the stream, its places or a line find no room.
+/// Errors: `Line` for the first faulty line, with its number from 1 and its reason; `Memory` only if there is no memory for the
+/// stream, the places or a line.
 pub fn read_script_by_lines(alloc: Global, script: &[u8]) -> Result<ScriptStream, ScriptError>
     ensures said { IfOk result (λ all. script_in script.now ≡ Ok all.stream.items) }
     ensures starts { IfOk result (λ all. all.starts.items ≡ starts_in script.now) }
@@ -94,7 +96,7 @@ pub fn read_script_by_lines(alloc: Global, script: &[u8]) -> Result<ScriptStream
     }
 }
 
-/// The stream that a script says, without the places of its lines (`read_script_by_lines`), with the same errors.
+/// Reads a script to its stream, without the places of its lines; rules and errors as in `read_script_by_lines`.
 pub fn read_script(alloc: Global, script: &[u8]) -> Result<Vec<u8>, ScriptError>
     ensures said { IfOk result (λ stream. script_in script.now ≡ Ok stream.items) }
     ensures refused { IfErr result (IsScriptError (script_in script.now)) }

@@ -47,7 +47,7 @@ fn with_record(
     with_text(text, b"\n")
 }
 
-/// A text with the line of the record in front, which has so many bytes.
+/// A text with the line of the record in front, which has this size in bytes.
 fn with_front(
     alloc: Global,
     text: Vec<u8>,
@@ -73,7 +73,7 @@ fn with_front(
     with_record(alloc, text, number, moment, kind, body)
 }
 
-/// A text with a number and what is said of it.
+/// A text with a record's number and why it can't be read.
 fn with_end(text: Vec<u8>, number: usize, end: &[u8]) -> Result<Vec<u8>, AllocError>
     ensures { IfOk result (λ after. after.items ≡ text.items ++ (decimal number ++ end.now)) }
 {
@@ -81,7 +81,7 @@ fn with_end(text: Vec<u8>, number: usize, end: &[u8]) -> Result<Vec<u8>, AllocEr
     with_text(text, end)
 }
 
-/// A text with the line of what stands in front, which has this number, and what follows it, where that is a record.
+/// A text with the line of what is in front, which has this number. Also returns the bytes after it, if it is a record.
 fn with_next<'a>(
     alloc: Global,
     text: Vec<u8>,
@@ -111,10 +111,10 @@ fn with_next<'a>(
     }
 }
 
-/// The listing of what is left of a stream, whose first record has this number: a line for each record, with its number, its seconds
-/// and subseconds, its kind and what it brings: a packet's message id, what a command says, and its size; the name and the size of a
-/// file; which half of which rule text. Where the stream ends early, the last line says of which number there is no record, or that it
-/// is cut short. Numbers of rule texts aren't judged. Out of memory is the only error.
+/// Lists the rest of a stream, whose first record has this number, with a line for each record: number, seconds, subseconds, kind and
+/// content. The content is a packet's message id, command and size, a file's name and size, or the half and its rule text. If the
+/// stream ends early, the last line has the number of the record that is missing or cut short. Numbers of rule texts aren't judged.
+/// The only error is a lack of memory.
 pub fn write_listing_from(alloc: Global, first: usize, stream: &[u8]) -> Result<Vec<u8>, AllocError>
     requires { first + length stream.now + 1 < 2 ^ 64 }
     ensures { IfOk result (λ listing. listing.items ≡ lines_from first stream.now) }

@@ -1,4 +1,4 @@
-//! What a script says so far.
+//! The stream that the lines read so far give.
 
 ghost use Rattle.std.specs.Prelude.{◌≡◌, ◌<◌, ◌≤◌, ◌+◌, ◌^◌, length, take, IfOk, IfErr};
 ghost use Rattle.stream_script.specs.Error.{IsRefused};
@@ -15,7 +15,7 @@ use packet_builders::{build_command, build_telemetry};
 use std::alloc::{AllocError, Global};
 use std::marker::Model;
 
-/// The first bytes.
+/// The first `size` bytes.
 fn front(bytes: &[u8], size: usize) -> &[u8]
     requires { size ≤ length bytes.now }
     ensures { result.now ≡ take size bytes.now }
@@ -23,7 +23,7 @@ fn front(bytes: &[u8], size: usize) -> &[u8]
     bytes.split_at(size).0
 }
 
-/// The moment of what comes next, and the bytes of the stream. Contracts see both (`Said`).
+/// The moment of the next record, and the stream's bytes so far. Contracts see both (`Said`).
 #[derive(Drop)]
 pub(crate) struct Script {
     moment: Moment,
@@ -39,7 +39,7 @@ impl Model for Script {
 }
 
 impl Script {
-    /// Second 0, and no record.
+    /// An empty stream at second 0.
     pub(crate) fn new(alloc: Global) -> Script
         ensures { result ≡ nothing_said }
     {
@@ -52,7 +52,7 @@ impl Script {
         }
     }
 
-    /// The moment of what comes next.
+    /// The moment of the next record.
     pub(crate) fn moment(&self) -> Moment
         ensures { result ≡ self.now.moment }
     {
@@ -83,7 +83,7 @@ impl Script {
         self.bytes
     }
 
-    /// A record more, at the moment.
+    /// Adds a record at the moment.
     pub(crate) fn with_record(self, kind: RecordKind, body: &[u8]) -> Result<Script, AllocError>
         requires { length body.now < 2 ^ 32 }
         ensures { IfOk result (λ after. after ≡ recorded kind body.now self) }
@@ -97,7 +97,7 @@ impl Script {
         Ok(Script { moment, bytes })
     }
 
-    /// A record more, where one of this kind may have this body.
+    /// Adds a record at the moment. The error is `BadBody` if this kind can't have this body, or a lack of memory.
     pub(crate) fn bring(self, kind: RecordKind, body: &[u8]) -> Result<Script, StatementFault>
         ensures said { IfOk result (λ after. brought kind body.now self ≡ Ok after) }
         ensures refused { IfErr result (IsRefused (brought kind body.now self)) }
@@ -108,7 +108,7 @@ impl Script {
         Ok(self.with_record(kind, body)?)
     }
 
-    /// A command more, with sequence count 0.
+    /// Adds a command with sequence count 0.
     pub(crate) fn command(self, mid: u16, code: u8, payload: &[u8]) -> Result<Script, AllocError>
         requires { command_header_size + length payload.now ≤ longest_packet }
         ensures { IfOk result (λ after. after ≡ commanded mid code payload.now self) }
@@ -118,7 +118,7 @@ impl Script {
         self.with_record(RecordKind::Packet, front(&buffer, size))
     }
 
-    /// Telemetry more, with this sequence count and this time.
+    /// Adds telemetry with this sequence count and this time.
     pub(crate) fn telemetry(
         self,
         mid: u16,

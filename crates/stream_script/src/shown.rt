@@ -14,7 +14,7 @@ use lc_model::packet::{function_code, message_id};
 use lc_model::{mids, name_in, u16_at};
 use std::alloc::{AllocError, Global};
 
-/// The first bytes, or all of them where there are fewer.
+/// The first `size` bytes, or all if there are fewer.
 fn at_most(size: usize, bytes: &[u8]) -> &[u8]
     ensures { result.now ≡ take size bytes.now }
 {
@@ -25,7 +25,7 @@ fn at_most(size: usize, bytes: &[u8]) -> &[u8]
     }
 }
 
-/// Whom a message id is for, where it is a command of the host's, or that it is telemetry.
+/// The receiver of a command to the host, or the word for telemetry, by message id.
 fn mid_shown(mid: u16) -> &'static [u8]
     ensures { result.now ≡ mid_shown mid }
 {
@@ -81,7 +81,7 @@ fn app_order(code: u8) -> &'static [u8]
     }
 }
 
-/// A text with what a command with a whole header says.
+/// A text with the meaning of a command that has a whole header.
 fn with_order(text: Vec<u8>, mid: u16, packet: &[u8]) -> Result<Vec<u8>, AllocError>
     requires { command_header_size ≤ length packet.now }
     ensures { IfOk result (λ after. after.items ≡ text.items ++ order_shown mid packet.now) }
@@ -108,7 +108,7 @@ fn with_order(text: Vec<u8>, mid: u16, packet: &[u8]) -> Result<Vec<u8>, AllocEr
     }
 }
 
-/// What a command says behind the text, and nothing where the packet is telemetry.
+/// A text with the meaning of a command; telemetry adds nothing.
 fn with_any_order(text: Vec<u8>, mid: u16, packet: &[u8]) -> Result<Vec<u8>, AllocError>
     requires { command_header_size ≤ length packet.now }
     ensures { IfOk result (λ after. after.items ≡ text.items ++ any_order_shown mid packet.now) }
@@ -129,7 +129,7 @@ fn with_mid(alloc: Global, text: Vec<u8>, packet: &[u8]) -> Result<Vec<u8>, Allo
     with_text(text, mid_shown(message_id(packet)))
 }
 
-/// A text with a packet's message id, what a command says, and its size.
+/// A text with a packet's message id, the meaning of a command, and the packet's size.
 fn with_packet(alloc: Global, text: Vec<u8>, packet: &[u8]) -> Result<Vec<u8>, AllocError>
     ensures { IfOk result (λ after. after.items ≡ text.items ++ packet_shown packet.now) }
 {

@@ -1,4 +1,4 @@
-//! Statements: what a line of so many words says.
+//! Statements: what each line adds, by its first word and its number of words.
 
 ghost use Rattle.std.specs.Prelude.{◌≡◌, ◌<◌, ◌≤◌, ◌+◌, length, IfOk, IfErr, Ok};
 ghost use Rattle.lc_model.specs.Packet.{count_end, longest_packet, telemetry_header_size};
@@ -174,7 +174,7 @@ fn telemetry_brought(
     telemetry_fits(script, mid, count as u16, payload.as_slice())
 }
 
-/// A telemetry packet more, where it has at most 2,048 bytes.
+/// Adds a telemetry packet if it has at most 2,048 bytes.
 fn telemetry_fits(
     script: Script,
     mid: u16,
@@ -191,7 +191,7 @@ fn telemetry_fits(
     Ok(add_telemetry(script, mid, count, payload)?)
 }
 
-/// Telemetry more, with the time of the moment.
+/// Adds telemetry with the time of the moment.
 fn add_telemetry(script: Script, mid: u16, count: u16, payload: &[u8]) -> Result<Script, AllocError>
     requires count { count < count_end }
     requires size { telemetry_header_size + length payload.now ≤ longest_packet }
@@ -241,7 +241,7 @@ fn command_brought(
     command_fits(script, mid, code as u8, payload.as_slice())
 }
 
-/// A command more, where it has at most 2,048 bytes.
+/// Adds a command if it has at most 2,048 bytes.
 fn command_fits(
     script: Script,
     mid: u16,
@@ -364,7 +364,7 @@ fn five_words(
     whole_record(alloc, script, a, b, c, d)
 }
 
-/// What a line with these words says, where its statement has a certain number of words.
+/// The script after a line with these words, if its statement has a fixed number of words.
 fn some_words(alloc: Global, script: Script, words: &[&[u8]]) -> Result<Script, StatementFault>
     ensures said { IfOk result (λ after. some_words script (texts_of words.now) ≡ Ok after) }
     ensures refused { IfErr result (IsRefused (some_words script (texts_of words.now))) }
@@ -390,7 +390,7 @@ fn sets_fields(words: &[&[u8]]) -> bool
     }
 }
 
-/// What a line says whose first word is `fields`.
+/// The script after a line whose first word is `fields`.
 fn fields_said(alloc: Global, script: Script, words: &[&[u8]]) -> Result<Script, StatementFault>
     ensures said { IfOk result (λ after. fields_said script (texts_of words.now) ≡ Ok after) }
     ensures refused { IfErr result (IsRefused (fields_said script (texts_of words.now))) }
@@ -403,7 +403,7 @@ fn fields_said(alloc: Global, script: Script, words: &[&[u8]]) -> Result<Script,
     }
 }
 
-/// What a line with these words says.
+/// The script after a line with these words.
 pub(crate) fn statement(
     alloc: Global,
     script: Script,

@@ -1,4 +1,4 @@
-//! Texts with more behind them.
+//! Appends words and numbers to a text. The only error is a lack of memory.
 
 ghost use Rattle.std.specs.Prelude.{◌≡◌, ◌++◌, codes, decimal, map, IfOk};
 ghost use Rattle.stream_script.specs.Listing.{name_shown, printable, size_shown};
@@ -7,7 +7,7 @@ ghost use Rattle.stream_script.specs.Number.{bytes_word};
 use itoa::Buffer;
 use std::alloc::{AllocError, Global};
 
-/// A text with more behind it.
+/// A text with more bytes after it.
 pub(crate) fn with_text(mut text: Vec<u8>, more: &[u8]) -> Result<Vec<u8>, AllocError>
     ensures { IfOk result (λ after. after.items ≡ text.items ++ more.now) }
 {
@@ -15,7 +15,7 @@ pub(crate) fn with_text(mut text: Vec<u8>, more: &[u8]) -> Result<Vec<u8>, Alloc
     Ok(text)
 }
 
-/// A text with a number behind it.
+/// A text with a decimal number after it.
 pub(crate) fn with_digits(mut text: Vec<u8>, number: u64) -> Result<Vec<u8>, AllocError>
     ensures { IfOk result (λ after. after.items ≡ text.items ++ decimal number) }
 {
@@ -24,7 +24,7 @@ pub(crate) fn with_digits(mut text: Vec<u8>, number: u64) -> Result<Vec<u8>, All
     Ok(text)
 }
 
-/// A text with a number and a space behind it.
+/// A text with a decimal number and a space after it.
 pub(crate) fn with_number(mut text: Vec<u8>, number: u64) -> Result<Vec<u8>, AllocError>
     ensures { IfOk result (λ after. after.items ≡ text.items ++ decimal number ++ codes " ") }
 {
@@ -51,7 +51,7 @@ pub(crate) fn with_bytes(
     Ok(text)
 }
 
-/// A byte of a name, or `?` where it can't be printed.
+/// A byte of a name, or `?` if it isn't printable.
 fn printable(byte: u8) -> u8
     ensures { result ≡ printable byte }
 {

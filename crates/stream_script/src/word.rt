@@ -1,4 +1,4 @@
-//! What the words of a statement are.
+//! Reads the words of a statement.
 
 ghost use Rattle.std.specs.Prelude.{◌≡◌, ◌≤◌, bytes_eq, length, IfOk, IfErr, Ok};
 ghost use Rattle.lc_model.specs.Name.{app_name_size, name_size};
@@ -18,7 +18,7 @@ pub(crate) fn is(word: &[u8], other: &[u8]) -> bool
     word == other
 }
 
-/// The bytes that a word writes: `-` for none, else two hexadecimal digits for each.
+/// The bytes that a word writes: `-` for no bytes, else two hexadecimal digits for each byte.
 pub(crate) fn bytes_in(alloc: Global, word: &[u8]) -> Result<Vec<u8>, StatementFault>
     ensures said { IfOk result (λ bytes. bytes_in word.now ≡ Ok bytes.items) }
     ensures refused { IfErr result (IsRefused (bytes_in word.now)) }
@@ -33,7 +33,7 @@ pub(crate) fn bytes_in(alloc: Global, word: &[u8]) -> Result<Vec<u8>, StatementF
     }
 }
 
-/// A file's or a table's name in its field of 40 bytes, with zeros behind it.
+/// A file's or a table's name in its field of 40 bytes, with zeros after it.
 pub(crate) fn long_name(word: &[u8]) -> Result<[u8; 40], Reason>
     ensures { result ≡ name_field name_size word.now }
 {
@@ -45,7 +45,7 @@ pub(crate) fn long_name(word: &[u8]) -> Result<[u8; 40], Reason>
     Ok(field)
 }
 
-/// An application's name in its field of 20 bytes, with zeros behind it.
+/// An application's name in its field of 20 bytes, with zeros after it.
 pub(crate) fn short_name(word: &[u8]) -> Result<[u8; 20], Reason>
     ensures { result ≡ name_field app_name_size word.now }
 {

@@ -14,7 +14,7 @@ use lc_model::stream::HEADER;
 use lc_model::{Moment, u16_at, u32_at};
 use std::alloc::{AllocError, Global};
 
-/// A text with the line that says a record.
+/// A text with the script line of a record.
 fn with_line(
     alloc: Global,
     mut text: Vec<u8>,
@@ -35,7 +35,7 @@ fn with_line(
     Ok(text)
 }
 
-/// A text with the line that says the record in front, which has so many bytes.
+/// A text with the script line of the record in front, which has this size in bytes.
 fn with_front(
     alloc: Global,
     text: Vec<u8>,
@@ -59,7 +59,7 @@ fn with_front(
     with_line(alloc, text, moment, kind, body)
 }
 
-/// A text with the line that says what stands in front, and what follows it, where that is a record.
+/// A text with the script line of what is in front. Also returns the bytes after it, if it is a record.
 fn with_next<'a>(
     alloc: Global,
     text: Vec<u8>,
@@ -87,7 +87,7 @@ fn with_next<'a>(
     }
 }
 
-/// The line that says telemetry with this message id, sequence count and payload, at the moment. Out of memory is the only error.
+/// The `telemetry` line with this message id, sequence count and payload. The only error is a lack of memory.
 pub fn telemetry_line(
     alloc: Global,
     mid: u16,
@@ -104,8 +104,8 @@ pub fn telemetry_line(
     with_bytes(alloc, text, payload)
 }
 
-/// The script of a stream: a line for each record, with its moment, its kind and the bytes of its body, and a comment where
-/// what follows is no record, or is cut short. Out of memory is the only error.
+/// The script of a stream: a line for each record, with its moment, its kind and the bytes of its body. A comment ends it if the rest
+/// isn't a record or is cut short. The only error is a lack of memory.
 pub fn write_script(alloc: Global, stream: &[u8]) -> Result<Vec<u8>, AllocError>
     ensures { IfOk result (λ script. script.items ≡ script_of stream.now) }
 {

@@ -29,7 +29,7 @@ fn digits(number: u16) -> [u8; 3] {
     [digit(number / 100), digit(number / 10), digit(number)]
 }
 
-/// 176 rules, each of so many mentions of one comparison.
+/// A text of 176 rules, each with this number of mentions of one comparison.
 fn shared_text(alloc: Global, mentions: u16) -> Result<Vec<u8>, AllocError> {
     let mut text: Vec<u8> = Vec::new(alloc);
     text.extend_from_slice(b"packet P = mid 0x0883 length 16; field V = P u16be at 12;")?;
@@ -79,7 +79,7 @@ fn spread_text(alloc: Global) -> Result<Vec<u8>, AllocError> {
     Ok(text)
 }
 
-/// The host handles a record: how many bytes were written where a write failed. Of a file's name the first 40 bytes count.
+/// The host handles a record: how many bytes were written if a write failed. Only the first 40 bytes of a file's name count.
 fn give<B: App>(host: &mut Host<B>, body: Body<'_>, out: &mut Limited<'_>) -> Option<u64>
     requires { IsBetween (shown B.meaning host.old) }
     ensures { IsBetween (shown B.meaning host.new) }
@@ -166,7 +166,7 @@ fn probes_of_full_tables(rt: HostRuntime) {
     same(&rt, "the last id", found, Some((352, 1)));
 }
 
-/// What a host of two Limit Checkers says after a write that failed, and after the step behind it.
+/// What a host of two Limit Checkers says after a write that failed, and after the step that follows.
 fn after_a_fault<B: App>(host: &mut Host<B>) -> [(Option<u64>, bool, usize); 2]
     requires { IsBetween (shown B.meaning host.old) }
     ensures { IsBetween (shown B.meaning host.new) }

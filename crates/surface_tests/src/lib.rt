@@ -1,5 +1,5 @@
-//! The public interface as it was asked for: each call, variant, field and number by its name, in the crate that has it. That the
-//! calls do what they should is said by their contracts; here they are called, at the limits of the services too.
+//! The public interface as it was asked for: each call, variant, field and number by its name, in the crate that has it.
+//! Contracts say that the calls do what they should; here the calls are made, also at the limits of the services.
 #![tactic(auto)]
 
 #[cfg(test)]

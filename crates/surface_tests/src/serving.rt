@@ -18,7 +18,7 @@ fn telemetry(mid: u16) -> [u8; 16] {
     [high, low, 0xC0, 0, 0, 9, 0, 0, 0, 0, 0, 0, 0, 0, 0, 0]
 }
 
-/// Publishes a packet so many times.
+/// Publishes a packet `count` times.
 fn publish_often(bus: &mut Bus, packet: &[u8], count: u32) -> Result<(), BusError> {
     for _ in 0..count {
         bus.publish(packet)?;
@@ -37,7 +37,7 @@ fn add_pipes(bus: &mut Bus, all: u16) -> Result<(), BusError> {
     Ok(())
 }
 
-/// Each of the first so many seats receives one packet of 16 bytes.
+/// Each of the first `seats` seats receives one packet of 16 bytes.
 fn receive_each<R: Abort>(rt: &R, bus: &mut Bus, seats: u8) {
     let mut room = [0; 2048];
     for number in 0..seats.min(8) {
@@ -91,7 +91,7 @@ fn a_full_pipe(rt: HostRuntime) {
     same(&rt, "its slot is free", bus.free(), 504);
 }
 
-/// The message ids from 0xFF00 on, so many of them.
+/// Subscribes the seat to `count` message ids, from 0xFF00 on.
 fn subscribe_to(bus: &mut Bus, seat: Seat, count: u16) -> Result<(), BusError> {
     for number in 0..count.min(256) {
         bus.subscribe(seat, 0xFF00 | number)?;
@@ -139,7 +139,7 @@ fn pipes_and_subscriptions(rt: HostRuntime) {
     );
 }
 
-/// Filters of so many ids of `LC`.
+/// Sets filters of `count` ids of `LC`.
 fn set_filters(events: &mut Events, count: u16) -> Result<(), EventError> {
     for id in 0..count {
         events.set_filter(b"LC", id, 0xFFFF)?;
@@ -175,7 +175,7 @@ fn senders_and_filters(rt: HostRuntime) {
     same(&rt, "its end", events.unregister(seat), Ok(()));
 }
 
-/// The bytes that a packet has, or none.
+/// The length of a packet in bytes, if there is one.
 fn size_of_packet(packet: &Option<EventPacket>) -> Option<usize> {
     packet.as_ref().map(|packet| packet.as_bytes().len())
 }

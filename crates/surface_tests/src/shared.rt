@@ -1,4 +1,4 @@
-//! A claim of a test: it ends the test where it doesn't hold, and says of what.
+//! An assertion that the tests share; a failed one ends its test and says what is wrong.
 
 use std::fmt::Debug;
 use std::process::Abort;

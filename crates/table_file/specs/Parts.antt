@@ -17,6 +17,6 @@ abbrev pub file_header : List ℕ
 file_header =
     u32 content_type ++ u32 subtype ++ u32 file_header_length ++ u32 66 ++ u32 1 ++ u32 0 ++ u32 0 ++ u32 0 ++ replicate 32 0
 
--- the table header that is written, for an image of so many bytes
+-- the table header that is written, for an image of this many bytes
 abbrev pub table_header : Kind → ℕ → List ℕ
 table_header kind size = u32 0 ++ u32 0 ++ u32 size ++ zero_filled 40 (table_name kind)

@@ -58,7 +58,7 @@ impl<'a> ActionpointEntry<'a> {
         self.bytes[0]
     }
 
-    /// The state that the actionpoint begins in; active where its number is none's.
+    /// The state that the actionpoint begins in; active where no state has the number.
     pub fn mode(&self) -> ApMode
         ensures { result ≡ state_of_code (state_field self.now) }
     {
@@ -101,14 +101,14 @@ impl<'a> ActionpointEntry<'a> {
         u16_at(self.bytes, 10)
     }
 
-    /// The event type; debug where its number is none's.
+    /// The event type; debug where no type has the number.
     pub fn event_kind(&self) -> EventKind
         ensures { result ≡ event_of_code (event_type_field self.now) }
     {
         event_kind_of(u16_at(self.bytes, 10))
     }
 
-    /// The id of the event that a sequence's request goes with.
+    /// The id of the event that comes with the sequence request.
     pub fn event_id(&self) -> u16
         ensures { result ≡ event_id_field self.now }
     {
@@ -136,7 +136,7 @@ impl<'a> ActionpointEntry<'a> {
         (self.bytes.len() - EQUATION_AT) / 2
     }
 
-    /// Word `number` of the equation's.
+    /// Word `number` of the equation, counted from 0.
     pub fn word(&self, number: usize) -> u16
         requires { number < length (all_words self.now) }
         ensures { result ≡ slice_index (all_words self.now) number }

@@ -1,4 +1,5 @@
-//! Comparisons, states and event types by the numbers of a table's entries, of which some are none's (this project's own).
+//! Comparisons, states and event types by the numbers in a table's entries, with a default for a number that none has (this
+//! project's own).
 
 ghost use Rattle.std.specs.Prelude.{◌≡◌};
 ghost use Rattle.lc_model.specs.Tables.Spelled.{operator_of_code, state_of_code, event_of_code};

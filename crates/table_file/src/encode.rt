@@ -156,8 +156,8 @@ fn push_actionpoints(
     Ok(())
 }
 
-/// The image of a table of watchpoints, 4,264 bytes. Of at most 176 watchpoints each number fits 32 bits, with a sign
-/// where its type has one; it need not be one of its type.
+/// The image of a table of watchpoints, 4,264 bytes. Conditions: at most 176 watchpoints, each with a comparison's number that
+/// fits 32 bits, with a sign where its type has one; it need not be in the type's range.
 ///
 /// Errors: `Memory` alone.
 pub fn encode_wdt(alloc: Global, image: &WdtImage) -> Result<Vec<u8>, FileError>
@@ -178,9 +178,9 @@ pub fn encode_wdt(alloc: Global, image: &WdtImage) -> Result<Vec<u8>, FileError>
     Ok(out)
 }
 
-/// The image of a table of actionpoints: 15,176 bytes of version 1, or 19,400 of version 2. Of at most 176 entries each has
-/// at most 31 bytes of text, none of them zero, and at most 19 words in version 1, or 31 in version 2, whatever they are.
-/// A word EQUAL ends what is read of an equation.
+/// The image of a table of actionpoints: 15,176 bytes of version 1, or 19,400 of version 2. Conditions: at most 176 entries,
+/// each with at most 31 bytes of text, none of them zero, and at most 19 words in version 1, or 31 in version 2, of any values.
+/// Readers take the first EQUAL for an equation's end.
 ///
 /// Errors: `Memory` alone.
 pub fn encode_adt(alloc: Global, image: &AdtImage) -> Result<Vec<u8>, FileError>

@@ -1,4 +1,4 @@
-//! The entries of an image, one behind another.
+//! The entries of an image, one after another.
 
 ghost use Rattle.std.specs.Prelude.{◌≡◌, ◌<◌, ◌==◌, length, bytes_eq};
 ghost use Rattle.std.specs.List.{list_all};
@@ -20,7 +20,7 @@ pub fn entry_bytes(layout: Layout, image: &[u8], number: usize) -> &[u8]
     &image[start..start + length]
 }
 
-/// Whether all bytes are zero, as they are behind a text and in an entry that isn't used. All are read, so that several are
+/// Whether all bytes are zero, as they are after a text and in an entry that isn't used. All are read, so that several are
 /// compared at once.
 pub fn are_zeros(bytes: &[u8]) -> bool
     ensures { result ≡ list_all (λ b. b == 0) bytes.now }

@@ -7,7 +7,7 @@ ghost use Rattle.table_file.specs.declared.error.FileError.TheVariants.{Memory};
 use std::alloc::AllocError;
 use thiserror::Error;
 
-/// The first fault of a file's headers, or want of memory for what is written.
+/// The first fault of a file's headers, or lack of memory for what is written.
 #[derive(Clone, Copy, Debug, PartialEq, Eq, Error)]
 pub enum FileError {
     /// Fewer bytes than the two headers have.
@@ -25,7 +25,7 @@ pub enum FileError {
     /// The image doesn't begin at the table's first byte.
     #[error("a part of a table")]
     PartialLoad,
-    /// Another number of bytes than stand behind the headers.
+    /// The number of bytes after the headers is not the one that they say.
     #[error("the image has another length than its header says")]
     SizeMismatch,
     /// No memory for the bytes that are written.
@@ -42,7 +42,7 @@ impl From<AllocError> for FileError {
 }
 
 impl FileError {
-    /// The fault's number, 51 to 56. Want of memory has none, since the file isn't at fault.
+    /// The fault's number, 51 to 56. `Memory` has none, since the file isn't at fault.
     pub fn code(self) -> Option<u8>
         ensures { result ≡ error_code self }
     {

@@ -135,7 +135,7 @@ impl<'a> TableFile<'a> {
     pub fn offset(&self) -> u32
         ensures { result ≡ offset_in (file_bytes self.now) }
     {
-        // Where the field stands depends on the description's size, which is known by the invariant: a use of a field brings it.
+        // For the proof: the field's place depends on the description's size, which the invariant says; reading a field brings it in.
         let _ = &self.description;
         0
     }
@@ -205,11 +205,11 @@ fn read_headers(bytes: &[u8]) -> Result<TableFile<'_>, FileError>
     })
 }
 
-/// Opens a table file. The fields are those at their places; the image is the slice behind the headers.
+/// Opens a table file. The fields are those at their places; the image is the slice after the headers.
 ///
 /// Errors: the first fault of the headers, in the order of `FileError`; never `Memory`.
 pub fn open(bytes: &[u8]) -> Result<TableFile<'_>, FileError>
-    // Each file has the answer that it means.
+    // The result is the one that the definitions give for the file.
     ensures exact { Answers result (opened bytes.now) }
     // What is opened is spelled so, byte for byte.
     ensures spelled { IfOk result (λ file. IsTableFile file × (bytes.now ≡ file_bytes file)) }

@@ -17,7 +17,7 @@ pub struct WdtImage {
     pub watchpoints: Vec<Term>,
 }
 
-/// The version of a table of actionpoints, by which its equations have room.
+/// The version of a table of actionpoints, which decides how many words its equations have.
 #[derive(Clone, Copy, Debug, PartialEq, Eq)]
 pub enum AdtVersion {
     /// Version 1: 20 words, in an image of 15,176 bytes.
@@ -47,7 +47,7 @@ impl AdtVersion {
         }
     }
 
-    /// The version with a number: none but for 1 and 2.
+    /// The version with this number, 1 or 2; `None` for any other.
     pub fn numbered(number: u16) -> Option<AdtVersion>
         ensures version { result ≡ version_numbered number }
         ensures number { IfSome result (λ version. number_of version ≡ number) }
@@ -63,6 +63,7 @@ impl AdtVersion {
 /// A table of actionpoints.
 #[derive(Debug, Drop)]
 pub struct AdtImage {
+    /// Decides the layout of the image.
     pub version: AdtVersion,
     /// The SHA-256 of the rule text.
     pub hash: [u8; 32],
@@ -72,17 +73,20 @@ pub struct AdtImage {
     pub actionpoints: Vec<TableEntry>,
 }
 
-/// An actionpoint as its table says it.
+/// An actionpoint, as in a table's entry.
 #[derive(Debug, Drop)]
 pub struct TableEntry {
     /// The state that the actionpoint begins in.
     pub mode: ApMode,
+    /// The most events for a failure while passive, and for turns from pass to fail and from fail to pass.
     pub report: ReportMaxima,
     /// The number of the requested command sequence.
     pub sequence: u16,
     /// Failures in a row that lead to the sequence request.
     pub fails: u16,
+    /// The type of the event at the sequence request.
     pub event_kind: EventKind,
+    /// The id of that event.
     pub event_id: u16,
     /// The event's text: at most 31 bytes, none of them zero.
     pub text: Bytes,

@@ -10,7 +10,7 @@ use lc_model::Kind;
 /// The bytes before an image's entries.
 pub const PREAMBLE_LENGTH: usize = 40;
 
-/// The form of an image: all that differs between the tables is said here.
+/// The form of an image: all that differs between the tables.
 #[derive(Clone, Copy, Debug, PartialEq, Eq)]
 pub enum Layout {
     /// Watchpoints, in entries of 24 bytes.
@@ -42,7 +42,7 @@ impl Layout {
         }
     }
 
-    /// The words of each equation, EQUAL and what is behind it among them.
+    /// The number of words of each equation, EQUAL and the zeros after it among them.
     pub fn words(self) -> usize
         ensures { result ≡ model.words_in (layout_of self) }
     {
@@ -75,7 +75,7 @@ impl Layout {
         }
     }
 
-    /// This layout, where its images have this length.
+    /// This layout if its images have this length.
     fn of_length(self, length: usize) -> Option<Layout>
         ensures { result ≡
             (if model.image_length (layout_of self) == length then Some self else None) }

@@ -1,4 +1,4 @@
-//! The fields in front of an image's entries. Each of these wants an image of 40 bytes at least.
+//! The fields in front of an image's entries. Condition of each: an image of at least 40 bytes.
 
 ghost use Rattle.std.specs.Prelude.{◌≡◌, ◌≤◌, length};
 ghost use Rattle.lc_model.specs.Bytes.{u16_at};

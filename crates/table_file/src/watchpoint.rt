@@ -60,7 +60,7 @@ impl<'a> WatchpointEntry<'a> {
         self.bytes[0]
     }
 
-    /// The field's type, where its number is one's.
+    /// The field's type; `None` where no type has the number.
     pub fn field_type(&self) -> Option<FieldType>
         ensures { result ≡ type_of_code (type_field self.now) }
     {
@@ -74,7 +74,7 @@ impl<'a> WatchpointEntry<'a> {
         self.bytes[1]
     }
 
-    /// The comparison; `<` where its number is none's.
+    /// The comparison; `<` where none has the number.
     pub fn operator(&self) -> CmpOp
         ensures { result ≡ operator_of_code (operator_field self.now) }
     {
@@ -102,7 +102,7 @@ impl<'a> WatchpointEntry<'a> {
         u32_at(self.bytes, 8)
     }
 
-    /// What is to be 0.
+    /// The field that is 0 in a sound entry.
     pub fn zero_field(&self) -> u32
         ensures { result ≡ zero_field self.now }
     {
@@ -130,8 +130,8 @@ impl<'a> WatchpointEntry<'a> {
         value_of(kind, self.value_bits())
     }
 
-    /// The watchpoint that a sound entry says. Of another one the type is `u8` and the comparison `<` where they have no
-    /// number of one.
+    /// The watchpoint in an entry. In an entry that is not sound, an unknown type is read as `u8` and an unknown comparison
+    /// as `<`.
     pub fn term(&self) -> Term
         ensures { result ≡ spelled_term self.now }
     {

@@ -40,7 +40,7 @@ fn push_file_header(out: &mut Vec<u8>) -> Result<(), AllocError>
     Ok(())
 }
 
-/// The table header, for an image of so many bytes.
+/// The table header, for an image of this many bytes.
 fn push_table_header(out: &mut Vec<u8>, kind: Kind, length: u32) -> Result<(), AllocError>
     ensures { OnOk result (out.new.items ≡ out.old.items ++ table_header kind length) }
 {

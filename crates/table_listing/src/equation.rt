@@ -9,8 +9,11 @@ use std::fmt::{self, Display, Formatter, Write};
 /// An operator between two operands; it displays as its word.
 #[derive(Clone, Copy, Debug, PartialEq, Eq)]
 pub enum Operator {
+    /// `and`.
     And,
+    /// `or`.
     Or,
+    /// `xor`.
     Xor,
 }
 

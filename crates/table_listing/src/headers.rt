@@ -29,10 +29,15 @@ fn text_in(field: &[u8]) -> &[u8]
 /// `file: content type 0x63464531 subtype 8 spacecraft 66 processor 1 application 0 seconds 0 subseconds 0`.
 #[derive(Clone, Copy)]
 pub struct FileLine {
+    /// The spacecraft id.
     pub spacecraft: u32,
+    /// The processor id.
     pub processor: u32,
+    /// The application id.
     pub application: u32,
+    /// The time of the file in seconds.
     pub seconds: u32,
+    /// The part of a second of that time, as the header has it.
     pub subseconds: u32,
 }
 

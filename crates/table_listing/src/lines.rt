@@ -48,12 +48,17 @@ pub struct ActionpointLine<'a> {
     pub number: u16,
     /// The state in which it begins.
     pub mode: ApMode,
+    /// The number of fails in a row after which it requests its sequence.
     pub fails: u16,
+    /// The number of the sequence that it requests.
     pub sequence: u16,
+    /// The type of its event.
     pub event_kind: EventKind,
+    /// The id of its event.
     pub event_id: u16,
     /// The event's text without the zeros after it.
     pub text: &'a [u8],
+    /// How many events of each kind it sends at most.
     pub report: ReportMaxima,
     /// The condition that the entry's words spell.
     pub condition: &'a Equation,

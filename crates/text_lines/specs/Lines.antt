@@ -7,7 +7,7 @@ use Rattle.lc_model.specs.Host.ScheduleText.{lines_of, words_of}
 abbrev pub is_feed : ℕ → Bool
 is_feed byte = byte == 10
 
--- space, tab and carriage return part words
+-- space, tab and carriage return separate words
 abbrev pub is_blank : ℕ → Bool
 is_blank byte = byte == 32 || byte == 9 || byte == 13
 

@@ -40,7 +40,7 @@ impl Model for Scheduler {
 }
 
 impl Scheduler {
-    /// A scheduler in front of its first tick, with a copy of the schedule, on no seat. Out of memory is the only error.
+    /// Creates a scheduler before its first tick, with a copy of the schedule, on no seat. Out of memory is the only error.
     pub fn new(alloc: Global, schedule: &Schedule) -> Result<Scheduler, AllocError>
         ensures { IfOk result
             (λ scheduler. scheduler ≡ record { schedule = schedule.now; slot = 0; seat = None }) }
@@ -54,7 +54,7 @@ impl Scheduler {
         })
     }
 
-    /// The next tick is the first again.
+    /// Makes the next tick the first one again.
     pub fn begin(&mut self)
         ensures { self.new ≡ record self.old { slot = 0 } }
     {
@@ -68,7 +68,7 @@ impl Scheduler {
         let slots = self.schedule.len();
     }
 
-    /// What the next tick publishes, entry by entry: `write_packet` gives the packet of each.
+    /// The entries that the next tick publishes; `write_packet` gives the packet of each.
     pub fn entries(&self) -> &[Entry]
         ensures packets { map entry_packet (entries_of result.now) ≡
             (next_tick self.now.schedule self.now.slot).1 }
@@ -78,7 +78,7 @@ impl Scheduler {
         self.schedule.entries(self.slot)
     }
 
-    /// The next tick is that of the slot behind, or of the first behind the last.
+    /// Moves on to the tick of the next slot, or from the last slot to the first.
     pub fn move_on(&mut self)
         ensures { self.new ≡
             record self.old { slot = (next_tick self.old.schedule self.old.slot).0 } }

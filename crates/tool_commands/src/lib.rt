@@ -58,10 +58,15 @@ pub fn obey<'a, R: Files + Eprint + AllocGlobal, I: Read + Drop, W: Write>(
             watchpoints,
             out,
         ),
-        CommandPlan::Stream { file, whole, rows } => file_commands::stream(
-            rt, file, whole, rows, out,
-        ),
-        CommandPlan::Packets { file, rows } => file_commands::packets(rt, file, rows, out),
+        CommandPlan::Stream {
+            file,
+            rules,
+            whole,
+            rows,
+        } => file_commands::stream(rt, file, rules.as_slice(), whole, rows, out),
+        CommandPlan::Packets { file, rules, rows } => {
+            file_commands::packets(rt, file, rules.as_slice(), rows, out)
+        }
         CommandPlan::Scenario {
             script,
             stream,

@@ -1,4 +1,4 @@
--- Which fault each failure is. This project's own.
+-- The fault for each failure. This project's own.
 use Rattle.std.specs.Prelude.{◌≡◌, ⊤, codes, List, ℕ, Option, Some, None, Result, Ok, Err}
 use Rattle.std.specs.Borrow.{Bor}
 use Rattle.std.specs.IoError.{error_kind}
@@ -21,60 +21,60 @@ use Rattle.analysis_listing.specs.declared.error.ListingError.TheVariants as jud
 use Rattle.tool_faults.specs.declared.fault.Fault.{Fault}
 use Rattle.tool_faults.specs.declared.fault.Fault.TheVariants as fault
 
--- want of memory is one fault, wherever it arose
+-- the fault for a file; out of memory is one fault, whatever ran out
 abbrev pub fault_of_file : FileError → Fault
 fault_of_file file.Memory = fault.Memory
 fault_of_file (file.Unusable name why) = fault.File name why
 
--- of words that the system doesn't have
+-- the fault for the words of a command line that can't be read
 abbrev pub fault_of_arguments : ArgumentsError → Fault
 fault_of_arguments arguments.Memory = fault.Memory
 fault_of_arguments arguments.NoText = fault.NoText
 
--- what is said of a text is the fault, or there was no memory for it
+-- the fault has a message about a text, or there was no memory for it
 abbrev pub IsToldFault : Fault → Type 0
 IsToldFault (fault.Lines page) = ⊤
 IsToldFault fault.Memory = ⊤
 IsToldFault other = ⊥
 
--- of a schedule or a script that is refused
+-- the fault for a refused schedule or script
 abbrev pub IsOfRefusal : Refusal → Fault → Type 0
 IsOfRefusal refusal.Memory found = found ≡ fault.Memory
 IsOfRefusal (refusal.Told message) found = IsToldFault found
 
--- of a script that is refused
+-- the fault for a refused script
 abbrev pub IsOfScript : ScriptError → Fault → Type 0
 IsOfScript script.Memory found = found ≡ fault.Memory
 IsOfScript (script.Line n reason) found = IsToldFault found
 
--- of what was judged into memory
+-- the fault for a judgement that was written to memory
 abbrev pub fault_of_judgement : Bor (List ℕ) → ListingError → Fault
 fault_of_judgement name judgement.Memory = fault.Memory
 fault_of_judgement name judgement.Write = fault.Memory
 fault_of_judgement name error = fault.Judgement name error
 
--- what has this name can't be used, for this reason
+-- the file or device with this name can't be used, for this reason
 abbrev pub IsUnusable : List ℕ → Why → Fault → Type 0
 IsUnusable of reason (fault.File name found) = (name.now ≡ of) × (found ≡ reason)
 IsUnusable of reason other = ⊥
 
--- standard input, by the kind of its error
+-- the fault for standard input, by the kind of its error
 abbrev pub IsOfInput : ErrorKind → Fault → Type 0
 IsOfInput kind.OutOfMemory found = found ≡ fault.Memory
 IsOfInput rest found = IsUnusable (codes "standard input") (why_of rest) found
 
--- standard output, by the kind of its error: where nobody reads any more the program ends quietly
+-- the fault for standard output, by the kind of its error: if its reader closed it, the command ends silently
 abbrev pub IsOfOutput : ErrorKind → Fault → Type 0
 IsOfOutput kind.OutOfMemory found = found ≡ fault.Memory
 IsOfOutput kind.BrokenPipe found = found ≡ fault.Gone
 IsOfOutput rest found = IsUnusable (codes "standard output") (why_of rest) found
 
--- the same where it may not have been noted
+-- the same if the kind may not be known
 abbrev pub IsOfWrite : Option ErrorKind → Fault → Type 0
 IsOfWrite (Some kind) found = IsOfOutput kind found
 IsOfWrite None found = IsUnusable (codes "standard output") why.Failed found
 
--- the same of what was listed
+-- the same for the result of a listing
 abbrev pub IsListed : Result (Unit {0}) Error → Result (Unit {0}) Fault → Type 0
 IsListed (Ok none) answer = answer ≡ Ok none
 IsListed (Err error) (Ok none) = ⊥

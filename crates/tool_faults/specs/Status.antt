@@ -1,11 +1,11 @@
--- The exit status that goes with each fault. This project's own.
+-- The exit status for each fault. This project's own.
 use Rattle.std.specs.Prelude.{ℕ, Result, Ok, Err}
 use Rattle.flight_core.specs.declared.error.RunError.{RunError}
 use Rattle.flight_core.specs.declared.error.RunError.TheVariants as run
 use Rattle.tool_faults.specs.declared.fault.Fault.{Fault}
 use Rattle.tool_faults.specs.declared.fault.Fault.TheVariants.{Words, NoText, Value, Table, Early, Stream, TextMissing, Packets, Lines, Rules, Differs, Unmet, Refused, Judgement, Warned, Run, File, Gone, Memory}
 
--- of a run that was stopped: a rule text that is refused, a device that failed, the stream, memory
+-- the status of a stopped run: a refused rule text, a failed device, the stream, or memory
 abbrev pub stopped : RunError → ℕ
 stopped (run.Compile text error) = 1
 stopped (run.BadRecord n) = 4
@@ -15,7 +15,8 @@ stopped (run.Write sent) = 3
 stopped run.ReadBound = 4
 stopped run.Memory = 5
 
--- what has a fault, is refused, or is warned of where nothing may be: 1; words that are no command: 2; files: 3; what ends early: 4; memory: 5; where nobody reads any more nothing is wrong
+-- 1 a fault, a refusal, or a warning in a strict command; 2 words that are not a command; 3 files and devices; 4 an early end, or a
+-- text that isn't given; 5 memory; 0 if the reader of the output closed it
 abbrev pub status_of : Fault → ℕ
 status_of (Words error) = 2
 status_of NoText = 2
@@ -37,7 +38,7 @@ status_of (File name why) = 3
 status_of Gone = 0
 status_of Memory = 5
 
--- the status of an answer
+-- the status of a command's result
 abbrev pub status_by : Result (Unit {0}) Fault → ℕ
 status_by (Ok none) = 0
 status_by (Err fault) = status_of fault

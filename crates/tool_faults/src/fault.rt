@@ -1,4 +1,4 @@
-//! What ends the program with another status than 0, and the line that says so.
+//! The faults that end a command, each with its exit status and its text for standard error.
 
 ghost use Rattle.std.specs.Prelude.{◌≡◌};
 ghost use Rattle.tool_faults.specs.Cause.{fault_of_arguments, fault_of_file};
@@ -12,46 +12,46 @@ use rpn_compiler::CompileError;
 use std::alloc::{AllocError, AllocFailed};
 use std::fmt::{self, Display, Formatter, Write};
 
-/// Why the program ended.
+/// Why a command ended early or with another status than 0.
 #[derive(Debug, Drop)]
 pub enum Fault<'a> {
-    /// What `clap` says of words that are no command.
+    /// The words are not a command, with `clap`'s error.
     Words(Error),
-    /// A word that is no text.
+    /// A word of the command line is not UTF-8.
     NoText,
-    /// The word of an option that is none of its values.
+    /// An option, and its word, which is not one of its values.
     Value(&'a str, &'a str),
-    /// A table file with a fault, which its listing says.
+    /// A table file has a fault. The listing reports it.
     Table,
-    /// A stream or packets that end early, which the listing says.
+    /// A stream, packets or an archive end early. The output reports it.
     Early,
-    /// A stream that ends early, by its file's name, and where.
+    /// The stream in a file with this name ends early, with the reason and the place.
     Stream(&'a str, RunError),
-    /// A stream that brings a rule text which isn't given, by its file's name, and the numbers of the record and the text.
+    /// A stream brings a rule text that isn't given: the stream's file name, the record's number from 1, and the text's number.
     TextMissing(&'a str, u64, usize),
-    /// Packets that end early, by their file's name: behind how many, and how many bytes are no whole packet.
+    /// Packets end early: their file's name, the number of whole packets, and the number of bytes after them.
     Packets(&'a str, u64, usize),
-    /// A schedule or a script that is refused, and what is said of it.
+    /// A schedule or a script is refused, with the printed message.
     Lines(String),
-    /// A rule text that is refused, by its file's name.
+    /// The rule text in a file with this name is refused.
     Rules(&'a str, CompileError),
-    /// What came of two rule texts differs, which the listing says.
+    /// The runs of two rule texts differ. The listing reports it.
     Differs,
-    /// Expectations that aren't met, which the listing says.
+    /// Expectations are not met. The listing reports them.
     Unmet,
-    /// A rule text that is refused, which the listing says.
+    /// A rule text or a schedule is refused. The output already reports it.
     Refused,
-    /// Rules or tables that can't be judged, by their file's name.
+    /// The rules or tables in a file with this name can't be judged.
     Judgement(&'a str, analysis_listing::ListingError),
-    /// Warnings, which the listing says, where there may be none.
+    /// There are warnings, and the command is strict. They are already reported.
     Warned,
-    /// A run that was stopped.
+    /// A run was stopped.
     Run(RunError),
-    /// A file can't be opened, read or written, or standard output can't, and why.
+    /// A file, standard input or standard output can't be opened, read or written, with its name and the reason.
     File(&'a str, Why),
-    /// Nobody reads standard output any more.
+    /// The reader of standard output closed it. The command ends silently, with status 0.
     Gone,
-    /// No memory.
+    /// Out of memory.
     Memory,
 }
 
@@ -93,7 +93,8 @@ impl From<ArgumentsError> for Fault<'_> {
     }
 }
 
-/// The status of a run that was stopped: 1 a rule text is refused, 3 a device failed, 4 the stream, 5 no memory.
+/// The exit status of a stopped run: 1 a rule text is refused; 3 a device failed; 4 the stream is cut, has a bad record, or is over the
+/// bound of reads; 5 out of memory.
 fn status_of_run(error: RunError) -> u8
     ensures { result ≡ stopped error }
 {
@@ -106,9 +107,10 @@ fn status_of_run(error: RunError) -> u8
 }
 
 impl Fault<'_> {
-    /// The exit status: 0 nobody reads any more; 1 a table file has a fault, a script, a schedule or a rule text is refused, there
-    /// are warnings, runs differ, or expectations aren't met; 2 the words are no command; 3 a file or a device; 4 a stream or
-    /// packets end early; 5 no memory.
+    /// The exit status: 0 the reader of the output closed it; 1 a table file has a fault, a script, a schedule or a rule text is
+    /// refused, rules or tables can't be judged, a strict command has warnings, runs differ, or expectations aren't met; 2 the
+    /// words are not a command; 3 a file or a device; 4 a stream or packets end early, or a stream brings a text that isn't given;
+    /// 5 out of memory.
     pub fn status(&self) -> u8
         ensures { result ≡ status_of self.now }
     {
@@ -127,12 +129,22 @@ impl Fault<'_> {
     }
 }
 
+/// What to write for an option whose value is refused.
+fn value_advice(option: &str) -> &'static str {
+    match option {
+        "--epoch" => "write an instant, as 2000-01-01T12:00:00Z",
+        "--csv" => "one of the two, not both",
+        "--only" => "write message ids, as 0x0883,0x0884",
+        _ => "no such value",
+    }
+}
+
 impl Display for Fault<'_> {
     fn fmt<W: Write>(&self, f: &mut Formatter<W>) -> fmt::Result {
         match self {
             Fault::Words(error) => write!(f, "{error}"),
             Fault::NoText => writeln!(f, "a word of the command line is no text (UTF-8)"),
-            Fault::Value(option, word) => writeln!(f, "{option} {word}: no such value"),
+            Fault::Value(option, word) => writeln!(f, "{option} {word}: {}", value_advice(option)),
             Fault::Table | Fault::Early | Fault::Gone | Fault::Refused | Fault::Warned => Ok(()),
             Fault::Differs | Fault::Unmet => Ok(()),
             Fault::Lines(page) => write!(f, "{page}"),

@@ -1,4 +1,4 @@
-//! What a run is given: a schedule and rule texts, from files.
+//! The inputs of a run from files: a schedule and rule texts.
 
 use crate::fault::Fault;
 use crate::files::read_whole_text;
@@ -8,7 +8,7 @@ use schedules::Schedule;
 use script_errors::read_schedule;
 use std::fs::Files;
 
-/// The schedule that a file's text is.
+/// Reads a schedule from the text of a file with this name. Errors: `Lines` with the message; `Memory`.
 pub fn schedule_of<'a, R: AllocGlobal>(
     rt: &R,
     name: &'a str,
@@ -20,7 +20,7 @@ pub fn schedule_of<'a, R: AllocGlobal>(
     }
 }
 
-/// The schedule in a file.
+/// Reads the schedule in a file. Errors: `File`; `Lines` with the message; `Memory`.
 pub fn schedule_in<'a, R: Files + AllocGlobal>(
     rt: &R,
     name: &'a str,
@@ -29,7 +29,7 @@ pub fn schedule_in<'a, R: Files + AllocGlobal>(
     schedule_of(rt, name, text.as_slice())
 }
 
-/// The texts in these files.
+/// Reads the rule texts in these files, each as `read_text` does.
 pub fn texts_in<'a, R: Files + AllocGlobal>(
     rt: &R,
     names: &[&'a str],

@@ -1,5 +1,5 @@
-//! What ends a command: the fault, with its exit status and its line; and the files, texts and standard output whose faults
-//! these are.
+//! The faults that end a command, each with its exit status and its text; and access to the files, rule texts and standard
+//! output that cause them.
 #![tactic(auto)]
 
 mod epoch;
@@ -7,6 +7,7 @@ mod fault;
 mod files;
 mod given;
 mod output;
+mod rule_texts;
 mod telling;
 
 pub use crate::epoch::epoch_of;
@@ -16,6 +17,7 @@ pub use crate::files::{
 };
 pub use crate::given::{schedule_in, schedule_of, texts_in};
 pub use crate::output::{input_fault, listing_result, output_fault, written_fault};
+pub use crate::rule_texts::{rule_text_of, rule_texts_of};
 pub use crate::telling::{
     MOST_WARNINGS, alone, expectation_fault, judgement_fault, line_fault, line_mark, refusal_fault,
     scenario_fault, script_fault, write_messages, write_warnings,

@@ -1,4 +1,4 @@
-//! Standard input and standard output, and how they fail.
+//! The faults of standard input and standard output.
 
 ghost use Rattle.tool_faults.specs.Cause.{IsListed, IsOfInput, IsOfOutput, IsOfWrite};
 
@@ -6,7 +6,7 @@ use crate::fault::Fault;
 use program_io::{STANDARD_INPUT, STANDARD_OUTPUT, Why, reason_for};
 use std::io::{self, ErrorKind};
 
-/// Of an error of standard input.
+/// The fault for an error of standard input.
 pub fn input_fault(kind: ErrorKind) -> Fault<'static>
     ensures { IsOfInput kind result }
 {
@@ -16,7 +16,7 @@ pub fn input_fault(kind: ErrorKind) -> Fault<'static>
     }
 }
 
-/// Of an error of standard output: where nobody reads any more the program ends quietly.
+/// The fault for an error of standard output: `Gone` if its reader closed it.
 pub fn output_fault(kind: ErrorKind) -> Fault<'static>
     ensures { IsOfOutput kind result }
 {
@@ -27,7 +27,7 @@ pub fn output_fault(kind: ErrorKind) -> Fault<'static>
     }
 }
 
-/// Of a write to standard output that failed by this kind of error, if one was noted.
+/// The fault for a failed write to standard output, with this kind of error if it is known.
 pub fn written_fault(kind: Option<ErrorKind>) -> Fault<'static>
     ensures { IsOfWrite kind result }
 {
@@ -37,7 +37,7 @@ pub fn written_fault(kind: Option<ErrorKind>) -> Fault<'static>
     }
 }
 
-/// What a listing that was written to standard output leaves: nothing, or why it wasn't taken, as `output_fault` says it.
+/// The result of a write to standard output, with an error as `output_fault` maps it.
 pub fn listing_result(written: io::Result<()>) -> Result<(), Fault<'static>>
     ensures { IsListed written result }
 {

@@ -1,4 +1,4 @@
-//! What is said of texts, and of those that are refused.
+//! Messages and warnings about texts, and the faults of refused texts.
 
 ghost use Rattle.std.specs.Prelude.{◌≡◌};
 ghost use Rattle.tool_faults.specs.Cause.{IsOfRefusal, IsOfScript, IsToldFault, fault_of_judgement};
@@ -16,20 +16,20 @@ use std::fmt::Display;
 use std::io::Write;
 use stream_script::ScriptError;
 
-/// This message alone.
+/// A list of this message only. Error: out of memory.
 pub fn alone(alloc: Global, message: Message) -> Result<Vec<Message>, AllocError> {
     let mut told = Vec::new(alloc);
     told.push(message)?;
     Ok(told)
 }
 
-/// What is said of a text in a file of this name, as it is printed.
+/// A message about the text in a file with this name, as it is printed.
 fn page(alloc: Global, name: &str, text: &[u8], message: Message) -> Result<String, AllocError> {
     let told = alone(alloc, message)?;
     page_of(alloc, name, text, told.as_slice())
 }
 
-/// The fault of a text in a file of this name of which this is said.
+/// The fault for the text in a file with this name, with this message: `Lines`, or `Memory`.
 fn told_fault(alloc: Global, name: &str, text: &[u8], message: Message) -> Fault<'static>
     ensures { IsToldFault result }
 {
@@ -39,7 +39,7 @@ fn told_fault(alloc: Global, name: &str, text: &[u8], message: Message) -> Fault
     }
 }
 
-/// The place of a line with this number, from its first word to its last; of a number that no line has, the text's end.
+/// The place of the line with this number, from 1, without blanks at its ends; the text's end if no line has the number.
 pub fn line_mark(alloc: Global, text: &[u8], number: usize) -> Mark {
     let mut at = 0usize;
     for (place, line) in text.split(|byte| *byte == b'\n').enumerate() {
@@ -60,7 +60,8 @@ pub fn line_mark(alloc: Global, text: &[u8], number: usize) -> Mark {
     }
 }
 
-/// The fault of a line, by its number, of a text in a file of this name, with the fault's own number and what it says.
+/// The fault for a line, by its number from 1, of the text in a file with this name. The message has the number `code` and the
+/// sentence of `error`.
 pub fn line_fault<E: Display>(
     alloc: Global,
     name: &str,
@@ -80,7 +81,7 @@ pub fn line_fault<E: Display>(
     }
 }
 
-/// The fault of a text in a file of this name of which this is said, if there was memory for it.
+/// The fault for the text in a file with this name, with this message: `Lines`; `Memory` if there is none.
 fn message_fault(
     alloc: Global,
     name: &str,
@@ -95,7 +96,7 @@ fn message_fault(
     }
 }
 
-/// The fault of a script in a file of this name, at a line of the text that says it, where rule texts declare these names.
+/// The fault for the script in a file with this name that is refused with this error. The names are those that rule texts declare.
 pub fn script_fault(
     alloc: Global,
     name: &str,
@@ -115,7 +116,8 @@ pub fn script_fault(
     }
 }
 
-/// The fault of a line, by its number, of a scenario in a file of this name, where rule texts declare these names.
+/// The fault for a line, by its number from 1, of the scenario in a file with this name, refused for this reason. The names are
+/// those that rule texts declare.
 pub fn scenario_fault(
     alloc: Global,
     name: &str,
@@ -134,14 +136,14 @@ pub fn scenario_fault(
     )
 }
 
-/// The fault of a line, by its number, of a scenario in a file of this name, which says no expectation.
+/// The fault for a line, by its number from 1, of the scenario in a file with this name that has an invalid expectation.
 pub fn expectation_fault(alloc: Global, name: &str, text: &[u8], number: usize) -> Fault<'static>
     ensures { IsToldFault result }
 {
     message_fault(alloc, name, text, expectation_message(alloc, text, number))
 }
 
-/// The fault of a schedule in a file of this name that is refused so.
+/// The fault for the schedule in a file with this name, with this refusal.
 pub fn refusal_fault(alloc: Global, name: &str, text: &[u8], refusal: Refusal) -> Fault<'static>
     ensures { IsOfRefusal refusal result }
 {
@@ -151,8 +153,8 @@ pub fn refusal_fault(alloc: Global, name: &str, text: &[u8], refusal: Refusal) -
     }
 }
 
-/// The fault of what couldn't be judged, in a file of this name. What is written goes into memory, so that a failed write is want
-/// of it.
+/// The fault for rules or tables in a file with this name that can't be judged. Judgements are written to memory, so a failed write
+/// means out of memory.
 pub fn judgement_fault(name: &str, error: ListingError) -> Fault<'_>
     ensures { result ≡ fault_of_judgement name.entry error }
 {
@@ -162,7 +164,7 @@ pub fn judgement_fault(name: &str, error: ListingError) -> Fault<'_>
     }
 }
 
-/// Writes messages of a text in a file of this name, each as an object.
+/// Writes messages about the text in a file with this name, each as a JSON object on a line.
 fn write_objects<'a, W: Write>(
     alloc: Global,
     name: &'a str,
@@ -177,7 +179,8 @@ fn write_objects<'a, W: Write>(
     listing_result(out.flush())
 }
 
-/// Writes messages of a text in a file of this name, as a page or each as an object.
+/// Writes messages about the text in a file with this name: as text, or each as a JSON object on a line. Errors: `File`, `Gone` or
+/// `Memory`.
 pub fn write_messages<'a, W: Write>(
     alloc: Global,
     name: &'a str,
@@ -194,10 +197,11 @@ pub fn write_messages<'a, W: Write>(
     listing_result(out.flush())
 }
 
-/// The most warnings of a text that are written on a page. All are counted, and each is an object.
+/// The most warnings of a text that are written as text. JSON objects and counts have all.
 pub const MOST_WARNINGS: usize = 100;
 
-/// Writes warnings of a text in a file of this name, the first hundred as a page, or each as an object.
+/// Writes warnings about the text in a file with this name: the first hundred as text, or all as JSON objects. Errors: `File`, `Gone`
+/// or `Memory`.
 pub fn write_warnings<'a, W: Write>(
     alloc: Global,
     name: &'a str,

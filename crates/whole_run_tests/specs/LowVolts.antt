@@ -27,7 +27,7 @@ abbrev pub HaveNoFiles : List StreamEntry → Type 0
 HaveNoFiles entries = (entry : StreamEntry) (name : Name) (bytes : List ℕ) → Contains entries entry → ¬ (entry.contents ≡ File name bytes)
 
 module _ (schedule : Schedule) (d : Devices) (stream before : List ℕ) where
-  -- exactly what the rules of the text call for over the stream is written behind what was there, and the answer says how its
+  -- exactly what the rules of the text call for over the stream is written after what was there, and the result says how its
   -- records end
   pub record FollowsItsText (ending : Ending) : Type 0 where
     pub rules : List NamedRule
@@ -35,8 +35,8 @@ module _ (schedule : Schedule) (d : Devices) (stream before : List ℕ) where
     pub gains : d.sink_after.gained ≡ Some (before ++ called_for layouts (record { source = low_volts_source; rules = rules } ∷ []) schedule names stream)
     pub answers : ending ≡ answer (records_of 1 stream) (length (called_for layouts (record { source = low_volts_source; rules = rules } ∷ []) schedule names stream))
 
-  -- to the end of its records; or a read or a write failed, so many reads were made, or memory was wanted. The text is not
-  -- refused.
+  -- to the end of its records; or a read or a write failed, the bound of reads was reached, or memory was lacking. The text is
+  -- not refused.
   abbrev pub EndsByItsText : Ending → Type 0
   EndsByItsText (Uncompiled number refusal) = ⊥
   EndsByItsText FailedToRead = ⊤
@@ -45,7 +45,7 @@ module _ (schedule : Schedule) (d : Devices) (stream before : List ℕ) where
   EndsByItsText NoMemory = ⊤
   EndsByItsText ending = FollowsItsText ending
 
--- so it is of every known stream without raw files
+-- this holds for every known stream without raw files
 abbrev pub WritesByItsText : Schedule → Devices → Ending → Type 0
 WritesByItsText schedule d ending = (stream before : List ℕ) → HaveNoFiles (records_of 1 stream).0 → d.source.rest ≡ Some stream → d.sink.gained ≡ Some before →
     EndsByItsText schedule d stream before ending

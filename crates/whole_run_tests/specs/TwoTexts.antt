@@ -52,7 +52,7 @@ manage code name = record_of 1 (command table_services_mid 0 code (zero_filled n
 abbrev pub order : ℕ → List ℕ
 order code = record_of 1 (command executive_services_mid 0 code (zero_filled app_name_size lc_name))
 
--- the Limit Checker judges the images that wait, adopts those that are activated, and tells how its rules stand
+-- the Limit Checker judges the images that wait, adopts those that are activated, and reports how its rules stand
 abbrev pub housekeeping : List ℕ
 housekeeping = record_of 1 (command lc_housekeeping_request_mid 0 0 [])
 
@@ -73,7 +73,7 @@ swapped =
     ++ manage 2 (codes "LC.LC_WDT") ++ manage 2 (codes "LC.LC_ADT") ++ housekeeping
     ++ manage 3 (codes "LC.LC_WDT") ++ manage 3 (codes "LC.LC_ADT") ++ housekeeping
 
--- under it 2,399 passes and 1,999 fails; and behind a reload 2,399 fails twice, under the first one
+-- under it 2,399 passes and 1,999 fails; and after a reload 2,399 fails twice, under the first one
 abbrev pub swaps_and_reload : List ℕ
 swaps_and_reload =
     first_in_force ++ swapped ++ voltage ++ sampling ++ lower_voltage ++ sampling ++ order 4 ++ voltage ++ sampling ++ sampling
@@ -94,8 +94,8 @@ pub record Texts : Type 0 where
 abbrev pub texts_of : Texts → List Text
 texts_of t = record { source = low_volts_source; rules = t.low } ∷ record { source = lower_volts_source; rules = t.lower } ∷ []
 
--- The run ends with all 23 records and exactly the bytes that the two texts call for, each while it is in force; or a device fails,
--- or memory is wanted. Two sequences are requested: that of the second text, and behind the reload that of the first.
+-- The run ends with all 23 records and exactly the bytes that the two texts call for, each while it is in force; or a device
+-- fails, or memory is lacking. Two sequences are requested: that of the second text, and after the reload that of the first.
 pub record WritesBoth (schedule : Schedule) (d : Devices) (ending : Ending) : Type 0 where
   pub texts : Texts
   pub ends : (before : List ℕ) → d.source.rest ≡ Some swaps_and_reload → d.sink.gained ≡ Some before →

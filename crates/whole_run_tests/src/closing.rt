@@ -11,12 +11,12 @@ use std::process::Abort;
 const START: &[u8] =
     b"\x01\0\0\0d\0\0\0\0\0\x1C\x18\x06\xC0\0\0\x15\x01\0COUNTER\0\0\0\0\0\0\0\0\0\0\0\0\0";
 
-/// The order, and behind it a record of kind 9.
+/// The order, and after it a record of kind 9.
 const START_AND_NO_RECORD: &[u8] =
     b"\x01\0\0\0d\0\0\0\0\0\x1C\x18\x06\xC0\0\0\x15\x01\0COUNTER\0\0\0\0\0\0\0\0\0\0\0\0\0\
 \x09\0\0\0d\0\0\0\0\0\0";
 
-/// The order, and behind it the first two bytes of a record.
+/// The order, and after it the first two bytes of a record.
 const START_AND_CUT: &[u8] =
     b"\x01\0\0\0d\0\0\0\0\0\x1C\x18\x06\xC0\0\0\x15\x01\0COUNTER\0\0\0\0\0\0\0\0\0\0\0\0\0\
 \x02\0";
@@ -24,7 +24,7 @@ const START_AND_CUT: &[u8] =
 /// A stream, the read that fails or 0, the bytes that the writer takes, the most reads, and how the run ends.
 struct ClosingRow(&'static [u8], u64, usize, u32, Result<Report, RunError>);
 
-/// One row for each ending behind the first read.
+/// One row for each ending after the first read.
 const ROWS: &[ClosingRow] = &[
     ClosingRow(
         START,

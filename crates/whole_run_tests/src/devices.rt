@@ -1,5 +1,5 @@
 //! The two failing samples in pieces, and with a fault in each place: each read and each write fails in turn, the writer ends
-//! behind each byte, and the stream behind each byte.
+//! after each byte, and the stream after each byte.
 
 use crate::flying::{Answer, Devices, run_texts};
 use crate::low_volts::LOW_VOLTS;
@@ -9,7 +9,7 @@ use lc_model::{Limited, Pieces};
 use schedules::parse_schedule;
 use std::process::Abort;
 
-/// A run over the stream from and to these devices answers so, and writes the first bytes of its output, so many of them.
+/// A run over the stream, from and to these devices, ends with this result, and writes the first `size` bytes of its output.
 fn ends<R: Abort + AllocGlobal>(rt: &R, devices: Devices, answer: Answer, size: usize) {
     let Devices(piece, length, read, limit, write, reads) = devices;
     let schedule = parse_schedule(rt.alloc(), NO_ENTRIES).expect(rt, "a schedule");
@@ -46,13 +46,13 @@ const ALL: Answer = Ok(Report {
     bytes: 852,
 });
 
-/// None was.
+/// No record was handled.
 const NONE: Answer = Ok(Report {
     records: 0,
     bytes: 0,
 });
 
-/// The whole stream, in pieces of any size, one read more than there are, and less than so many reads.
+/// The whole stream, in pieces of any size, with one read more than there are, and with fewer reads than it needs.
 const ROWS: &[(Devices, Answer, usize)] = &[
     (Devices(8_192, 255, 0, 852, 0, None), ALL, 852),
     (Devices(1, 255, 0, 852, 0, None), ALL, 852),
@@ -93,7 +93,7 @@ fn pieces_and_reads_make_the_same_records(rt: HostRuntime) {
     end(&rt, ROWS);
 }
 
-/// How many records end within so many bytes of the stream, and how many bytes these lead to.
+/// How many records end within the first `bytes` bytes of the stream, and how many bytes these lead to.
 fn behind(bytes: usize) -> (u64, usize) {
     match bytes {
         0..=53 => (0, 0),
@@ -107,7 +107,7 @@ fn behind(bytes: usize) -> (u64, usize) {
     }
 }
 
-/// The read of each byte fails, and so does the one that would tell of the end.
+/// The read of each byte fails, and so does the one that would report the end.
 #[test]
 fn each_read_fails_in_turn(rt: HostRuntime) {
     for bytes in 0..=255 {
@@ -127,7 +127,7 @@ fn each_write_fails_in_turn(rt: HostRuntime) {
     }
 }
 
-/// The writer takes so many bytes, and then fails.
+/// The writer takes some bytes, and then fails.
 #[test]
 fn a_writer_ends_behind_each_byte(rt: HostRuntime) {
     for size in 0..852 {
@@ -137,7 +137,7 @@ fn a_writer_ends_behind_each_byte(rt: HostRuntime) {
     }
 }
 
-/// How a run over the first bytes of the stream ends, so many of them: with its records, or inside one.
+/// How a run over the first `bytes` bytes of the stream ends: with its records, or inside one.
 fn of_front(bytes: usize) -> Answer {
     let (records, size) = behind(bytes);
     match bytes {

@@ -23,11 +23,11 @@ pub struct Devices(
     pub Option<u32>,
 );
 
-/// What a run answers.
+/// The result of a run.
 pub type Answer = Result<Report, RunError>;
 
-/// Runs these texts with two Limit Checkers, a scheduler and a counter in stock. Out of memory for these is the outer error. At
-/// most so many reads are made, or as many as `run` makes. Conditions: nothing was read or failed yet.
+/// Runs these texts with two Limit Checkers, a scheduler and a counter in stock, and with this many reads at most, or as many
+/// as `run` makes. Out of memory for the stock is the outer error. Conditions: nothing was read or failed yet.
 pub fn run_texts(
     alloc: Global,
     texts: &[&[u8]],

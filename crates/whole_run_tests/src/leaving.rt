@@ -1,4 +1,4 @@
-//! A run whose counter tells how often it retired.
+//! A run whose counter reports how often it retired.
 
 ghost use Rattle.std.specs.Prelude.{◌≡◌, false, None};
 
@@ -54,8 +54,8 @@ impl App for Watched {
     }
 }
 
-/// A run without texts, with a counter in stock and at most so many reads: how it ends, and how often the counter retired. Out of
-/// memory for the stock is the outer error. Conditions: nothing was read or failed yet.
+/// Runs no texts, with a counter in stock and at most this many reads. Returns how the run ends, and how often the counter
+/// retired. Out of memory for the stock is the outer error. Conditions: nothing was read or failed yet.
 pub fn retirements_of(
     alloc: Global,
     schedule: &Schedule,

@@ -1,5 +1,5 @@
-//! The tests of `run` that rows of data can't say: a call whose premises are met by proof, devices and memory that fail, what
-//! retires at the end, and how many calls a record takes. Whole runs are the rows of the program `run_rows`.
+//! The tests of `run` that rows of data can't express: a call whose premises are met by proof, devices and memory that fail,
+//! what retires at the end, and how many calls a record takes. Whole runs are the rows of the program `run_rows`.
 #![tactic(auto)]
 
 #[cfg(test)]

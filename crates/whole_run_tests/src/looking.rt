@@ -12,7 +12,7 @@ use schedules::{Schedule, parse_schedule};
 use std::alloc::{AllocError, Global};
 use std::cell::Cell;
 
-/// How many bytes the records lead to that end within so many bytes of the stream.
+/// How many bytes the records lead to that end within the first `bytes` bytes of the stream.
 fn led_to(bytes: usize) -> usize {
     match bytes {
         0..=53 => 0,
@@ -23,7 +23,7 @@ fn led_to(bytes: usize) -> usize {
     }
 }
 
-/// Gives the stream byte by byte, and counts the reads at which the device didn't have all that the records before led to.
+/// Gives the stream byte by byte, and counts the reads at which the device did not have all output of the records before.
 #[derive(Drop)]
 struct Looking<'a> {
     left: &'a [u8],

@@ -16,8 +16,8 @@ pub const LOW_VOLTS: &[u8] =
     b"packet P = mid 0x0883 length 16; field V = P u16be at 12 stale 2; rule LOW active fails 2 sequence 7 event error 1001 \"low volts\" when V < 2400;";
 
 /// Runs the low-volts text, with two Limit Checkers, a scheduler and a counter in stock. Out of memory for these is the outer
-/// error. It writes what the rules of the text call for, unless a device fails, so many reads are made, or memory is wanted.
-/// Conditions: nothing was read or failed yet.
+/// error. It writes what the rules of the text call for, unless a device fails, the bound of reads is reached, or memory is
+/// lacking. Conditions: nothing was read or failed yet.
 pub fn run_low_volts<R: ByteSource, W: ByteSink>(
     alloc: Global,
     schedule: &Schedule,

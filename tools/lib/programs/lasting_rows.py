@@ -93,7 +93,7 @@ OLD_RESULTS = [
         [*REPORT[:2], "--epoch", "noon", *REPORT[2:]],
         OLD,
         status=2,
-        error=b"--epoch noon: no such value\n",
+        error=b"--epoch noon: write an instant, as 2000-01-01T12:00:00Z\n",
     ),
     Row(
         "a text that is refused leaves the old page",

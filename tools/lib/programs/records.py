@@ -31,6 +31,15 @@ def start(name):
     return record(1, bytes([0x18, 0x06, 0xC0, 0, 0, 21, 1, 0]) + name.ljust(20, b"\0"))
 
 
+def commanded(mid, code, payload):
+    """A command's packet, with sequence count 0 and its checksum."""
+    packet = mid.to_bytes(2, "big") + b"\xc0\0" + (len(payload) + 1).to_bytes(2, "big") + bytes([code, 0]) + payload
+    check = 0xFF
+    for byte in packet:
+        check ^= byte
+    return packet[:7] + bytes([check]) + packet[8:]
+
+
 # Telemetry with message id 0x0883 and a voltage of 2,399; the request to sample all rules; a tick.
 LOW = record(1, bytes([0x08, 0x83, 0xC0, 0, 0, 9, 0, 0, 0, 0, 0, 0, 0x09, 0x5F, 0, 0]))
 SAMPLE = record(1, bytes([0x18, 0xA6, 0xC0, 0, 0, 9, 0, 0x88, 0xFF, 0xFF, 0xFF, 0xFF, 0, 0, 0, 0]))

@@ -1,7 +1,7 @@
 """`flight_tools scenario` and `try` with lines in the words of a rule text: packets and fields by name, ramps, repeated lines,
 commands."""
 
-from records import said_of_unended
+from records import commanded, said_of_unended
 from row import Row
 from trial_rows import RULES, SCHEDULE, told
 
@@ -28,17 +28,39 @@ def heater(second, count, fields):
 
 
 def command(second, mid, code, payload):
-    size = (len(payload) + 1).to_bytes(2, "big")
-    packet = mid.to_bytes(2, "big") + b"\xc0\0" + size + bytes([code, 0]) + payload
-    check = 0xFF
-    for byte in packet:
-        check ^= byte
-    return recorded(second, packet[:7] + bytes([check]) + packet[8:])
+    return recorded(second, commanded(mid, code, payload))
 
 
 def says(title, lines, stream, rules=RULES):
     return Row(title, SCENARIO, {"rules": rules, "script": lines}, after={"stream": stream})
 
+
+
+# Commands that lines of a script say, rule 0 being LOW and rule 1 HOT.
+ORDERED = [
+    command(0, 0x18A4, 2, b"\0\2\0\0"),
+    command(0, 0x18A4, 3, b"\0\1\0\3"),
+    command(0, 0x18A4, 3, b"\xFF\xFF\0\1"),
+    command(0, 0x18A4, 4, b"\0\0\0\0"),
+    command(0, 0x18A4, 4, b"\0\7\0\0"),
+    command(0, 0x18A5, 0, b""),
+    command(0, 0x18A6, 0, b"\0\0\0\xAF\0\1\0\0"),
+    command(0, 0x18A6, 0, b"\0\1\0\1\0\0\0\0"),
+    command(0, 0x1801, 1, b"LC".ljust(20, b"\0") + b"\x03\xE9\xFF\xFF"),
+    command(0, 0x1806, 1, b"LC".ljust(20, b"\0")),
+    command(0, 0x1806, 2, b"SCH".ljust(20, b"\0")),
+    command(0, 0x1806, 3, b"LC".ljust(20, b"\0")),
+    command(0, 0x1806, 4, b"COUNTER".ljust(20, b"\0")),
+    command(0, 0x1804, 1, b"/cf/w.tbl".ljust(40, b"\0")),
+    command(0, 0x1804, 2, b"LC.LC_WDT".ljust(40, b"\0")),
+    command(0, 0x1804, 3, b"LC.LC_ADT".ljust(40, b"\0")),
+    command(0, 0x1804, 4, b"LC.LC_WDT".ljust(40, b"\0")),
+]
+
+
+def listed(title, words, lines, records=ORDERED):
+    files = {"rules": RULES, "others": RULES.replace(b"HOT", b"WARM"), "file": b"".join(records)}
+    return Row(title, ["flight_tools", "stream", *words, "file"], files, output=lines)
 
 
 # What the README's rules do, by names: LOW fails twice.
@@ -114,6 +136,117 @@ ramp PWR_MODE 1 3 by 1 each 1
 """, heater(0, 0, b"\x83\0\0\0") + heater(0, 1, b"\x03\0\0\0") + heater(0, 2, b"\x0F\xF0\xF0\x0F") + heater(0, 3, b"\x83\0\0\0")
         + heater(0, 4, b"\x83\0\0\0") + heater(0, 5, b"\x81\0\0\0") + heater(1, 6, b"\x82\0\0\0") + heater(2, 7, b"\x83\0\0\0"), MASKED),
     says("a rule by its text's number", b"state 0:HOT disabled\n", command(0, 0x18A4, 3, b"\0\1\0\3")),
+    says("rules by their own numbers", b"state 1 disabled\nstate 65534 off\nstate 007 active\n", command(0, 0x18A4, 3, b"\0\1\0\3")
+        + command(0, 0x18A4, 4, b"\xFF\xFE\0\0") + command(0, 0x18A4, 3, b"\0\7\0\1")),
+    Row("a rule by its number without a rule text", ["flight_tools", "scenario", "script", "stream"], {"script": b"state 1 off\n"}, after={
+        "stream": command(0, 0x18A4, 4, b"\0\1\0\0"),
+    }),
+    listed("commands in words, with rules by number", [], b"""\
+1 0 0 packet 18a4: mode passive
+2 0 0 packet 18a4: state 1 disabled
+3 0 0 packet 18a4: state all active
+4 0 0 packet 18a4: state 0 off
+5 0 0 packet 18a4: state 7 off
+6 0 0 packet 18a5: housekeeping
+7 0 0 packet 18a6: sample 0 175 age
+8 0 0 packet 18a6: sample 1 1 keep
+9 0 0 packet 1801: filter LC 1001 65535
+10 0 0 packet 1806: start LC
+11 0 0 packet 1806: stop SCH
+12 0 0 packet 1806: restart LC
+13 0 0 packet 1806: reload COUNTER
+14 0 0 packet 1804: load /cf/w.tbl
+15 0 0 packet 1804: validate LC.LC_WDT
+16 0 0 packet 1804: activate LC.LC_ADT
+17 0 0 packet 1804: abort LC.LC_WDT
+"""),
+    listed("commands in words, with rules by name", ["--rules", "rules"], b"""\
+1 0 0 packet 18a4: mode passive
+2 0 0 packet 18a4: state HOT disabled
+3 0 0 packet 18a4: state all active
+4 0 0 packet 18a4: state LOW off
+5 0 0 packet 18a4: state 7 off
+""", ORDERED[:5]),
+    listed("commands in words, with rules of two texts that agree on one name", ["--rules", "rules", "--rules", "others"], b"""\
+1 0 0 packet 18a4: mode passive
+2 0 0 packet 18a4: state 1 disabled
+3 0 0 packet 18a4: state all active
+4 0 0 packet 18a4: state 0:LOW off
+5 0 0 packet 18a4: state 7 off
+""", ORDERED[:5]),
+    says("lines in words say the same commands again", b"""\
+mode passive
+state HOT disabled
+state all active
+state LOW off
+state 7 off
+housekeeping
+sample 0 175 age
+sample 1 1 keep
+filter LC 1001 65535
+start LC
+stop SCH
+restart LC
+reload COUNTER
+load /cf/w.tbl
+validate LC.LC_WDT
+activate LC.LC_ADT
+abort LC.LC_WDT
+""", b"".join(ORDERED)),
+    listed("commands that no line of a script says, and one with another sequence count", ["--rules", "rules"], b"""\
+1 0 0 packet 18a4 LC command code 3 12 bytes
+2 0 0 packet 18a4: mode passive
+3 0 0 packet 18a4 LC command code 2 12 bytes
+4 0 0 packet 18a4 LC command code 0 8 bytes
+5 0 0 packet 1806 executive services start #LC 28 bytes
+6 0 0 packet 1806 executive services start ? 28 bytes
+7 0 0 packet 1806 executive services start  28 bytes
+8 0 0 packet 1804 table services load a b 48 bytes
+9 0 0 packet 1801 event services reset filters of LC 28 bytes
+10 0 0 packet 18a6 LC sample code 0 16 bytes
+""", [
+        command(0, 0x18A4, 3, b"\0\1\0\4"),
+        recorded(0, b"\x18\xa4\xc0\1\0\5\2\x81\0\2\0\0"),
+        recorded(0, b"\x18\xa4\0\0\0\5\2\0\0\2\0\0"),
+        command(0, 0x18A4, 0, b""),
+        command(0, 0x1806, 1, b"#LC".ljust(20, b"\0")),
+        command(0, 0x1806, 1, b"\x1b".ljust(20, b"\0")),
+        command(0, 0x1806, 1, bytes(20)),
+        command(0, 0x1804, 1, b"a b".ljust(40, b"\0")),
+        command(0, 0x1801, 2, b"LC".ljust(20, b"\0")),
+        command(0, 0x18A6, 0, b"\0\0\0\1\0\2\0\0"),
+    ]),
+    Row(
+        "a packet's name in the place of a command's word",
+        ["flight_tools", "stream", "--rules", "rules", "file"],
+        {"rules": RULES.replace(b"BUS", b"mode"), "file": ORDERED[0]},
+        output=b"1 0 0 packet 18a4 LC command code 2 12 bytes\n",
+    ),
+    Row(
+        "a command in words as values",
+        ["flight_tools", "stream", "--csv", "--rules", "rules", "file"],
+        {"rules": RULES, "file": ORDERED[3]},
+        output=b"number,time,utc,kind,says,size\n1,0.00000,,packet,18a4: state LOW off,23\n",
+    ),
+    Row(
+        "a command in words as an object",
+        ["flight_tools", "stream", "--json", "file"],
+        {"file": ORDERED[0]},
+        output=b'{"kind":"packet","number":1,"says":"18a4: mode passive","size":23,"time":"0.00000","utc":null}\n',
+    ),
+    Row(
+        "a script of a stream with rule texts",
+        ["flight_tools", "stream", "--whole", "--rules", "rules", "file"],
+        {"rules": RULES, "file": ORDERED[0]},
+        output=b"record 0 0 packet 18a4c000000502860002" + b"0000\n",
+    ),
+    Row(
+        "a rule text of a listing that doesn't compile",
+        ["flight_tools", "stream", "--rules", "rules", "file"],
+        {"rules": b"packet BUS", "file": ORDERED[0]},
+        status=1,
+        error=said_of_unended(b"rules"),
+    ),
     Row("commands without a rule text", ["flight_tools", "scenario", "script", "stream"], {"script": b"mode active # now\n"}, after={
         "stream": command(0, 0x18A4, 2, b"\0\1\0\0"),
     }),

@@ -4,7 +4,7 @@ import hashlib
 import os
 import re
 
-from records import LOW_VOLTS, said_of_unended
+from records import HOUSEKEEPING, LOW_VOLTS, event, said_of_unended
 from row import FOLDER, Begins, Holds, Row
 
 CRATES = os.path.join(os.path.dirname(os.path.abspath(__file__)), "..", "..", "..", "crates")
@@ -24,6 +24,32 @@ BUS_LINES = read("flight_tools/stdout")
 # Two sequence requests, and a byte behind them.
 REQUEST = bytes([0x18, 0xA9, 0xC0, 0, 0, 5, 4, 0x88, 0, 7, 0, 0])
 PACKETS = REQUEST + REQUEST + b"\x18"
+
+# What a run of one rule says, and what only looks so; by another text there are two rules of that sequence.
+NAMED = {
+    "rules": LOW_VOLTS,
+    "others": (
+        b"packet P = mid 0x0883 length 16; field V = P u16be at 12 stale 2; "
+        b'rule DARK active fails 2 sequence 7 event error 1003 "dark" when V < 2400; '
+        b'rule FAINT active fails 2 sequence 7 event error 1004 "faint" when V < 2500;'
+    ),
+    "file": REQUEST
+    + event(0, b"LC", 1001, 3, b"low volts: AP = 0, FailCount = 2, RTS = 7")
+    + event(1, b"LC", 5, 2, b"actionpoint 0 pass to fail")
+    + event(2, b"LC", 5, 2, b"actionpoint 1 pass to fail")
+    + HOUSEKEEPING
+    + event(3, b"HOST", 1001, 3, b"low volts: AP = 0, FailCount = 2, RTS = 7"),
+}
+
+# Events of commands that were done, and three that only look so.
+DONE = b"".join(
+    [event(0, b"LC", 8, 2, b"command %d done" % code) for code in (0, 2, 3, 4)]
+    + [event(0, b"HOST", 4, 2, b"table command %d done" % code) for code in range(1, 5)]
+    + [event(0, b"HOST", 6, 2, b"event command %d done" % code) for code in range(1, 5)]
+    + [event(0, b"HOST", 8, 2, b"app command %d done" % code) for code in range(1, 5)]
+    + [event(0, b"LC", 8, 2, b"command 7 done"), event(0, b"LC", 9, 2, b"command 3 done")]
+    + [event(0, b"COUNTER", 8, 2, b"command 3 done"), event(0, b"LC", 8, 2, b"command 3 done.")]
+)
 
 COMPILED = [["flight_run", "compile", "rules", "wdt", "adt"]]
 
@@ -73,6 +99,51 @@ LISTINGS = [
 cut behind packet 2: 1 bytes are no whole packet
 """),
     Row("the packets of the README's run", ["flight_tools", "packets", "file"], {"file": BUS_PACKETS}, output=BUS_LINES),
+    Row("packets with the names of a text", ["flight_tools", "packets", "--rules", "rules", "file"], NAMED, output=b"""\
+1 - sequence request 7, count 0 (LOW)
+2 100.00000 LC 1001 error of LOW: low volts, FailCount = 2, RTS = 7
+3 100.00000 LC 5 information of LOW: pass to fail
+4 100.00000 LC 5 information: actionpoint 1 pass to fail
+5 100.00000 LC housekeeping: active, 1 rules: LOW active fail
+6 100.00000 HOST 1001 error: low volts: AP = 0, FailCount = 2, RTS = 7
+"""),
+    Row("packets with the names of two texts", ["flight_tools", "packets", "--rules", "rules", "--rules", "others", "file"], NAMED, output=b"""\
+1 - sequence request 7, count 0 (0:LOW, 1:DARK, 1:FAINT)
+2 100.00000 LC 1001 error of 0:LOW: low volts, FailCount = 2, RTS = 7
+3 100.00000 LC 5 information: actionpoint 0 pass to fail
+4 100.00000 LC 5 information of 1:FAINT: pass to fail
+5 100.00000 LC housekeeping: active, 1 rules: 0 active fail
+6 100.00000 HOST 1001 error: low volts: AP = 0, FailCount = 2, RTS = 7
+"""),
+    Row("commands that were done, in words", ["flight_tools", "packets", "file"], {"file": DONE}, output=b"""\
+1 100.00000 LC 8 information: command 0 done (no operation)
+2 100.00000 LC 8 information: command 2 done (mode)
+3 100.00000 LC 8 information: command 3 done (state)
+4 100.00000 LC 8 information: command 4 done (state off)
+5 100.00000 HOST 4 information: table command 1 done (load)
+6 100.00000 HOST 4 information: table command 2 done (validate)
+7 100.00000 HOST 4 information: table command 3 done (activate)
+8 100.00000 HOST 4 information: table command 4 done (abort)
+9 100.00000 HOST 6 information: event command 1 done (filter)
+10 100.00000 HOST 6 information: event command 2 done (reset filters)
+11 100.00000 HOST 6 information: event command 3 done (types on)
+12 100.00000 HOST 6 information: event command 4 done (types off)
+13 100.00000 HOST 8 information: app command 1 done (start)
+14 100.00000 HOST 8 information: app command 2 done (stop)
+15 100.00000 HOST 8 information: app command 3 done (restart)
+16 100.00000 HOST 8 information: app command 4 done (reload)
+17 100.00000 LC 8 information: command 7 done
+18 100.00000 LC 9 information: command 3 done
+19 100.00000 COUNTER 8 information: command 3 done
+20 100.00000 LC 8 information: command 3 done.
+"""),
+    Row(
+        "a rule text of packets that doesn't compile",
+        ["flight_tools", "packets", "--rules", "file", "file"],
+        {"file": b"packet BUS"},
+        status=1,
+        error=said_of_unended(b"file"),
+    ),
     Row("a stream that is cut", ["flight_tools", "stream", "file"], {"file": BUS_STREAM[:65]}, status=4, output=b"""\
 1 100 0 half wdt 0 /cf/lc_def_wdt.tbl
 2 is cut short

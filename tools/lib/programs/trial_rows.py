@@ -1,6 +1,6 @@
 """`flight_tools compare` and `try`: what comes of one of two rule texts alone, and what a script expects of a run."""
 
-from records import half, record, said_of_unended
+from records import commanded, half, record, said_of_unended
 from row import Row
 from tool_rows import BUS_SCRIPT, BUS_STREAM
 
@@ -110,6 +110,19 @@ old alone: 0; new alone: 0; both: 9
 107.00000 record 18: only old: LC 6 information of LOW: fail to pass
 old alone: 2; new alone: 0; both: 7
 """),
+    Row("a ground command that leads to a difference", COMPARE, {
+        **COMPARED,
+        "new": FIELDS + LOW,
+        "stream": b"".join(records_in(put_in(BUS_STREAM, 4, record(1, commanded(0x18A4, 3, b"\0\1\0\3"))))[:5]),
+    }, status=1, output=b"""\
+100.00000 record 5 (state 1 disabled): only old: LC 8 information: command 3 done (state)
+100.00000 record 5 (state 1 disabled): only new: LC 9 error: command refused 153
+old alone: 1; new alone: 1; both: 5
+"""),
+    Row("a ground request that leads to a difference", COMPARE, {
+        **COMPARED,
+        "stream": put_in(b"".join(records_in(BUS_STREAM)[:13]), 13, record(1, commanded(0x18A6, 0, b"\0\0\0\1\0\1\0\0"))),
+    }, status=1, output=FIRST_DIFFERENCES.replace(b"record 14", b"record 14 (sample 0 1 age)")),
     Row("two rules of one sequence", COMPARE, {
         **COMPARED,
         "old": FIELDS + LOW + HOT.replace(b"sequence 8", b"sequence 7").replace(b"> 60", b"> 600"),
@@ -238,6 +251,20 @@ expect state 1:LOW passive
 BY_SECOND = BY_FIRST.replace(b"wdt 0", b"wdt 1").replace(b"adt 0", b"adt 1")
 DIFFER = b"the rule texts give this rule different numbers: the text in force decides"
 MANY = b"".join(warned(BY_FIRST, ASKED + n, b"rule-number", DIFFER) for n in range(2))
+# A command there is about the rule of the text in force: the other text has the rules in the other order.
+ORDERS = b"""\
+state LOW disabled
+expect state LOW disabled
+expect state HOT active
+"""
+BY_ORDER = (BUS_SCRIPT[:SIXTH] + ORDERS + BUS_SCRIPT[SIXTH:]).replace(b"wdt 0", b"wdt 1").replace(b"adt 0", b"adt 1")
+OF_HOST = b"""\
+start COUNTER
+expect event HOST 8 at 0
+expect no event HOST 9
+expect event HOST 4
+expect event HOST from 1
+"""
 
 
 TRIALS = [
@@ -287,6 +314,24 @@ script:%d:1: error[unmet]: expect state 1:LOW passive: it is active
 script: 4 expectations, 2 not met
 """ % (ASKED + 2, ASKED + 3),
         error=MANY,
+    ),
+    Row(
+        "a command by the name of a rule of the text in force",
+        [*TRY, "other"],
+        {**trial(BY_ORDER), "other": FIELDS + HOT + LOW},
+        output=b"script: 2 expectations, 0 not met\n",
+        error=b"".join(warned(BY_ORDER, ASKED + n, b"rule-number", DIFFER) for n in (1, 2)),
+    ),
+    Row(
+        "events of the host",
+        TRY,
+        trial(OF_HOST),
+        status=1,
+        output=b"""\
+script:4:1: error[unmet]: expect event HOST 4: there came event HOST 8 in second 0 (record 1)
+script:5:1: error[unmet]: expect event HOST from 1: there came event HOST 8 in second 0 (record 1)
+script: 4 expectations, 2 not met
+""",
     ),
     Row("a run in which no Limit Checker ran", TRY, trial(IDLE), output=b"script: 2 expectations, 0 not met\n", error=NOTHING_RAN),
     Row(

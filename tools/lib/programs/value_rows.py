@@ -31,10 +31,10 @@ ROWS = [
 """),
     packets("an event as an object, in UTC", EVENT, ["--json", "--epoch", EPOCH], b"""\
 {"count":5,"id":1001,"kind":"event","level":"error","message_id":"0x0808","number":1,"sender":"LC","sequence":null,\
-"size":168,"text":"low volts: AP = 0, FailCount = 2, RTS = 7","time":"105.00000","utc":"2000-01-01T12:01:45Z"}
+"size":168,"text":"low volts: AP = 0, FailCount = 2, RTS = 7","time":"105.00000","utc":"2000-01-01T12:01:45.00000Z"}
 """),
     packets("housekeeping as values, in UTC", HOUSEKEEPING, ["--csv", "--epoch", EPOCH], NAMES + b"""\
-1,102.00000,2000-01-01T12:01:42Z,housekeeping,LC,,,"active, 2 rules: 0 active pass, 1 active pass",,0,0x08A7,192
+1,102.00000,2000-01-01T12:01:42.00000Z,housekeeping,LC,,,"active, 2 rules: 0 active pass, 1 active pass",,0,0x08A7,192
 """),
     packets("a packet of another host as an object", b"\x08\x83\xc0\x02\0\0\x07", ["--json"], b"""\
 {"count":2,"id":null,"kind":"other","level":null,"message_id":"0x0883","number":1,"sender":null,"sequence":null,\
@@ -45,7 +45,7 @@ ROWS = [
 1,100.00000,,half,wdt 0 /cf/lc_def_wdt.tbl,54
 """, status=4, error=b"file: the stream ends inside record 2\n"),
     stream("a tick as an object, in UTC", TICK, ["--json", "--epoch", EPOCH], b"""\
-{"kind":"tick","number":1,"says":"","size":11,"time":"100.50000","utc":"2000-01-01T12:01:40.5Z"}
+{"kind":"tick","number":1,"says":"","size":11,"time":"100.50000","utc":"2000-01-01T12:01:40.50000Z"}
 """),
     stream("what is no record as values", TICK + b"\x09" * 11, ["--csv"], RECORD_NAMES + b"1,100.50000,,tick,,11\n", status=4, error=b"file: record 2 is none\n"),
     Row(
@@ -53,14 +53,14 @@ ROWS = [
         ["flight_tools", "packets", "--csv", "--json", "file"],
         {"file": b""},
         status=2,
-        error=b"--csv --json: no such value\n",
+        error=b"--csv --json: one of the two, not both\n",
     ),
     Row(
         "an epoch that is no instant",
         ["flight_tools", "packets", "--csv", "--epoch", "2000-01-01", "file"],
         {"file": b""},
         status=2,
-        error=b"--epoch 2000-01-01: no such value\n",
+        error=b"--epoch 2000-01-01: write an instant, as 2000-01-01T12:00:00Z\n",
     ),
     packets("values to a full device", PACKETS, ["--csv"], b"", status=3, error=b"cannot use standard output: the device is full\n", prints_to="/dev/full"),
 ]

@@ -16,7 +16,7 @@ pub record Devices : Type 0 where
   pub sink : Sink
   pub sink_after : Sink
 
--- a source and a sink, by what they tell
+-- a source and a sink, by what is known of them
 abbrev pub devices : (source source_after : Source) → (sink sink_after : Sink) → Devices
 devices source source_after sink sink_after =
     record { source = source; source_after = source_after; sink = sink; sink_after = sink_after }
@@ -31,9 +31,9 @@ pub record IsUntouched (d : Devices) : Type 0 where
 
 -- ---- endings
 
--- what a run answers: the numbers of records and bytes; or the text that does not compile, with its refusal (none where the
--- compiler found no memory); or what stands in the place of a record is none, or is cut short; a read failed; a write
--- failed behind so many bytes; as many reads were made as may be; or there was no memory
+-- what a run returns: the numbers of records and bytes; or the text that does not compile, with its refusal (none where the
+-- compiler found no memory); or the number of a bad record, or of one that is cut short; a read failed; a write failed
+-- after this many bytes; the most reads were made; or there was no memory
 pub data Ending : Type 0 where
   Complete : (records bytes : ℕ) → Ending
   Uncompiled : (text : ℕ) (refusal : Option TextRefusal) → Ending
@@ -44,7 +44,7 @@ pub data Ending : Type 0 where
   ReachedTheBound : Ending
   NoMemory : Ending
 
--- what is answered where nothing fails: the numbers of records and bytes, or where the records end
+-- what a run returns where nothing fails: the numbers of records and bytes, or where the records end
 abbrev pub answer : List StreamEntry × End → (bytes : ℕ) → Ending
 answer (entries, Whole) bytes = Complete (length entries) bytes
 answer (entries, Bad number) bytes = MetNoRecord number
@@ -55,7 +55,7 @@ abbrev pub MayGoOn : End → Type 0
 MayGoOn (Bad number) = ⊥
 MayGoOn other = ⊤
 
--- ---- outcomes, by the records of some bytes and by what these call for
+-- ---- outcomes, by the records of some bytes and by the output that these call for
 
 module _ (records : List ℕ → List StreamEntry × End) (output : List StreamEntry → List ℕ) (most_reads : ℕ) (d : Devices) where
   -- these bytes were taken, and the output of their records was written
@@ -64,7 +64,7 @@ module _ (records : List ℕ → List StreamEntry × End) (output : List StreamE
     pub wrote : Appends d.sink.gained d.sink_after.gained (output (records bytes).0)
     pub no_write_failed : d.sink_after.failed ≡ false
 
-  -- the stream came to its end behind a whole record
+  -- the stream came to its end after a whole record
   pub record Completes (entries count : ℕ) : Type 0 where
     pub bytes : List ℕ
     pub so : TookAndWrote bytes
@@ -74,7 +74,7 @@ module _ (records : List ℕ → List StreamEntry × End) (output : List StreamE
     pub records_counted : entries ≡ length (records bytes).0
     pub bytes_counted : count ≡ length (output (records bytes).0)
 
-  -- what stands in the place of the record with this number is none, whatever follows
+  -- the record with this number is bad, whatever follows
   pub record MeetsNoRecord (number : ℕ) : Type 0 where
     pub bytes : List ℕ
     pub so : TookAndWrote bytes
@@ -89,15 +89,15 @@ module _ (records : List ℕ → List StreamEntry × End) (output : List StreamE
     pub at_the_end : IsAtEnd d.source_after.rest
     pub no_read_failed : d.source_after.failed ≡ false
 
-  -- a read failed, and nothing is read behind a bad record
+  -- a read failed; nothing is read after a bad record
   pub record FailsToRead : Type 0 where
     pub bytes : List ℕ
     pub so : TookAndWrote bytes
     pub good : MayGoOn (records bytes).1
     pub failed : d.source_after.failed ≡ true
 
-  -- as many reads were made as may be, each of which took a byte at least: the stream hasn't ended, and none of its
-  -- records so far is bad
+  -- the most reads were made, each of which took a byte at least: the stream hasn't ended, and none of its records so
+  -- far is bad
   pub record ReachesTheBound : Type 0 where
     pub bytes : List ℕ
     pub so : TookAndWrote bytes
@@ -106,7 +106,7 @@ module _ (records : List ℕ → List StreamEntry × End) (output : List StreamE
     pub each : d.source_after.reads ≤ length bytes
     pub no_read_failed : d.source_after.failed ≡ false
 
-  -- a write failed: the sink took the first bytes, this many, of the output of all records, or of those before a bad one
+  -- a write failed: the sink took this many bytes, the first ones, of the output of all records, or of those before a bad one
   pub record FailsToWrite (sent : ℕ) : Type 0 where
     pub bytes : List ℕ
     pub took : Consumes d.source.rest d.source_after.rest bytes

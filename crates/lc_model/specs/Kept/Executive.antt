@@ -2,7 +2,7 @@
 -- executive's commands are those of the cFE user's guide (executive services, software bus); the order of calls and the
 -- refusals are this project's own.
 --
--- Of an object that is `Other` nothing is said: where one would be called, all but its packet stays as it was.
+-- Nothing is promised about an object that is `Other`: where one would be called, all but its packet stays as it was.
 use Rattle.std.specs.Prelude.{ℕ, zero, suc, ◌==◌, Bool, true, false, not, List, [], ◌∷◌, ◌++◌, map, remove, replicate, slice_index_or, slice_set, if◌then◌else◌, Option, Some, None, is_none, option_map, unwrap_or, Result, Ok, Err}
 use Rattle.std.specs.Option.{option_map_or}
 use Rattle.std.specs.List.{list_any, position_from}
@@ -41,7 +41,7 @@ pub record Executive (Image : Type 0) : Type 0 where
   pub pipes : List (Option Pipe)
   pub services : ServicesNow Image
 
--- so many seats
+-- the number of seats
 abbrev pub seat_count : ℕ
 seat_count = 8
 
@@ -116,7 +116,7 @@ spare_at stock i = slice_index_or stock i no_member
 
 -- ---- one call
 
--- a sender after an item of its log, unless a filter finds no place
+-- a sender after an item of its log, unless a filter has no place
 abbrev pub joined_now : LogItem → EventState → Result EventState Refusal
 joined_now (FilterSet id mask) events =
     if next_is_full id events then refused filters_full else Ok (events_after (FilterSet id mask) events)
@@ -126,7 +126,7 @@ joined_now item events = Ok (events_after item events)
 abbrev pub tick_packet : List ℕ
 tick_packet = command tick_mid 0 0 []
 
--- one record leads to at most so many deliveries: a tick in each pipe, and of each tick eight packets in each pipe
+-- the most deliveries of one record: a tick in each pipe, and of each tick eight packets in each pipe
 abbrev pub most_deliveries : ℕ
 most_deliveries = 520
 
@@ -160,11 +160,11 @@ module _ {Image : Type 0} where
     call.outgoing,
   )
 
-  -- the seat's packet is taken, and nothing else is said
+  -- the seat's packet is taken, and nothing else changes
   abbrev pub after_taking : ℕ → Pipe → List (List ℕ) → Executive Image → Written Image
   after_taking k pipe waiting e = (record e { pipes = slice_set e.pipes k (Some (record pipe { waiting = waiting })) }, [])
 
-  -- an object leaves its seat, and all that is its own goes with it
+  -- an object leaves its seat, and its pipe, its tables and its sender are removed
   abbrev pub left_from : ℕ → Executive Image → Executive Image
   left_from k e = record {
     stock = e.stock;
@@ -182,7 +182,7 @@ module _ {Image : Type 0} where
     abbrev pub begun_on : ℕ → Member → Executive Image → Written Image
     begun_on k member e = option_map_or (after_call k member.called [] e) (next_start images moment member.state e.services) (e, [])
 
-    -- the object of a seat has a packet, and these wait behind it
+    -- the object of a seat has a packet, and these wait after it
     abbrev pub handed : ℕ → Member → Pipe → List (List ℕ) → Executive Image → Written Image
     handed k member pipe [] e = (e, [])
     handed k member pipe (packet ∷ waiting) e =
@@ -194,7 +194,7 @@ module _ {Image : Type 0} where
     delivered_at k e =
         option_map_or (λ (pipe : Pipe). handed k (seated e.seats k) pipe pipe.waiting e) (slice_index_or e.pipes k None) (e, [])
 
-    -- at most so many deliveries, each at the least seat with a packet
+    -- at most this many deliveries, each at the least seat with a packet
     unfoldable pub drained : ℕ → Executive Image → Written Image
     drained zero e = (e, [])
     drained (suc most) e =

@@ -21,7 +21,7 @@ own_name (CounterState count) = counter_name
 own_name Other = []
 
 -- the message ids that an object's pipe is subscribed to, from its start to its retirement: the Limit Checker's are those of its
--- requests and of the watchpoints that it has a copy of. Of another object than these three nothing is said.
+-- requests and of the watchpoints that it has a copy of. Nothing is promised about an object other than these three.
 abbrev pub subscriptions_of : AppState → List ℕ
 subscriptions_of (LcState own) =
     with_mids (lc_command_mid ∷ lc_housekeeping_request_mid ∷ sample_mid ∷ map (λ (t : Term). t.mid) own.terms) []
@@ -75,7 +75,7 @@ module _ {Image : Type 0} (images : Interpretation Image) where
     pub inside : slot < length schedule
     pub sender : IsSender sch_name services
 
-  -- of another object than these three nothing is said
+  -- nothing is promised about an object other than these three
   abbrev pub GoesWith : AppState → ServicesNow Image → Type 0
   GoesWith (LcState own) services = LcGoesWith own services
   GoesWith (SchState schedule slot) services = SchGoesWith schedule slot services

@@ -21,7 +21,7 @@ pub record Station (Image : Type 0) : Type 0 where
 abbrev pub size_at : {Image : Type 0} → Station Image → ℕ
 size_at station = length (concat station.packets)
 
--- the first write that a writer with room for so many bytes does not take whole
+-- the first write that a writer with room for this many bytes does not take whole
 unfoldable pub stop_at : {Image : Type 0} → ℕ → List (Station Image) → Option (Station Image)
 stop_at room [] = None
 stop_at room (station ∷ stations) = if nat_lt room (size_at station) then Some station else stop_at (room - size_at station) stations
@@ -38,12 +38,12 @@ abbrev pub first_host : {Image : Type 0} → List Member → Host Image
 first_host stock = record { executive = first_executive stock; is_closed = false; calls = 0 }
 
 module _ {Image : Type 0} where
-  -- a write behind all that a record leads to, without a call
+  -- a write after all that a record leads to, without a call
   abbrev pub written_once : Written Image → List (Station Image)
   written_once step = record { executive = step.0; calls = 0; packets = step.1 } ∷ []
 
   module _ (images : Interpretation Image) (moment : Moment) where
-    -- at most so many deliveries, each at the least seat with a packet, and a write behind each; so many calls were made before
+    -- at most this many deliveries, each at the least seat with a packet, and a write after each; `calls` were made before
     unfoldable pub delivery_stations : ℕ → ℕ → Executive Image → List (Station Image)
     delivery_stations calls zero e = []
     delivery_stations calls (suc most) e =
@@ -54,7 +54,7 @@ module _ {Image : Type 0} where
     abbrev pub passing_stations : List ℕ → Executive Image → List (Station Image)
     passing_stations packet e = delivery_stations 0 most_deliveries (record e { pipes = published_to e.pipes packet })
 
-    -- an executive command: behind the application's calls, and behind HOST's event
+    -- an executive command: a write after the application's calls, and one after HOST's event
     abbrev pub order_stations : List ℕ → Executive Image → Result (Written Image) Refusal → List (Station Image)
     order_stations packet e (Ok step) =
         written_once step ++ written_once (told_by_host moment (command_done executive_services (function_code packet) ∷ []) step.0)
@@ -90,8 +90,8 @@ module _ {Image : Type 0} where
       calls = last_calls (stations_of host.executive input);
     }
 
-    -- the host where the writer takes so many bytes of this record and no more, and how many it took if that was too few. A closed
-    -- host does nothing.
+    -- the host where the writer takes this many bytes of this record and no more, and how many it took if that was too few. A
+    -- closed host does nothing.
     abbrev pub host_step : ℕ → Host Image → Input Image → Host Image × Option ℕ
     host_step room host input =
         if host.is_closed then (host, Some 0)

@@ -3,7 +3,7 @@ use Rattle.std.specs.Prelude.{◌≡◌, ℕ, ◌+◌, ◌≤◌, ◌<◌, false
 use Rattle.lc_model.specs.Kept.Executive.{published_to}
 use Rattle.lc_model.specs.Services.Bus.{Queue, Bus, seen, seen_pipe, with_pipe, pipe_at, without_oldest, is_blocked, IsPublished, pipe_depth}
 
--- a publication is what the host's definitions say: each subscriber has the packet once, behind what waits
+-- a publication is what the host's definitions say: each subscriber has the packet once, after what waits
 abbrev pub PublicationIsSeen : Type 0
 PublicationIsSeen = (packet : List ℕ) (old new : Bus) → IsPublished packet old new → seen new ≡ published_to (seen old) packet
 
@@ -11,7 +11,7 @@ PublicationIsSeen = (packet : List ℕ) (old new : Bus) → IsPublished packet o
 abbrev pub PipeIsSeen : Type 0
 PipeIsSeen = (seat : ℕ) (bus : Bus) (queue : Queue) → seen (with_pipe seat bus queue) ≡ slice_set (seen bus) seat (Some (seen_pipe queue))
 
--- and where it goes
+-- and where it is removed
 abbrev pub RemovalIsSeen : Type 0
 RemovalIsSeen = (seat : ℕ) (bus : Bus) → seen (slice_set bus seat None) ≡ slice_set (seen bus) seat None
 
@@ -19,13 +19,13 @@ RemovalIsSeen = (seat : ℕ) (bus : Bus) → seen (slice_set bus seat None) ≡ 
 abbrev pub ReceiptIsSeen : Type 0
 ReceiptIsSeen = (queue : Queue) → seen_pipe (without_oldest queue) ≡ record { subscriptions = queue.subscriptions; waiting = drop 1 (seen_pipe queue).waiting }
 
--- a place in which at most so many packets wait
+-- a place in which at most this many packets wait
 abbrev pub IsShort : ℕ → Option Queue → Type 0
 IsShort n None = Unit {0}
 IsShort n (Some queue) = length queue.waiting ≤ n
 
--- where at most so many wait in each place, a packet is not blocked, and at most one more waits in each place afterwards; so
--- with n in each place, n' more packets are taken where n + n' is at most 72
+-- where fewer than 72 packets wait in each place, a packet is not blocked, and at most one more waits in each place
+-- afterwards; so with n in each place, n' more packets are taken where n + n' is at most 72
 abbrev pub HasRoom : Type 0
 HasRoom = (n : ℕ) (packet : List ℕ) (bus : Bus) → ((seat : ℕ) → IsShort n (pipe_at seat bus)) → n < pipe_depth → is_blocked packet bus ≡ false
 

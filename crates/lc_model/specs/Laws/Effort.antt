@@ -10,7 +10,7 @@ use Rattle.lc_model.specs.LimitChecker.Steps.{Point}
 use Rattle.lc_model.specs.Kept.Summary.{Tally}
 use Rattle.lc_model.specs.Kept.Effort.{sampled_words, IsAscending, watched_ids, middle_of, first_place, compared_with, probes_for}
 
--- so many words a rule at most
+-- at most this many words a rule
 abbrev pub SamplesAreBounded : Type 0
 SamplesAreBounded = (words : ℕ) (request : SampleRequest) (number : ℕ) (rules : List Actionpoint) (points : List (Point Tally)) →
     AllByRecursion (λ (rule : Actionpoint). equation_length rule.condition ≤ words) rules → sampled_words request number rules points ≤ words * length rules

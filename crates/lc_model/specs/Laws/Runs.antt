@@ -27,7 +27,7 @@ CompiledFilesMeanAlike = (layouts : List Layout) (texts : List Text) (compiled :
     MeaningAlike (IsImageOf layouts texts) (as_bytes layouts) (as_halves layouts)
     ((byte_meanings compiled).of_half kind number) ((text_meanings layouts texts).of_half kind number)
 
--- so for every stream the same is written, where hashes are the texts' own and raw files carry halves
+-- for every stream the same is written, where hashes are the texts' own and raw files carry halves
 abbrev pub BytesRunAsTexts : Type 0
 BytesRunAsTexts = (layouts : List Layout) (texts : List Text) (compiled : Kind → ℕ → List ℕ) (schedule : Schedule) (stock : List Name) (stream : List ℕ) →
     AreRead texts → HaveOwnHashes texts → AreFilesOfHalves layouts texts compiled → CarryHalves layouts texts (records_of (length texts) stream).0 →
@@ -50,21 +50,21 @@ pub record GoesOn {Image : Type 0} (images : Interpretation Image) (schedule : S
   pub world : world_after images schedule w meanings (entries ++ entry ∷ [])
       ≡ (handled images schedule entry.moment (input_of meanings entry.contents) (world_after images schedule w meanings entries)).0
 
--- so it is of every run
+-- the same for every run
 abbrev pub RunsGoOn : {Image : Type 0} → Interpretation Image → Type 0
 RunsGoOn {Image} images = (schedule : Schedule) (w : World Image) (meanings : FileMeanings Image) (entries : List StreamEntry) (entry : StreamEntry) →
     GoesOn images schedule w meanings entries entry
 
 -- ---- the program
 
--- a failed read is answered where a read failed and nowhere else, and so is a failed write
+-- a run ends with a failed read only where a read failed, and with a failed write only where a write failed
 pub record AreFailuresTold (d : Devices) (ending : Ending) : Type 0 where
   pub read : d.source_after.failed ≡ true → ending ≡ FailedToRead
   pub failed_to_read : ending ≡ FailedToRead → d.source_after.failed ≡ true
   pub write : d.sink_after.failed ≡ true → (sent : ℕ) × (ending ≡ FailedToWrite sent)
   pub failed_to_write : (sent : ℕ) → ending ≡ FailedToWrite sent → d.sink_after.failed ≡ true
 
--- so it is of every run
+-- the same for every run
 abbrev pub RunsTellFailures : Type 0
 RunsTellFailures = (m : Mission) (d : Devices) (ending : Ending) → IsRun m d ending → AreFailuresTold d ending
 

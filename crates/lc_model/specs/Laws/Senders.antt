@@ -1,4 +1,4 @@
--- What the calls of the event services do to what is held under names, and by whole logs.
+-- What the calls of the event services change under each name, and by whole logs.
 use Rattle.std.specs.Prelude.{◌≡◌, ℕ, ◌<◌, List, [], ◌∷◌, Option, Some, None, option_to_list, Ok, IfOk}
 use Rattle.std.specs.List.{AllByRecursion}
 use Rattle.lc_model.specs.declared.record.Moment.{Moment}
@@ -38,14 +38,14 @@ abbrev pub ChangesKeep : Type 0
 ChangesKeep = (origin : Origin) (sender : Sender) (events : EventState) (service : EventService) → IsEventService service →
     sender_at origin service ≡ Some sender → IsEventService (with_events origin sender events service)
 
--- ---- under names, all is as the host in numbers has it
+-- ---- under names, the services are those of the host in numbers
 
 -- a name that registers has no filter, and all types but debug on; what other names have stays
 abbrev pub RegisteringByName : Type 0
 RegisteringByName = (seat : ℕ) (name : Name) (service : EventService) → seat < seat_count → IsEventService service →
     IfOk (registered_at seat name service) (λ after. sender_named after ≡ with_at name (Some new_sender) (sender_named service))
 
--- a sender that is gone has nothing; what other names have stays
+-- a name whose sender is removed has nothing; what other names have stays
 abbrev pub UnregisteringByName : Type 0
 UnregisteringByName = (seat : ℕ) (sender : Sender) (service : EventService) → IsEventService service → sender_at (Some seat) service ≡ Some sender →
     IfOk (unregistered_at seat service) (λ after. sender_named after ≡ with_at sender.name None (sender_named service))
@@ -67,13 +67,13 @@ EventsByName Image = (origin : Origin) (sender : Sender) (moment : Moment) (id :
 
 -- ---- with whole logs
 
--- one call answers the same by the logs: an event is sent exactly where the log of its sender since it was registered
+-- one call returns the same by the logs: an event is sent exactly where the log of its sender since it was registered
 -- chooses it, with the number of the event packets that were sent before as its sequence count
 abbrev pub SameByLogs : Type 0
 SameByLogs = (call : EventCall) (history : EventHistory) → HasFourTypes call →
     called call (service_of history) ≡ (service_of (happened call history).0, (happened call history).1)
 
--- so do any calls, one after the other, from the first on
+-- the same for any calls, one after the other, from the first on
 abbrev pub AllSameByLogs : Type 0
 AllSameByLogs = (calls : List EventCall) → AllByRecursion HasFourTypes calls →
     all_after called calls first_events ≡ (service_of (all_after happened calls first_history).0, (all_after happened calls first_history).1)

@@ -7,16 +7,16 @@ abbrev pub FrontDecides : Type 0
 FrontDecides = (kinds : List ℕ) (texts number : ℕ) (bytes : List ℕ) →
     records_numbered kinds texts number bytes ≡ records_by_front (records_numbered kinds texts (number + 1)) number (front kinds texts bytes)
 
--- a record in front stays there, and so does what is none
+-- a record in front stays there, and so does a bad one
 pub record FrontsStay (kinds : List ℕ) (texts : ℕ) (bytes more : List ℕ) : Type 0 where
   pub a_record : (entry : StreamEntry) (rest : List ℕ) → front kinds texts bytes ≡ Record entry rest → front kinds texts (bytes ++ more) ≡ Record entry (rest ++ more)
   pub none : front kinds texts bytes ≡ NoRecord → front kinds texts (bytes ++ more) ≡ NoRecord
 
--- so it is of all bytes
+-- the same for all bytes
 abbrev pub AllFrontsStay : Type 0
 AllFrontsStay = (kinds : List ℕ) (texts : ℕ) (bytes more : List ℕ) → FrontsStay kinds texts bytes more
 
--- the records of bytes that end behind a whole one come first, and then those of what follows
+-- the records of bytes that end after a whole one come first, and then those of what follows
 abbrev pub RecordsGoOn : Type 0
 RecordsGoOn = (kinds : List ℕ) (texts number : ℕ) (bytes more : List ℕ) → (records_numbered kinds texts number bytes).1 ≡ Whole →
     let entries : List StreamEntry = (records_numbered kinds texts number bytes).0 in

@@ -1,4 +1,4 @@
--- What the calls of the table services do to what is held under names.
+-- What the calls of the table services change under each name.
 use Rattle.std.specs.Prelude.{◌≡◌, ℕ, ◌<◌, List, [], ◌∷◌, map, length, Option, Some, None, Ok, IfOk}
 use Rattle.lc_model.specs.Name.{Name}
 use Rattle.lc_model.specs.Refusal.{◌>>=◌}
@@ -9,7 +9,7 @@ use Rattle.lc_model.specs.Kept.Executive.{seat_count}
 use Rattle.lc_model.specs.Services.Tables.{Table, TableService, Handle, IsTableService, tables_at, table_at, file_put, table_registered, tables_unregistered, slot_changed}
 use Rattle.lc_model.specs.Services.Seen.{files_seen, meaning_of, slot_among}
 
--- under each of these names nothing is held any more
+-- under each of these names there is nothing any more
 abbrev pub withdrawn : {X : Type 0} → List Name → (Name → Option X) → Name → Option X
 withdrawn [] held = held
 withdrawn (name ∷ names) held = withdrawn names (with_at name None held)
@@ -24,7 +24,7 @@ abbrev pub RegisteringTables : Type 0
 RegisteringTables = (seat : ℕ) (name : Name) (size : ℕ) (other : Option ℕ) (service : TableService) → seat < seat_count → IsTableService service →
     IfOk (table_registered seat name size other service) (λ (after : TableService). slot_among after.places ≡ with_at name (Some no_images) (slot_among service.places))
 
--- a seat's tables are gone; what other names have stays
+-- a seat's tables are removed; what other names have stays
 abbrev pub UnregisteringTables : Type 0
 UnregisteringTables = (seat : ℕ) (service : TableService) → IsTableService service →
     slot_among (tables_unregistered seat service).places ≡ withdrawn (map (λ (table : Table). table.name) (tables_at seat service.places)) (slot_among service.places)

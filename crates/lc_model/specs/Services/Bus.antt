@@ -25,15 +25,15 @@ Bus = List (Option Queue)
 
 -- ---- limits
 
--- a pipe holds so many packets
+-- the most packets in a pipe
 abbrev pub pipe_depth : ℕ
 pipe_depth = 72
 
--- a pipe has so many subscriptions
+-- the most subscriptions of a pipe
 abbrev pub most_subscriptions : ℕ
 most_subscriptions = 256
 
--- so many publications may wait: each pipe full, each of its packets in no other
+-- the most publications that wait: each pipe full, each of its packets in no other
 abbrev pub most_publications : ℕ
 most_publications = 576
 
@@ -87,18 +87,18 @@ abbrev pub distinct_count : List ℕ → ℕ
 distinct_count [] = 0
 distinct_count (n ∷ numbers) = (if is_among n numbers then 0 else 1) + distinct_count numbers
 
--- the publications that may still come before one of those that wait is received by all
+-- how many more publications may wait beside those that wait now
 abbrev pub free_publications : Bus → ℕ
 free_publications bus = most_publications - distinct_count (waiting_numbers bus)
 
 -- ---- pipes come and go
 
--- the bus after a call, where it is not refused
+-- the bus after a call that is not refused
 abbrev pub after : Bus → Result Bus Refusal → Bus
 after bus (Ok new) = new
 after bus (Err refusal) = bus
 
--- why it is refused
+-- why a call is refused
 abbrev pub refusal_of : Result Bus Refusal → Option Refusal
 refusal_of (Ok new) = None
 refusal_of (Err refusal) = Some refusal
@@ -111,7 +111,7 @@ with_pipe seat bus queue = slice_set bus seat (Some queue)
 abbrev pub pipe_added : ℕ → Bus → Result Bus Refusal
 pipe_added seat bus = option_map_or (λ (queue : Queue). refused second_pipe) (pipe_at seat bus) (Ok (with_pipe seat bus new_pipe))
 
--- a seat's pipe goes, with its subscriptions and what waits in it
+-- a seat's pipe is removed, with its subscriptions and what waits in it
 abbrev pub pipe_removed : ℕ → Bus → Result Bus Refusal
 pipe_removed seat bus = do
   queue ← found (pipe_at seat bus) no_pipe
@@ -129,7 +129,7 @@ joined mid queue =
     provided (is_subscribed mid queue || nat_lt (length queue.subscriptions) most_subscriptions) too_many_subscriptions
     (record queue { subscriptions = with_mid mid queue.subscriptions })
 
--- a message id less
+-- one message id less
 abbrev pub parted : ℕ → Queue → Queue
 parted mid queue = record queue { subscriptions = filter (λ other. not (mid == other)) queue.subscriptions }
 
@@ -173,7 +173,7 @@ offered_as number packet queue =
     if is_subscribed (message_id packet) queue
     then record queue { waiting = queue.waiting ++ record { number = number; bytes = packet } ∷ [] } else queue
 
--- the bus after it: each pipe that hears the packet has it once, behind what waits
+-- the bus after it: each pipe that hears the packet has it once, after what waits
 abbrev pub published_as : ℕ → List ℕ → Bus → Bus
 published_as number packet bus = map (option_map (offered_as number packet)) bus
 

@@ -24,7 +24,7 @@ pub data EventCall : Type 0 where
   ResetFilters : (name : Name) → EventCall
   SetTypes : (name : Name) (bits : ℕ) (on : Bool) → EventCall
 
--- what a call answers: the packet, if one is sent, or a refusal
+-- what a call returns: the packet, if one is sent, or a refusal
 abbrev pub Answer : Type 0
 Answer = Result (Option (List ℕ)) Refusal
 
@@ -33,7 +33,7 @@ abbrev pub HasFourTypes : EventCall → Type 0
 HasFourTypes (SetTypes name bits on) = bits < sets_of_types
 HasFourTypes call = ⊤
 
--- what there is after a call, with its answer; a call that is refused changes nothing
+-- the services after a call, with its result; a call that is refused changes nothing
 abbrev pub unless_refused : {A : Type 0} → A → Result A Refusal → A × Answer
 unless_refused old (Ok new) = (new, Ok None)
 unless_refused old (Err refusal) = (old, Err refusal)
@@ -41,7 +41,7 @@ unless_refused old (Err refusal) = (old, Err refusal)
 abbrev pub with_packet : {A : Type 0} → A × Option (List ℕ) → A × Answer
 with_packet step = (step.0, Ok step.1)
 
--- one call after the other: what there is in the end, and the answers in order
+-- one call after the other: the services in the end, and the results in order
 abbrev pub all_after : {A : Type 0} → (EventCall → A → A × Answer) → List EventCall → A → A × List Answer
 all_after after [] a = (a, [])
 all_after {A} after (call ∷ calls) a =
@@ -51,7 +51,7 @@ all_after {A} after (call ∷ calls) a =
 
 -- ---- in numbers
 
--- the services after a call, and its answer
+-- the services after a call, and its result
 abbrev pub called : EventCall → EventService → EventService × Answer
 called (Register seat name) service = unless_refused service (registered_at seat name service)
 called (Unregister seat) service = unless_refused service (unregistered_at seat service)
@@ -128,7 +128,7 @@ abbrev pub asked_at : Origin → Moment → ℕ → EventKind → List ℕ → E
 asked_at origin moment id kind text history =
     option_map_or (λ (sender : Remembered). sent_by_log origin sender moment id kind text history) (remembered_at origin history) (history, None)
 
--- the history after a call, and its answer
+-- the history after a call, and its result
 abbrev pub happened : EventCall → EventHistory → EventHistory × Answer
 happened (Register seat name) history = unless_refused history (begun_at seat name history)
 happened (Unregister seat) history = unless_refused history (ended_at seat history)
@@ -139,7 +139,7 @@ happened (SetTypes name bits on) history = unless_refused history (joined_at nam
 
 -- ---- the one by the other
 
--- what is kept of a sender, and of all
+-- what is stored of a sender, and of all senders
 abbrev pub sender_of : Remembered → Sender
 sender_of sender = record { name = sender.name; events = event_state sender.log }
 

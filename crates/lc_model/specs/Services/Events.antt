@@ -1,4 +1,4 @@
--- Who sends events, and what each call of the event services answers and changes. Types and filters are those of the cFE
+-- Who sends events, and what each call of the event services returns and changes. Types and filters are those of the cFE
 -- user's guide (event services); that senders have seats, and the numbers of the refusals, are this project's own.
 use Rattle.std.specs.Prelude.{◌≡◌, ℕ, ◌+◌, ◌%◌, ◌<◌, Bool, false, ◌||◌, List, [], ◌∷◌, length, replicate, slice_index_or, slice_set, if◌then◌else◌, Option, Some, None, is_some, option_map, Result, Ok, ◌==◌}
 use Rattle.std.specs.Option.{option_map_or}
@@ -52,7 +52,7 @@ events_among (Some sender ∷ places) name = if is_named name sender.name then S
 abbrev pub sender_named : EventService → Name → Option EventState
 sender_named service name = if is_named name host_name then Some service.host else events_among service.places name
 
--- whose events: HOST's, or those of the sender of a seat
+-- a place of a sender: HOST, or a seat
 abbrev pub Origin : Type 0
 Origin = Option ℕ
 
@@ -71,7 +71,7 @@ with_events None sender events service = record service { host = events }
 with_events (Some seat) sender events service =
     record service { places = slice_set service.places seat (Some (record { name = sender.name; events = events })) }
 
--- ---- what is so between any two calls
+-- ---- what holds between any two calls
 
 -- the names of the senders
 abbrev pub names_of : List (Option Sender) → List Name
@@ -94,7 +94,7 @@ registered_at seat name service =
     if is_some (slice_index_or service.places seat None) || is_some (origin_named name service) then refused sender_taken
     else Ok (record service { places = slice_set service.places seat (Some (record { name = name; events = new_sender })) })
 
--- a seat sends events no more, and its filters are gone
+-- a seat no longer sends events, and its filters are removed
 abbrev pub unregistered_at : ℕ → EventService → Result EventService Refusal
 unregistered_at seat service =
     if is_some (slice_index_or service.places seat None) then Ok (record service { places = slice_set service.places seat None })
@@ -112,7 +112,7 @@ commanded name item service = do
 
 -- ---- sending
 
--- what a sender's request for an event leads to, where so many event packets were sent before: its types and filters, the
+-- what a sender's request for an event leads to, where this many event packets were sent before: its types and filters, the
 -- number of packets, and the packet, where the event is sent
 pub record Asked : Type 0 where
   pub events : EventState
@@ -132,7 +132,7 @@ abbrev pub accounted_at : Origin → Sender → Asked → EventService → Event
 accounted_at origin sender asked service = (record (with_events origin sender asked.events service) { sent = asked.sent }, asked.packet)
 
 -- an event of HOST or of the sender of a seat: the services afterwards, and the packet that is sent. Where nobody is
--- registered nothing is.
+-- registered nothing is sent.
 abbrev pub event_asked : Origin → Moment → ℕ → EventKind → List ℕ → EventService → EventService × Option (List ℕ)
 event_asked origin moment id kind text service =
     option_map_or (λ (sender : Sender). accounted_at origin sender (asked_by sender moment id kind text service.sent) service)

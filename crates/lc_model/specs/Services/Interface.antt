@@ -1,4 +1,4 @@
--- The rules of the interface between the host and its applications, for every object whatever it is: what a call may rest on, and
+-- The rules of the interface between the host and its applications, for an object of any kind: what a call may rest on, and
 -- which parts of the services it may change. From the cFE user's guide, executive services (applications and their
 -- resources); seats, and the bounds of one call, are this project's own.
 use Rattle.std.specs.Prelude.{◌≡◌, ◌≢◌, ℕ, ◌+◌, ◌<◌, ◌≤◌, ◌⊎◌, Bool, List, [], ◌∷◌, ◌++◌, length, filter, slice_index_or, Option, Some, None, option_map, IsTrue, IsFalse, IfSome, bytes_eq, take}
@@ -69,7 +69,7 @@ pub record LeavesOthersAlone (seat : ℕ) (before after : Held) : Type 0 where
 abbrev pub seen_at : ℕ → Held → Option Pipe
 seen_at seat held = slice_index_or (seen held.bus) seat None
 
--- each other seat has its pipe as it was, with those of the published packets that it hears behind what waits
+-- each other seat has its pipe as it was, with those of the published packets that it hears after what waits
 abbrev pub PipesHear : ℕ → List (List ℕ) → Held → Held → Type 0
 PipesHear seat published before after = (other : ℕ) → other ≢ seat →
     seen_at other after ≡ option_map (λ (pipe : Pipe). record pipe { waiting = pipe.waiting ++ filter (λ packet. hears packet pipe) published }) (seen_at other before)
@@ -78,7 +78,7 @@ PipesHear seat published before after = (other : ℕ) → other ≢ seat →
 abbrev pub outgoing_room : ℕ
 outgoing_room = 65536
 
--- a call publishes so many packets at most
+-- a call publishes at most this many packets
 abbrev pub most_published : ℕ
 most_published = 8
 
@@ -124,7 +124,7 @@ pub record MayPublish (packet : List ℕ) (published : List (List ℕ)) : Type 0
   pub for_ticks : published ≢ [] → message_id packet ≡ tick_mid
   pub no_ticks : AllByRecursion (λ (other : List ℕ). message_id other ≢ tick_mid) published
 
--- an object's own pipe after its call: what waited still does, unless the pipe is a new one, and behind it some of what was
+-- an object's own pipe after its call: what waited still does, unless the pipe is a new one, and after it some of what was
 -- published
 pub record IsOwnPipe (old : Option Pipe) (published : List (List ℕ)) (new : Pipe) : Type 0 where
   pub stayed : List (List ℕ)

@@ -41,7 +41,7 @@ pub record IsSettled (state : AppState) (seat : ℕ) (held : Held) : Type 0 wher
   pub tables : map form_of (tables_at seat held.tables.places) ≡ own_forms state
   pub pipe : option_map (λ (pipe : Pipe). pipe.subscriptions) (seen_at seat held) ≡ Some (subscriptions_of state)
 
--- of another object than these three nothing is said
+-- nothing is promised about an object other than these three
 abbrev pub Settled : AppState → ℕ → Held → Type 0
 Settled Other seat held = ⊤
 Settled state seat held = IsSettled state seat held

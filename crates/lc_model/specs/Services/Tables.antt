@@ -1,4 +1,4 @@
--- Stored files and registered tables, and what each call of the table services answers and changes. Loads, validation,
+-- Stored files and registered tables, and what each call of the table services returns and changes. Loads, validation,
 -- activation and abortion are the cFE user's guide's (table services); that tables belong to seats, the limits and the numbers
 -- of the refusals are this project's own.
 use Rattle.std.specs.Prelude.{◌≡◌, ℕ, ◌+◌, ◌≤◌, Bool, false, ◌&&◌, ◌||◌, ◌==◌, nat_lt, nat_le, List, [], ◌∷◌, ◌++◌, length, map, replicate, slice_get, slice_index_or, slice_set, if◌then◌else◌, Option, Some, None, is_some, is_none, Result, Ok, Err}
@@ -25,7 +25,7 @@ pub record TableService : Type 0 where
   pub files : List (Name × List ℕ)
   pub places : List (List Table)
 
--- a seat has at most so many tables
+-- the most tables of a seat
 abbrev pub tables_a_seat : ℕ
 tables_a_seat = 2
 
@@ -35,7 +35,7 @@ first_tables = record { files = []; places = replicate seat_count [] }
 
 -- ---- files
 
--- the files with one more, in place of another of its name. One that is too long, or finds no place, is refused.
+-- the files with one more, in place of another of its name. One that is too long, or has no place, is refused.
 abbrev pub files_with : Name → List ℕ → List (Name × List ℕ) → Result (List (Name × List ℕ)) Refusal
 files_with name bytes files =
     if nat_lt max_file_size (length bytes) then refused file_too_long
@@ -98,17 +98,17 @@ table_registered seat name size other service =
     if nat_le tables_a_seat (length tables) || is_some (handle_named name service.places) then refused no_slot
     else Ok (record service { places = slice_set service.places seat (tables ++ new_table name size other ∷ []) })
 
--- its handle: it comes behind the seat's others
+-- its handle: it comes after the seat's others
 abbrev pub new_handle : ℕ → TableService → Handle
 new_handle seat service = record { seat = seat; number = length (tables_at seat service.places) }
 
--- all tables of a seat go, with their images
+-- all tables of a seat are removed, with their images
 abbrev pub tables_unregistered : ℕ → TableService → TableService
 tables_unregistered seat service = record service { places = slice_set service.places seat [] }
 
 -- ---- images
 
--- the slot of a handle; of a handle without a table nothing is asked
+-- the slot of a handle; a handle without a table has an empty one, which nothing uses
 abbrev pub slot_at : Handle → TableService → Slot (List ℕ)
 slot_at handle service = option_map_or (λ (table : Table). table.slot) (table_at handle service.places) no_images
 
@@ -190,7 +190,7 @@ table_commanded (Load name) service = do
   with_places service (loaded_among bytes service.places)
 table_commanded (Manage move name) service = with_places service (moved_among move name service.places)
 
--- ---- what is so between any two calls
+-- ---- what holds between any two calls
 
 -- how many of these tables have a name
 unfoldable pub times_in : Name → List Table → ℕ

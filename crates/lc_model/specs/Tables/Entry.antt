@@ -25,7 +25,7 @@ offset_field entry = u32_at entry 4
 abbrev pub mask_field : List ℕ → ℕ
 mask_field entry = u32_at entry 8
 
--- what is to be 0
+-- the bytes that are 0
 abbrev pub zero_field : List ℕ → ℕ
 zero_field entry = u32_at entry 12
 
@@ -68,7 +68,7 @@ event_type_field entry = u16_at entry 10
 abbrev pub event_id_field : List ℕ → ℕ
 event_id_field entry = u16_at entry 12
 
--- the event's text and the zeros behind it
+-- the event's text and the zeros after it
 abbrev pub text_field : List ℕ → List ℕ
 text_field entry = slice_range entry 14 46
 

@@ -15,7 +15,7 @@ compiled_actionpoints = WideActionpoints
 abbrev pub layouts : List Layout
 layouts = Watchpoints ∷ Actionpoints ∷ compiled_actionpoints ∷ []
 
--- what a text's equations may take: the words of an entry
+-- the most words of a text's equations: those of an entry
 abbrev pub limits : Limits
 limits = record { words = words_in compiled_actionpoints }
 

@@ -10,7 +10,7 @@ use Rattle.lc_model.specs.Tables.Compiling.{Limits}
 abbrev pub words_in : (Condition → Condition) → List Term → NamedRule → List ℕ
 words_in arranged terms rule = words terms (arranged rule.action.condition)
 
--- so few operands wait at once in a rule's words that two to their number is within the limit of words: at most 4 where it is
--- 20, and 5 where it is 32
+-- two to the number of operands that wait at once in a rule's words is at most the limit of words: so at most 4 wait where it
+-- is 20, and 5 where it is 32
 abbrev pub NeedsFew : Limits → (Condition → Condition) → NamedRule → Type 0
 NeedsFew limits arranged rule = 2 ^ need (arranged rule.action.condition) ≤ limits.words

@@ -5,7 +5,7 @@ ghost use Rattle.lc_model.specs.Device.{one_call_more, WritesSome, WriteFails};
 
 use crate::device::{ByteSink, DeviceFault};
 
-/// Takes bytes into a slice from its front on, up to a limit, and fails at one write if it is told to. It tells its bytes.
+/// A sink that fills a slice from its front, up to a limit, and that may fail at one chosen write. Contracts know its bytes.
 #[derive(Drop)]
 pub struct Limited<'a> {
     /// Where the bytes go.
@@ -25,7 +25,7 @@ pub struct Limited<'a> {
 }
 
 impl<'a> Limited<'a> {
-    /// Takes `limit` bytes, and fails behind them. The room is at least as long.
+    /// A sink that takes `limit` bytes and then fails. The room is at least that long.
     pub fn new(room: &'a mut [u8], limit: usize) -> Limited<'a>
         requires { limit ≤ length room.old }
         ensures room { result.room.now ≡ room.old }
@@ -86,7 +86,7 @@ impl<'a> ByteSink for Limited<'a> {
             (WriteFails (⟦<Limited<'a> as ByteSink>⟧.sink self.old)
             (⟦<Limited<'a> as ByteSink>⟧.sink self.new)) }
 
-        // It fails at the write that it is told to fail at and behind its limit, and takes all that the limit allows.
+        // The chosen write fails, and so does a write at the limit; any other takes all that the limit allows.
         ensures told { IsErr result ↔ ((self.old.fault_at ≡ Some self.new.writes) ⊎
             (self.old.taken ≡ self.old.limit)) }
         ensures whole { IfOk result

@@ -5,7 +5,7 @@ ghost use Rattle.lc_model.specs.Device.{one_call_more, ReadsSome, ReadFails};
 
 use crate::device::{ByteSource, DeviceFault};
 
-/// Gives the bytes of a slice, at most so many a read, and fails at one read if it is told to. It tells its bytes.
+/// A source that gives the bytes of a slice in pieces, and that may fail at one chosen read. Contracts know its bytes.
 #[derive(Drop)]
 pub struct Pieces<'a> {
     /// The bytes that are left.
@@ -73,7 +73,7 @@ impl<'a> ByteSource for Pieces<'a> {
             (⟦<Pieces<'a> as ByteSource>⟧.source self.new)) }
         ensures counted { self.new.reads ≡ one_call_more self.old.reads }
 
-        // It fails at the read that it is told to fail at, and gives all that a piece, the buffer and the rest allow.
+        // The chosen read fails; any other gives all that a piece, the buffer and the rest allow.
         ensures told { IsErr result ↔ (self.old.fault_at ≡ Some self.new.reads) }
         ensures whole { IfOk result
             (λ count. count ≡ min (min self.old.most (length buffer.old))

@@ -5,8 +5,8 @@ ghost use Rattle.std.specs.Prelude.{◌≡◌, false};
 use crate::device::{ByteSource, DeviceFault};
 use std::io::Read;
 
-/// Reads from a reader, and tells the bytes that it tells: none of a file's. Each of its errors is a fault, an interrupted
-/// call among them.
+/// A source over a reader. Contracts know its bytes where they know the reader's, so not those of a file. Each error of the
+/// reader is a fault, that of an interrupted call too.
 #[derive(Drop)]
 pub struct Reading<R: Drop> {
     reader: R,
@@ -15,7 +15,7 @@ pub struct Reading<R: Drop> {
 }
 
 impl<R: Read + Drop> Reading<R> {
-    /// Nothing was read or failed yet.
+    /// A source over this reader, before its first read.
     pub fn new(reader: R) -> Reading<R>
         ensures { ⟦<Reading<R> as ByteSource>⟧.source result ≡
             record { rest = R.remaining reader; reads = 0; failed = false } }

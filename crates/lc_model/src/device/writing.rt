@@ -5,8 +5,8 @@ ghost use Rattle.std.specs.Prelude.{◌≡◌, false};
 use crate::device::{ByteSink, DeviceFault};
 use std::io::Write;
 
-/// Writes to a writer, and tells the bytes that it tells: none of a file's. Each of its errors is a fault, an interrupted
-/// call among them, and so is a write that takes no byte.
+/// A sink over a writer. Contracts know its bytes where they know the writer's, so not those of a file. Each error of the
+/// writer is a fault, that of an interrupted call too, and so is a write that takes no byte.
 #[derive(Drop)]
 pub struct Writing<W: Drop> {
     writer: W,
@@ -14,7 +14,7 @@ pub struct Writing<W: Drop> {
 }
 
 impl<W: Write + Drop> Writing<W> {
-    /// Nothing failed yet.
+    /// A sink over this writer, before its first write.
     pub fn new(writer: W) -> Writing<W>
         ensures { ⟦<Writing<W> as ByteSink>⟧.sink result ≡
             record { gained = W.contents writer; failed = false } }

@@ -1,4 +1,4 @@
-//! The effort that the Limit Checker tells of.
+//! The effort that the Limit Checker reports.
 
 ghost use Rattle.lc_model.specs.Laws.Effort.{ProbesAreComparisons, ProbesAreFew, SamplesAreBounded, SearchesAreBounded};
 

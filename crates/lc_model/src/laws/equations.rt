@@ -15,12 +15,12 @@ pub fn equations_are_spelled()
     ensures { EquationsAreSpelled }
 {}
 
-/// The need of an equation is the most operands that wait behind any front of it.
+/// The need of an equation is the greatest number of operands that wait after any of its first words.
 pub fn need_is_most_waiting()
     ensures { NeedIsMostWaiting }
 {}
 
-/// With the heavier operand first few operands wait.
+/// With the heavier operand first, few operands wait.
 pub fn heavier_first_is_light(c: &Cond)
     ensures { IsLight (condition_of c.now) }
 {}

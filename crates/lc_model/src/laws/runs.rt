@@ -15,20 +15,20 @@ pub fn bytes_run_as_texts()
     ensures { BytesRunAsTexts }
 {}
 
-/// With one text whose tables stay it is so without premises on hashes and raw files.
+/// With one text whose tables stay, the same holds without premises on hashes and raw files.
 pub fn bytes_run_as_fixed_text()
     ensures { BytesRunAsFixedText }
 {}
 
-/// What is sent for one record more comes behind all else.
+/// What is sent for one record more comes after all else.
 pub fn runs_go_on()
     ensures halves { (layouts : List Layout) → RunsGoOn (as_halves layouts) }
     ensures bytes { (layouts : List Layout) → RunsGoOn (as_bytes layouts) }
 {}
 
-/// Whoever runs a stream as `IsRun` says writes what is called for.
+/// A run that `IsRun` describes writes what the rule texts call for.
 pub fn runs_write_what_is_called_for()
-    // A failed read or write is answered where one failed, and nowhere else.
+    // A run ends with a failed read or write exactly where one failed.
     ensures failures { RunsTellFailures }
 
     // Whatever fails: over the bytes that were taken. Where the stream is known, its raw files are those that count.

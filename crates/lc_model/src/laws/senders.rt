@@ -3,7 +3,7 @@
 ghost use Rattle.std.specs.Prelude.{List, ℕ};
 ghost use Rattle.lc_model.specs.Laws.Senders.{AllSameByLogs, ChangesKeep, CommandsByName, CommandsKeep, EventsByName, EventsKeep, FirstIsService, RegisteringByName, RegisteringKeeps, SameByLogs, UnregisteringByName, UnregisteringKeeps};
 
-/// Eight seats, names that differ, and a count below 16,384: no call of the event services changes that. To read.
+/// Eight seats, names that differ, and a count below 16,384: no call of the event services changes that.
 pub fn event_services_stay_sound()
     ensures first { FirstIsService }
     ensures registering { RegisteringKeeps }

@@ -2,17 +2,17 @@
 
 ghost use Rattle.lc_model.specs.Laws.Stream.{AllFrontsStay, FrontDecides, RecordsGoOn};
 
-/// The records of a stream come one by one: what stands in front decides.
+/// The front of a stream decides what comes first: a record and then those of the rest, or the end.
 pub fn front_decides()
     ensures { FrontDecides }
 {}
 
-/// A record in front of some bytes stays there, whatever follows, and so does what is none. To read.
+/// A record at the front of some bytes stays there whatever follows, and so does a bad record.
 pub fn fronts_stay()
     ensures { AllFrontsStay }
 {}
 
-/// The records of bytes that end behind a whole one come first, and then those of what follows.
+/// The records of bytes that end after a whole one come first, and then those of what follows.
 pub fn records_go_on()
     ensures { RecordsGoOn }
 {}

@@ -3,8 +3,8 @@
 ghost use Rattle.lc_model.specs.Laws.TableServices.{ChangesStaySound, CommandsStaySound, FilesStaySound, FirstIsSound, RegisteringStaysSound, UnregisteringStaysSound};
 ghost use Rattle.lc_model.specs.Laws.TablesByName.{TablesAreFound, RegisteringTables, UnregisteringTables, ChangingTables, StoringFiles};
 
-/// Whatever is called, there are at most eight files under names of their own, within their bound, and at most two tables on a
-/// seat, none of a name that another has.
+/// After any call there are at most eight files, each with a name of its own and within the bound on its size, and at most
+/// two tables on a seat, each with a name of its own.
 pub fn table_services_stay_sound()
     ensures first { FirstIsSound }
     ensures files { FilesStaySound }

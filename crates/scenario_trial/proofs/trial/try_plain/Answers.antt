@@ -1,6 +1,5 @@
-use Rattle.std.proofs.Common.{rules, ◌≡◌, ◌∙◌, ap, List, ℕ}
+use Rattle.std.proofs.Common.{rules}
 use Rattle.flight_core.specs.Compiled.{sources_of}
-use Rattle.scenario_trial.specs.Reading.{silenced_in}
 use Rattle.scenario_trial.specs.Untried.{plain_script_of}
 use Rattle.scenario_trial.proofs.Ahead.{ahead_of}
 use Rattle.scenario_trial.proofs.TrialSteps.{outcome_so}
