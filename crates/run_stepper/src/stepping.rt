@@ -20,10 +20,7 @@ use limit_engine::Engine;
 use rpn_compiler::TablePair;
 use schedules::Schedule;
 use std::alloc::Global;
-use table_file::table_name;
-
-/// The bytes of the two headers in front of the image in a table file.
-const HEADERS_LENGTH: usize = 116;
+use table_file::{HEADERS_LENGTH, table_name};
 
 /// Collects in memory the packets that one record leads to. A write fails only if memory runs out.
 #[derive(Drop)]

@@ -22,7 +22,7 @@ pub const SUBTYPE: u32 = 8;
 /// The bytes of the cFE file header.
 pub const FILE_HEADER_LENGTH: u32 = 64;
 
-/// The bytes of both headers, before the image.
+/// The bytes of both headers of a table file, before the image.
 pub const HEADERS_LENGTH: usize = 116;
 
 /// A file that was opened: each field that may have more than one value, as read, and the image, a slice of the file.

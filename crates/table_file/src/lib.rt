@@ -19,7 +19,7 @@ pub use actionpoint::ActionpointEntry;
 pub use encode::{encode_adt, encode_wdt};
 pub use entry::{are_zeros, entry_bytes, is_blank};
 pub use error::FileError;
-pub use file::{TableFile, open};
+pub use file::{HEADERS_LENGTH, TableFile, open};
 pub use image::{AdtImage, AdtVersion, TableEntry, WdtImage};
 pub use layout::Layout;
 pub use watchpoint::WatchpointEntry;

@@ -27,10 +27,10 @@ pub enum FaultCode {
     /// An unused entry isn't 0xFF and zeros, or a watchpoint's zero field isn't 0.
     #[error("an unused entry isn't blank, or a zero field isn't 0")]
     NotBlank,
-    /// The field's type isn't 1 to 10.
+    /// No field type has the type's number.
     #[error("no such type")]
     UnknownType,
-    /// The comparison isn't 1 to 6.
+    /// No comparison has the operator's number.
     #[error("no such comparison")]
     UnknownOperator,
     /// The message id isn't telemetry's, or it is one of the host's own.
