@@ -26,4 +26,4 @@ pub use message::{Mark, Message};
 pub use object_line::{message_line, note_line};
 pub use page::{MOST_TOLD, page_of, warnings_page_of};
 pub use parts::{behind, front};
-pub use quoting::{around, printable, push_quoted, quote};
+pub use quoting::{around, choice_of, printable, push_quoted, quote};

@@ -59,3 +59,16 @@ pub fn around(
     text.push_str(behind)?;
     Ok(text)
 }
+
+/// The words, each between backticks, as a choice in a sentence: `a`, `b` or `c`. Error: out of memory.
+pub fn choice_of(alloc: Global, words: &[&[u8]]) -> Result<String, AllocError> {
+    let mut text = String::new(alloc);
+    for (number, word) in words.iter().enumerate() {
+        if number > 0 {
+            let is_last = number == words.len() - 1;
+            text.push_str(if is_last { " or " } else { ", " })?;
+        }
+        push_quoted(alloc, &mut text, *word)?;
+    }
+    Ok(text)
+}

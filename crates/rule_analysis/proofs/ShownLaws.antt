@@ -19,7 +19,7 @@ use Rattle.rule_analysis.specs.Laid.{IsLaid, HasRoom, chosen_of, packet_byte}
 use Rattle.rule_analysis.proofs.Each.{each}
 use Rattle.rule_analysis.proofs.FieldLaws.{same_place}
 use Rattle.rule_analysis.proofs.LaidLaws.{pair_of}
-use Rattle.rule_analysis.proofs.TelemetryLaws.{at_most, no_less}
+use Rattle.rule_analysis.proofs.TelemetryLaws.{at_most, first_holds, first_none, no_less, second_holds, second_none}
 use Rattle.rule_analysis.proofs.BitLaws.{few_bits, LeavesAt, LeaveOthers, has_bits, header_leaves, small_packet_byte, reads_alike}
 
 -- ---- tests
@@ -29,22 +29,6 @@ equal m n e = grind (arith, nat_tests)
 
 no_bits : (n : ℕ) → not (n == 0) ≡ false → n ≡ 0
 no_bits n e = grind (arith, nat_tests)
-
-first_holds : (a b : Bool) → (a && b) ≡ true → a ≡ true
-first_holds true b e = refl
-first_holds false b e = cc
-
-second_holds : (a b : Bool) → (a && b) ≡ true → b ≡ true
-second_holds true b e = e
-second_holds false b e = cc
-
-first_none : (a b : Bool) → (a || b) ≡ false → a ≡ false
-first_none true b e = cc
-first_none false b e = refl
-
-second_none : (a b : Bool) → (a || b) ≡ false → b ≡ false
-second_none true b e = cc
-second_none false b e = e
 
 -- ---- lists
 

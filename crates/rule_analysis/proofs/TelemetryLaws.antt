@@ -13,19 +13,19 @@ use Rattle.rule_analysis.specs.Laid.{IsLaid, byte_over}
 use Rattle.rule_analysis.proofs.LaidLaws.{own_id}
 use Rattle.rule_analysis.proofs.BitLaws.{all_small, be_two}
 
-first_holds : (a b : Bool) → (a && b) ≡ true → a ≡ true
+pub first_holds : (a b : Bool) → (a && b) ≡ true → a ≡ true
 first_holds true b e = refl
 first_holds false b e = cc
 
-second_holds : (a b : Bool) → (a && b) ≡ true → b ≡ true
+pub second_holds : (a b : Bool) → (a && b) ≡ true → b ≡ true
 second_holds true b e = e
 second_holds false b e = cc
 
-first_none : (a b : Bool) → (a || b) ≡ false → a ≡ false
+pub first_none : (a b : Bool) → (a || b) ≡ false → a ≡ false
 first_none true b e = cc
 first_none false b e = refl
 
-second_none : (a b : Bool) → (a || b) ≡ false → b ≡ false
+pub second_none : (a b : Bool) → (a || b) ≡ false → b ≡ false
 second_none true b e = cc
 second_none false b e = e
 

@@ -5,9 +5,9 @@ ghost use Rattle.diagnostics.specs.Message.{IsAt};
 
 use crate::marks::{declared_mark, text_of, token_mark};
 use crate::source::{Declaration, NameKind, Source, begins_item};
-use crate::wanted::{TYPES, describe_found, describe_wanted, is_reserved, words_for};
-use diagnostics::{Mark, Message, around, nearest, printable};
-use lc_model::CmpOp;
+use crate::wanted::{describe_found, describe_wanted, is_reserved, words_for};
+use diagnostics::{Mark, Message, around, choice_of, nearest, printable};
+use lc_model::{CmpOp, TYPE_WORDS};
 use rule_lexer::{Token, TokenKind};
 use rule_parser::{Sign, What};
 use std::alloc::{AllocError, Global};
@@ -169,7 +169,6 @@ impl<'a> Stop<'_, 'a> {
     /// What to do, by the class of token that is expected.
     fn class_label(&self) -> Option<&'static str> {
         match self.what {
-            What::FieldKind => Some(TYPES),
             What::State => Some("write one of these three"),
             What::Level => Some("write one of these four"),
             _ => self.kind_label(),
@@ -194,6 +193,10 @@ impl<'a> Stop<'_, 'a> {
 
     /// What to do if no similar word is known.
     fn other_label(&self, alloc: Global) -> Result<String, AllocError> {
+        if self.what == What::FieldKind {
+            let types = choice_of(alloc, TYPE_WORDS)?;
+            return format!(in alloc; "a type is {types}");
+        }
         match self.own_label() {
             Some(label) => String::from_str(alloc, label),
             None => self.plain_label(alloc),

@@ -7,10 +7,6 @@ use rule_lexer::{Token, TokenKind};
 use rule_parser::{Sign, What, Word};
 use std::alloc::{AllocError, Global};
 
-/// The field types, as a list in words.
-pub const TYPES: &str =
-    "a type is `u8`, `i8`, `u16be`, `u16le`, `i16be`, `i16le`, `u32be`, `u32le`, `i32be` or `i32le`";
-
 /// The words that begin an item.
 pub const ITEM_WORDS: &[&[u8]] = &[b"packet", b"field", b"rule"];
 

@@ -5,7 +5,6 @@ ghost use Rattle.flight_core.specs.Compiled.{sources_of};
 ghost use Rattle.flight_core.specs.Records.{piece_size};
 ghost use Rattle.lc_model.specs.Host.Schedule.{Schedule as Plan};
 ghost use Rattle.run_stepper.specs.Stepping.{BeginsWith, IsAtRest, host_in, written_by};
-ghost use Rattle.run_stepper.specs.Trace.{moment_in};
 ghost use Rattle.run_comparison.specs.Coming.{hosts_in};
 ghost use Rattle.run_comparison.specs.Counted.{CountsRecord};
 ghost use Rattle.run_comparison.specs.Course.{AreNew, ComparesTaken, IsBad, IsComparison, run_sources, stop_at};
@@ -18,12 +17,12 @@ use crate::inflow::Inflow;
 use crate::lines::lines_of;
 use crate::stop::Stop;
 use flight_core::laws::{records_are_handed_out, the_rest_says_the_end};
-use lc_model::stream::{self, HALF, HEADER, PIECE};
-use lc_model::{ByteSource, Moment, u16_at};
+use lc_model::stream::{HALF, HEADER, PIECE};
+use lc_model::{ByteSource, u16_at};
 use packet_listing::{TextRules, Time, rules_of};
 use rpn_compiler::RuleText;
 use run_stepper::laws::steps_are_a_run;
-use run_stepper::{Handled, Stepping};
+use run_stepper::{Handled, Stepping, moment_of};
 use schedules::Schedule;
 use std::alloc::{AllocError, Global};
 use std::io::{self, Write};
@@ -52,19 +51,6 @@ struct Comparison<'a> {
     new: &'a [TextRules<'a>],
     commands: &'a CommandNames<'a>,
     texts: usize,
-}
-
-/// The moment of a record; second 0 where its header isn't whole.
-fn moment_of(record: &[u8]) -> Moment
-    ensures { result ≡ moment_in «record».now }
-{
-    if record.len() < HEADER {
-        return Moment {
-            seconds: 0,
-            subseconds: 0,
-        };
-    }
-    stream::moment_of(record)
 }
 
 /// Where the number of a text stands in a record that brings a half of it.

@@ -6,7 +6,7 @@ ghost use Rattle.lc_model.specs.Text.Token.{magnitude_text};
 ghost use Rattle.scenarios.specs.Number.{hexadecimal, magnitude_in, number_in, value_in};
 
 use crate::error::Reason;
-use stream_script::decimal_number;
+use stream_script::{decimal_number, is_negative, without_sign};
 
 /// The most digits of a hexadecimal number.
 const MOST_DIGITS: usize = 8;
@@ -60,20 +60,6 @@ pub(crate) fn number_in(most: u32, word: &[u8]) -> Result<u32, Reason>
         Some(number) if number <= u64::from(most) => Ok(number as u32),
         _ => Err(Reason::BadNumber),
     }
-}
-
-/// Whether a word begins with `-`.
-fn is_negative(word: &[u8]) -> bool
-    ensures { result ≡ bytes_eq (take 1 word.now) (codes "-") }
-{
-    matches!(word, [b'-', ..])
-}
-
-/// The word without the `-` in front.
-fn without_sign(word: &[u8]) -> &[u8]
-    ensures { result.now ≡ magnitude_text word.now }
-{
-    if is_negative(word) { &word[1..] } else { word }
 }
 
 /// The value that a word writes, negative after `-`; without its sign it has at most 32 bits. The error is `BadNumber`.

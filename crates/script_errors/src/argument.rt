@@ -3,7 +3,7 @@
 use crate::said::{LineMessage, advise, expect_word, expected_word, said_of};
 use crate::statement::{Wanted, WordShape};
 use crate::word::{Word, are_digits};
-use diagnostics::{front_character, quote};
+use diagnostics::{choice_of, front_character, quote};
 use std::alloc::{AllocError, Global};
 use std::str;
 use stream_script::decimal_number;
@@ -190,10 +190,33 @@ fn name_said(alloc: Global, word: Word<'_>, most: usize) -> Result<LineMessage, 
     Ok(said_of(word, head, label))
 }
 
+/// What to write.
+fn advice_of(alloc: Global, wanted: Wanted) -> Result<String, AllocError> {
+    match wanted.shape {
+        WordShape::OneOf(words) if wanted.advice.is_empty() => {
+            let words = choice_of(alloc, words)?;
+            format!(in alloc; "write {words}")
+        }
+        _ => String::from_str(alloc, wanted.advice),
+    }
+}
+
+/// The message about a word that isn't one of these.
+fn choice_said(
+    alloc: Global,
+    wanted: Wanted,
+    word: Word<'_>,
+    words: &[&[u8]],
+) -> Result<LineMessage, AllocError> {
+    let advice = advice_of(alloc, wanted)?;
+    expected_word(alloc, word, words, wanted.what, advice.as_str())
+}
+
 /// The message about a word that doesn't have its required shape. Error: out of memory.
 pub fn word_said(alloc: Global, wanted: Wanted, word: Word<'_>) -> Result<LineMessage, AllocError> {
     if word.is_end() {
-        return expect_word(alloc, word, wanted.what, wanted.advice);
+        let advice = advice_of(alloc, wanted)?;
+        return expect_word(alloc, word, wanted.what, advice.as_str());
     }
     match wanted.shape {
         WordShape::Number(least, _) | WordShape::AnyNumber(least, _) => {
@@ -203,6 +226,6 @@ pub fn word_said(alloc: Global, wanted: Wanted, word: Word<'_>) -> Result<LineMe
         WordShape::MessageId => id_said(alloc, wanted, word),
         WordShape::Bytes => bytes_said(alloc, wanted, word),
         WordShape::Name(most) => name_said(alloc, word, most),
-        WordShape::OneOf(words) => expected_word(alloc, word, words, wanted.what, wanted.advice),
+        WordShape::OneOf(words) => choice_said(alloc, wanted, word, words),
     }
 }

@@ -14,7 +14,7 @@ const RESULTS: &[&[u8]] = &[b"none", b"pass", b"fail", b"stale", b"error"];
 
 const MODE: Wanted = Wanted {
     what: "a mode",
-    advice: "write `active`, `passive` or `disabled`",
+    advice: "",
     shape: WordShape::OneOf(STATE_WORDS),
 };
 
@@ -32,13 +32,13 @@ const RULE_OR_ALL: Wanted = Wanted {
 
 const STATE: Wanted = Wanted {
     what: "a state",
-    advice: "write `active`, `passive`, `disabled` or `off`",
+    advice: "",
     shape: WordShape::OneOf(STATES),
 };
 
 const RESULT: Wanted = Wanted {
     what: "a result",
-    advice: "write `none`, `pass`, `fail`, `stale` or `error`",
+    advice: "",
     shape: WordShape::OneOf(RESULTS),
 };
 

@@ -27,7 +27,7 @@ pub enum WordShape {
 pub struct Wanted {
     /// What it is, after "expected".
     pub what: &'static str,
-    /// What to write.
+    /// What to write; empty if it is one of its shape's words.
     pub advice: &'static str,
     /// Its shape.
     pub shape: WordShape,
@@ -132,14 +132,14 @@ const TEXT: Wanted = Wanted {
 
 const KIND: Wanted = Wanted {
     what: "a kind of record",
-    advice: "write `packet`, `tick`, `file` or `half`",
+    advice: "",
     shape: WordShape::OneOf(KINDS),
 };
 
 /// The first word of a field.
 pub const TYPE: Wanted = Wanted {
     what: "the type of a field",
-    advice: "write u8, i8, u16be, u16le, i16be, i16le, u32be, u32le, i32be or i32le",
+    advice: "",
     shape: WordShape::OneOf(TYPE_WORDS),
 };
 

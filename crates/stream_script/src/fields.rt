@@ -11,7 +11,7 @@ ghost use Rattle.stream_script.specs.Error.{IsRefused};
 ghost use Rattle.stream_script.specs.Fields.{field_set, fields_set, payload_of, payload_size, place_in, signed_number, some_type, value_in, written_at};
 
 use crate::error::{Reason, StatementFault};
-use crate::number::number_in;
+use crate::number::{is_negative, number_in, without_sign};
 use lc_model::FieldType;
 use std::alloc::Global;
 
@@ -26,20 +26,6 @@ fn some_type(word: &[u8]) -> Result<FieldType, Reason>
         Some(kind) => Ok(kind),
         None => Err(Reason::UnknownType),
     }
-}
-
-/// Whether `-` stands in front.
-fn is_negative(word: &[u8]) -> bool
-    ensures { result ≡ bytes_eq (take 1 word.now) (codes "-") }
-{
-    matches!(word, [b'-', ..])
-}
-
-/// The word without the `-` in front.
-fn without_sign(word: &[u8]) -> &[u8]
-    ensures { result.now ≡ magnitude_text word.now }
-{
-    if is_negative(word) { &word[1..] } else { word }
 }
 
 /// The number that digits write, negative where `-` stands in front.

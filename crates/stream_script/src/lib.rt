@@ -22,5 +22,5 @@ pub use front::{Front, front_of};
 pub use kind::RecordKind;
 pub use line_reader::{ScriptStream, read_script, read_script_by_lines};
 pub use listing::write_listing_from;
-pub use number::decimal_number;
+pub use number::{decimal_number, is_negative, without_sign};
 pub use writing::{telemetry_line, write_script};
