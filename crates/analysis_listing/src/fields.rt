@@ -2,12 +2,27 @@
 
 ghost use Rattle.std.specs.Prelude.{◌≡◌, None};
 ghost use Rattle.lc_model.specs.Field.{full_mask};
+ghost use Rattle.rule_parser.specs.Syntax.{expression_of};
+ghost use Rattle.analysis_listing.specs.Compared.{compares};
 
 use lc_model::Term;
 use rpn_compiler::RuleText;
 use rule_analysis::{Field, field_of};
-use rule_parser::{FieldItem, Item};
+use rule_parser::{Expression, FieldItem, Item};
 use std::alloc::{AllocError, Global};
+
+/// Whether a condition compares the field of this name.
+pub fn compares(condition: &Expression<'_>, name: &[u8]) -> bool
+    ensures { result ≡ compares name.now (expression_of condition.now) }
+{
+    match condition {
+        Expression::Compare(comparison) => comparison.field.text == name,
+        Expression::Not(operand) => compares(operand, name),
+        Expression::And(operands) | Expression::Or(operands) | Expression::Xor(operands) => {
+            compares(&operands.0, name) || compares(&operands.1, name)
+        }
+    }
+}
 
 /// A field that a text names.
 #[derive(Clone, Copy)]
@@ -65,6 +80,27 @@ impl<'a> FieldNames<'a> {
         for item in items {
             if let Item::Field(item) = item {
                 fields.push(named_field(items, item))?;
+            }
+        }
+        Ok(FieldNames { fields })
+    }
+
+    /// The same names, with those first that a condition uses: of two names for one field it is then called by the condition's. The only
+    /// error is a lack of memory.
+    pub fn first_in(
+        &self,
+        alloc: Global,
+        condition: &Expression<'_>,
+    ) -> Result<FieldNames<'a>, AllocError> {
+        let mut fields = Vec::new(alloc);
+        for named in &self.fields {
+            if compares(condition, named.name) {
+                fields.push(*named)?;
+            }
+        }
+        for named in &self.fields {
+            if !compares(condition, named.name) {
+                fields.push(*named)?;
             }
         }
         Ok(FieldNames { fields })

@@ -11,7 +11,7 @@ mod schedule;
 mod tables;
 
 pub use error::ListingError;
-pub use fields::FieldNames;
+pub use fields::{FieldNames, compares};
 pub use lines::{FieldName, NameSource, ShownTerm, Values};
 pub use listing::{LineChoice, goes_both_ways, list_outcomes, terms_in, why};
 pub use marking::list_actionpoints;

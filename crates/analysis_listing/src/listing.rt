@@ -10,6 +10,7 @@ use crate::said::{RuleFindings, said_of};
 use lc_model::{Rule, Term};
 use rpn_compiler::RuleText;
 use rule_analysis::{ComparisonJudgement, Constancy, Finding, RuleJudgement, UnknownReason, judge};
+use rule_parser::Item;
 use std::alloc::{AllocError, Global};
 use std::io::Write;
 
@@ -34,12 +35,58 @@ pub fn terms_in(
     Ok(terms)
 }
 
-/// The words for the reason why something isn't known.
-pub fn why(reason: UnknownReason) -> &'static str {
-    match reason {
-        UnknownReason::Overlap => "its fields share bits",
-        UnknownReason::Steps => "its fields have too many numbers",
+/// The byte of a mask with this number; 0 is the lowest.
+fn mask_byte(mask: u32, number: u32) -> u32 {
+    match number {
+        0 => mask & 0xFF,
+        1 => (mask >> 8) & 0xFF,
+        2 => (mask >> 16) & 0xFF,
+        _ => mask >> 24,
     }
+}
+
+/// The bits that a comparison reads of its packet's byte at this place.
+fn bits_read(term: &Term, place: u32) -> u32 {
+    let Some(after) = place.checked_sub(term.offset) else {
+        return 0;
+    };
+    let last = (term.kind.width() as u32).saturating_sub(1);
+    if after > last {
+        return 0;
+    }
+    let number = if term.kind.is_little() {
+        after
+    } else {
+        last - after
+    };
+    mask_byte(term.mask, number)
+}
+
+/// The words for the part of its packet's header that a comparison reads, if a stream's packets have fixed bits there (CCSDS 133.0-B,
+/// primary header).
+fn header_part(term: &Term) -> Option<&'static str> {
+    if bits_read(term, 0) != 0 || bits_read(term, 1) != 0 {
+        Some("a field shares bits with its packet's message id")
+    } else if bits_read(term, 2) & 0xC0 != 0 {
+        Some("a field shares bits with its packet's sequence flags")
+    } else if bits_read(term, 4) != 0 || bits_read(term, 5) != 0 {
+        Some("a field shares bits with its packet's length")
+    } else {
+        None
+    }
+}
+
+/// The words for the reason why something isn't known of a rule with these comparisons.
+pub fn why(reason: UnknownReason, comparisons: &[ComparisonJudgement]) -> &'static str {
+    if reason == UnknownReason::Steps {
+        return "its fields have too many numbers";
+    }
+    for comparison in comparisons {
+        if let Some(words) = header_part(&comparison.term) {
+            return words;
+        }
+    }
+    "its fields share bits"
 }
 
 /// The rule or actionpoint that a line is about.
@@ -87,11 +134,11 @@ fn write_rule<W: Write>(
         }
         RuleFindings::NeverPasses => writeln!(out, "warning: {name}: never passes")?,
         RuleFindings::FailsUnknown(reason) => {
-            let why = why(reason);
+            let why = why(reason, &judged.comparisons);
             writeln!(out, "warning: {name}: not known whether it fails: {why}")?;
         }
         RuleFindings::PassesUnknown(reason) => {
-            let why = why(reason);
+            let why = why(reason, &judged.comparisons);
             writeln!(out, "warning: {name}: not known whether it passes: {why}")?;
         }
     }
@@ -177,8 +224,16 @@ pub fn list_outcomes<W: Write>(
     let names = FieldNames::of(alloc, text)?;
     let judgement = judge(alloc, &text.rules.rules)?;
     let rules = text.rules.rules.as_slice();
-    for (rule, judged) in rules.iter().zip(&judgement.rules) {
-        write_outcome(alloc, &names, rule, judged, out)?;
+    let mut number = 0usize;
+    for item in &text.file.items {
+        let Item::Rule(item) = item else {
+            continue;
+        };
+        if let (Some(rule), Some(judged)) = (rules.get(number), judgement.rules.get(number)) {
+            let names = names.first_in(alloc, &item.condition)?;
+            write_outcome(alloc, &names, rule, judged, out)?;
+        }
+        number = number.saturating_add(1);
     }
     Ok(())
 }

@@ -29,8 +29,8 @@ pub fn stream<'a, R: Files + AllocGlobal, W: Write>(
     }
 }
 
-/// Lists the packets of a file as text, with the names of these rule texts, or as rows. Errors if bytes follow the last whole packet: `Early` for text,
-/// `Packets` with the place for rows.
+/// Lists the packets of a file as text or as rows, with the names of these rule texts. Errors if bytes follow the last whole packet:
+/// `Early` for text, `Packets` with the place for rows.
 pub fn packets<'a, R: Files + AllocGlobal, W: Write>(
     rt: &R,
     file: &'a str,
@@ -43,7 +43,7 @@ pub fn packets<'a, R: Files + AllocGlobal, W: Write>(
     let texts = rule_texts_of(rt.alloc(), rules, bytes.as_slice())?;
     let names = rules_of_texts(rt.alloc(), texts.as_slice())?;
     match rows {
-        Some(rows) => rows::packets(rt, file, &rows, out),
+        Some(rows) => rows::packets(rt, file, &rows, names.as_slice(), out),
         None => listing::packets(rt, file, names.as_slice(), out),
     }
 }

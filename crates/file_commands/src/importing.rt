@@ -22,6 +22,9 @@ const OWN_TIME: u32 = 6;
 /// The most decimal digits of a part of a second.
 const MOST_DIGITS: usize = 6;
 
+/// What is written for the word of a numeric option that is refused.
+const NO_VALUE: &str = "no such value";
+
 /// A decimal number, or a hexadecimal one after `0x`, of at most `most`.
 fn number_in(word: &str, most: u32) -> Option<u32>
     ensures { IfSome result (λ number. number ≤ most) }
@@ -50,7 +53,7 @@ fn number_of<'a>(
         None => Ok(default),
         Some(word) => match number_in(word, most) {
             Some(number) => Ok(number),
-            None => Err(Fault::Value(option, word)),
+            None => Err(Fault::Value(option, word, NO_VALUE)),
         },
     }
 }
@@ -87,7 +90,7 @@ fn times_of<'a>(wanted: ImportWords<'a>) -> Result<Times, Fault<'a>> {
     match wanted.step {
         Some(word) => match seconds_in(word) {
             Some(step) => Ok(Times::Steps { step }),
-            None => Err(Fault::Value("--step", word)),
+            None => Err(Fault::Value("--step", word, NO_VALUE)),
         },
         None => Ok(Times::Header {
             at: number_of("--time-at", wanted.time_at, 65_535, OWN_TIME)? as u16,
@@ -103,7 +106,9 @@ fn ids_of<'a>(alloc: Global, word: Option<&'a str>) -> Result<Vec<u16>, Fault<'a
         for id in word.split(',') {
             match number_in(id, 65_535) {
                 Some(id) => ids.push(id as u16)?,
-                None => return Err(Fault::Value("--only", word)),
+                None => {
+                    return Err(Fault::Value("--only", word, "write message ids, as 0x0883,0x0884"));
+                }
             }
         }
     }
@@ -217,7 +222,7 @@ fn start_number<'a>(word: Option<&'a str>) -> Result<Option<u16>, Fault<'a>> {
         None => Ok(None),
         Some(word) => match number_in(word, 65_535) {
             Some(number) => Ok(Some(number as u16)),
-            None => Err(Fault::Value("--start", word)),
+            None => Err(Fault::Value("--start", word, NO_VALUE)),
         },
     }
 }

@@ -1,12 +1,15 @@
 //! The commands that write packets and records as rows, for other programs.
 
+ghost use Rattle.std.specs.Prelude.{◌≡◌, ◌&&◌, false, is_ok, is_some, true, IfErr, IfOk};
+ghost use Rattle.tool_faults.specs.Status.{status_of};
+ghost use Rattle.file_commands.specs.Asked.{IsAsked};
 ghost use Rattle.file_commands.specs.Taken.{IsTaken};
 
 use crate::ends::{end_of_packets, end_of_stream};
 use crate::record_line::record_line;
 use flight_tools_args::RowWords;
 use lc_model::packet::first_packet;
-use packet_listing::PacketLine;
+use packet_listing::{NamedLine, TextRules};
 use packet_rows::{
     Epoch, Form, PACKET_NAMES, RECORD_NAMES, RowError, write_names, write_packet, write_record,
 };
@@ -25,22 +28,34 @@ pub struct Rows {
     epoch: Option<Epoch>,
 }
 
-/// Returns how rows are to be written, or `None` if the words ask for no rows. Error: `Value` if they ask for values
-/// and objects at once, or for an invalid epoch.
-pub fn rows_of<'a>(words: RowWords<'a>) -> Result<Option<Rows>, Fault<'a>> {
-    let epoch = epoch_of(words.epoch)?;
-    match (words.csv, words.json) {
-        (false, false) => Ok(None),
-        (true, false) => Ok(Some(Rows {
-            form: Form::Csv,
-            epoch,
-        })),
-        (false, true) => Ok(Some(Rows {
-            form: Form::Json,
-            epoch,
-        })),
-        (true, true) => Err(Fault::Value("--csv", "--json")),
+/// Returns `None`, the form of text. Error: `Value` if there is an epoch.
+fn text_form<'a>(epoch: Option<&'a str>) -> Result<Option<Rows>, Fault<'a>>
+    ensures asked { IfOk result (λ rows. (is_some rows ≡ false) × (is_some epoch.entry ≡ false)) }
+    ensures refused { IfErr result (λ fault. (is_some epoch.entry ≡ true) × (status_of fault ≡ 2)) }
+{
+    match epoch {
+        None => Ok(None),
+        Some(word) => Err(Fault::Value("--epoch", word, "only with --csv or --json")),
     }
+}
+
+/// Returns how rows are to be written, or `None` if the words ask for text. Errors: `Value` if they ask for values and objects at once,
+/// for an invalid epoch, or for an epoch of text, since only rows have times in UTC.
+pub fn rows_of<'a>(words: RowWords<'a>) -> Result<Option<Rows>, Fault<'a>>
+    ensures asked { IfOk result (IsAsked words.entry) }
+    ensures refused { IfErr result (λ fault. status_of fault ≡ 2) }
+    ensures accepts { is_some words.entry.epoch ≡ false
+        → (words.entry.csv && words.entry.json) ≡ false
+        → is_ok result ≡ true }
+{
+    let epoch = epoch_of(words.epoch)?;
+    let form = match (words.csv, words.json) {
+        (true, true) => return Err(Fault::Value("--csv", "--json", "one of the two, not both")),
+        (true, false) => Form::Csv,
+        (false, true) => Form::Json,
+        (false, false) => return text_form(words.epoch),
+    };
+    Ok(Some(Rows { form, epoch }))
 }
 
 /// The result of writing rows to standard output; an error becomes a `Fault`, as `output_fault` has it.
@@ -57,13 +72,14 @@ fn row_result<T: Drop>(written: Result<T, RowError>) -> Result<T, Fault<'static>
 /// The number of the last row, and how many of the held bytes are written.
 type Written = Result<(u64, usize), RowError>;
 
-/// Writes the rows of the whole packets at the front, after `before` earlier ones. Returns the number of the last
-/// one, and the bytes of all.
-fn write_packets<W: Write>(
+/// Writes the rows of the whole packets at the front, after `before` earlier ones, with the names of these rules. Returns the number of
+/// the last one, and the bytes of all.
+fn write_packets<'x, W: Write>(
     alloc: Global,
     rows: &Rows,
-    packets: &[u8],
+    packets: &'x [u8],
     before: u64,
+    texts: &'x [TextRules<'x>],
     out: &mut W,
 ) -> Written {
     let mut number = before;
@@ -73,13 +89,12 @@ fn write_packets<W: Write>(
             break;
         };
         number = number.saturating_add(1);
-        write_packet(
-            alloc,
-            rows.form,
-            rows.epoch,
-            PacketLine { number, packet },
-            out,
-        )?;
+        let line = NamedLine {
+            number,
+            packet,
+            texts,
+        };
+        write_packet(alloc, rows.form, rows.epoch, line, out)?;
         rest = behind;
     }
     Ok((number, packets.len().saturating_sub(rest.len())))
@@ -118,12 +133,13 @@ fn write_records<W: Write>(
     Ok((number, records.len().saturating_sub(rest.len())))
 }
 
-/// Writes one row for each packet of a file, piece by piece. Error: `Packets` with the place if bytes follow the
-/// last whole packet; others are of files, output and memory.
+/// Writes one row for each packet of a file, piece by piece, with the names of these rules. Error: `Packets` with the place if bytes
+/// follow the last whole packet; others are of files, output and memory.
 pub fn packets<'a, R: Files + AllocGlobal, W: Write>(
     rt: &R,
     file: &'a str,
     rows: &Rows,
+    texts: &[TextRules<'_>],
     out: &mut W,
 ) -> Result<(), Fault<'a>> {
     let mut feed = feed_of(rt, file)?;
@@ -136,6 +152,7 @@ pub fn packets<'a, R: Files + AllocGlobal, W: Write>(
             rows,
             feed.contents(),
             number,
+            &*texts,
             out,
         ))?;
         number = count;

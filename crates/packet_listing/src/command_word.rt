@@ -1,17 +1,17 @@
-//! The word of the command that an event says was done.
+//! The word of the command that an event reports as done.
 
-use crate::text_front::{behind, number_in};
+use crate::text_front::number_in;
 
-/// Who sends the events of the host's own services.
+/// The sender of the events of the host's own services.
 const HOST: &[u8] = b"HOST";
 
-/// Who sends what the Limit Checker says.
+/// The sender of the Limit Checker's events.
 pub const LIMIT_CHECKER: &[u8] = b"LC";
 
-/// What stands behind the code of a command that was done.
+/// The end of an event's text after the code of a command that was done.
 const DONE: &[u8] = b" done";
 
-/// A command to the table services.
+/// The word of a command to the table services, by its code.
 fn table_word(code: usize) -> Option<&'static str> {
     match code {
         1 => Some("load"),
@@ -22,7 +22,7 @@ fn table_word(code: usize) -> Option<&'static str> {
     }
 }
 
-/// A command to the event services.
+/// The word of a command to the event services, by its code.
 fn event_word(code: usize) -> Option<&'static str> {
     match code {
         1 => Some("filter"),
@@ -33,7 +33,7 @@ fn event_word(code: usize) -> Option<&'static str> {
     }
 }
 
-/// A command to the executive services.
+/// The word of a command to the executive services, by its code.
 fn app_word(code: usize) -> Option<&'static str> {
     match code {
         1 => Some("start"),
@@ -44,7 +44,7 @@ fn app_word(code: usize) -> Option<&'static str> {
     }
 }
 
-/// A command to the Limit Checker.
+/// The word of a command to the Limit Checker, by its code.
 fn lc_word(code: usize) -> Option<&'static str> {
     match code {
         0 => Some("no operation"),
@@ -55,13 +55,14 @@ fn lc_word(code: usize) -> Option<&'static str> {
     }
 }
 
-/// The code of the command that a text says was done, behind this in front.
+/// The code in a text of the form `front`, code, ` done`; `None` for a text of another form.
 fn done_code(front: &[u8], text: &[u8]) -> Option<usize> {
-    let (code, rest) = number_in(behind(front, text)?)?;
+    let (code, rest) = number_in(text.strip_prefix(front)?)?;
     if rest == DONE { Some(code) } else { None }
 }
 
-/// The word of the command that an event says was done, as `state` of `command 3 done`; none of any other event.
+/// The word of the command that an event reports as done: `state` for `command 3 done`. `None` for any other event, and for a code
+/// without a word.
 pub fn command_word(sender: &[u8], id: u16, text: &[u8]) -> Option<&'static str> {
     if sender == LIMIT_CHECKER {
         return match id {

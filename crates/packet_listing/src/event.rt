@@ -3,31 +3,29 @@
 ghost use Rattle.std.specs.Prelude.{◌≡◌, length, Some};
 ghost use Rattle.packet_listing.specs.Words.{type_word};
 
-use crate::display::{TextField, time_of};
+use crate::display::TextField;
+use crate::naming::TextRules;
+use crate::rule_output::say_event_text;
+use crate::sent::before_zero;
 use lc_model::{EventKind, u16_at};
 use std::fmt::{self, Display, Formatter, Write};
 
 /// The length of an event packet in bytes.
 pub const EVENT_SIZE: usize = 168;
 
-/// Writes an event packet's time, sender, event id and type.
-pub fn say_event_head<W: Write>(packet: &[u8], f: &mut Formatter<W>) -> fmt::Result
+/// Writes an event packet's sender, event id, type and text, with the name of its rule, or the word of the command that was done.
+pub fn say_event<W: Write>(
+    packet: &[u8],
+    texts: &[TextRules<'_>],
+    f: &mut Formatter<W>,
+) -> fmt::Result
     requires { length packet.now ≡ EVENT_SIZE }
 {
-    let time = time_of(packet);
-    let sender = TextField(&packet[12..32]);
+    let sender = before_zero(&packet[12..32]);
     let id = u16_at(packet, 32);
     let kind = EventType(u16_at(packet, 34));
-    write!(f, "{time} {sender} {id} {kind}")
-}
-
-/// Writes an event packet's time, sender, event id, type and text on one line.
-pub fn say_event<W: Write>(packet: &[u8], f: &mut Formatter<W>) -> fmt::Result
-    requires { length packet.now ≡ EVENT_SIZE }
-{
-    say_event_head(packet, f)?;
-    let text = TextField(&packet[44..166]);
-    write!(f, ": {text}")
+    write!(f, "{} {id} {kind}", TextField(sender))?;
+    say_event_text(texts, sender, id, before_zero(&packet[44..166]), f)
 }
 
 /// An event's type as a number of any value; it displays as its word, or as `type` and the number.

@@ -3,7 +3,7 @@
 ghost use Rattle.std.specs.Prelude.{◌≡◌, length, Some};
 ghost use Rattle.packet_listing.specs.Words.{result_word, state_word};
 
-use crate::display::{TextField, time_of};
+use crate::display::TextField;
 use crate::naming::RuleNames;
 use lc_model::u16_at;
 use std::fmt::{self, Display, Formatter, Write};
@@ -11,14 +11,7 @@ use std::fmt::{self, Display, Formatter, Write};
 /// The length of a housekeeping packet in bytes.
 pub const HOUSEKEEPING_SIZE: usize = 192;
 
-/// Writes the time, the mode and the number of rules, and then each rule's number, state and last result.
-pub fn say_housekeeping<W: Write>(packet: &[u8], f: &mut Formatter<W>) -> fmt::Result
-    requires { length packet.now ≡ HOUSEKEEPING_SIZE }
-{
-    say_housekeeping_of(packet, &[], f)
-}
-
-/// A rule's name, or its number where it has none here.
+/// A rule's name; its number if these rules lack it.
 #[derive(Clone, Copy)]
 struct NameOrNumber<'a> {
     rules: &'a [RuleNames<'a>],
@@ -34,18 +27,17 @@ impl Display for NameOrNumber<'_> {
     }
 }
 
-/// Writes the same with the names of these rules in the place of their numbers.
-pub fn say_housekeeping_of<W: Write>(
+/// Writes the mode and the number of rules, and then each rule's name or number, its state and its last result.
+pub fn say_housekeeping<W: Write>(
     packet: &[u8],
     rules: &[RuleNames<'_>],
     f: &mut Formatter<W>,
 ) -> fmt::Result
     requires { length packet.now ≡ HOUSEKEEPING_SIZE }
 {
-    let time = time_of(packet);
     let mode = State(u16_at(packet, 12));
     let count = u16_at(packet, 14);
-    write!(f, "{time} LC housekeeping: {mode}, {count} rules")?;
+    write!(f, "LC housekeeping: {mode}, {count} rules")?;
     let mut sign = ':';
     for (number, standing) in (0..count).zip(&packet[16..]) {
         let rule = NameOrNumber {

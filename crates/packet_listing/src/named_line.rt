@@ -1,59 +1,51 @@
-//! The line that lists one packet, with the names of rule texts and the words of commands.
+//! The line that lists one packet.
 
-ghost use Rattle.std.specs.Prelude.{◌≡◌, length};
+ghost use Rattle.std.specs.Prelude.{◌≡◌, IfSome};
+ghost use Rattle.lc_model.specs.Bytes.{u16_at, u32_at};
 
-use crate::event::{EVENT_SIZE, say_event_head};
-use crate::housekeeping::{HOUSEKEEPING_SIZE, say_housekeeping_of};
-use crate::line::{PacketLine, say_request};
-use crate::naming::{RuleNames, TextRules};
-use crate::rule_output::{say_event_text, say_requesters};
-use crate::sent::before_zero;
-use lc_model::packet::{REQUEST_SIZE, first_packet, message_id};
-use lc_model::{mids, u16_at};
+use crate::display::{Time, time_of};
+use crate::event::EVENT_SIZE;
+use crate::housekeeping::HOUSEKEEPING_SIZE;
+use crate::named_packet::NamedPacket;
+use crate::naming::TextRules;
+use lc_model::mids;
+use lc_model::packet::{TELEMETRY_HEADERS, message_id};
 use std::fmt::{self, Display, Formatter, Write};
-use std::io;
 
-/// A packet with its number, and the rules of the texts that may be in force; it displays as its line without the line end.
+/// A packet with its number, and the rules of the texts that may be in force; it displays as its line without the line end (docs/TOOLS.md,
+/// this project's own).
 #[derive(Clone, Copy)]
 pub struct NamedLine<'a> {
     /// The packet's number among those of its file, counted from 1.
     pub number: u64,
     /// The packet's bytes, headers included; any bytes are accepted.
     pub packet: &'a [u8],
+    /// The rules of the texts 0, 1 and so on; without texts rules have numbers.
     pub texts: &'a [TextRules<'a>],
 }
 
-/// Writes an event with the name of its rule, or the word of the command that was done.
-fn say_named_event<W: Write>(
-    packet: &[u8],
-    texts: &[TextRules<'_>],
-    f: &mut Formatter<W>,
-) -> fmt::Result
-    requires { length packet.now ≡ EVENT_SIZE }
-{
-    say_event_head(packet, f)?;
-    let sender = before_zero(&packet[12..32]);
-    let text = before_zero(&packet[44..166]);
-    say_event_text(texts, sender, u16_at(packet, 32), text, f)
+/// A packet with its number; it displays as its line, with rules by number.
+#[derive(Clone, Copy)]
+pub struct PacketLine<'a> {
+    /// The packet's number among those of its file, counted from 1.
+    pub number: u64,
+    /// The packet's bytes, headers included; any bytes are accepted.
+    pub packet: &'a [u8],
 }
 
-/// Writes a request with the names of the rules that make it.
-fn say_named_request<W: Write>(
-    packet: &[u8],
-    texts: &[TextRules<'_>],
-    f: &mut Formatter<W>,
-) -> fmt::Result
-    requires { length packet.now ≡ REQUEST_SIZE }
+/// The time in the line of a packet: that of an event or of housekeeping; `None` for any other packet.
+fn listed_time(packet: &[u8]) -> Option<Time>
+    ensures { IfSome result (λ time. (time.seconds ≡ u32_at packet.now 6)
+        × (time.subseconds ≡ u16_at packet.now 10)) }
 {
-    say_request(packet, f)?;
-    say_requesters(texts, u16_at(packet, 8), f)
-}
-
-/// The rules of the one text that is given; none where there are several, or none.
-fn only_rules<'r, 'a>(texts: &'r [TextRules<'a>]) -> &'r [RuleNames<'a>] {
-    match texts {
-        [one] => one.rules.as_slice(),
-        _ => &[],
+    let size = packet.len();
+    if size < TELEMETRY_HEADERS {
+        return None;
+    }
+    match message_id(packet) {
+        mids::EVENT if size == EVENT_SIZE => Some(time_of(packet)),
+        mids::LC_HOUSEKEEPING if size == HOUSEKEEPING_SIZE => Some(time_of(packet)),
+        _ => None,
     }
 }
 
@@ -64,49 +56,22 @@ impl Display for NamedLine<'_> {
             packet,
             texts,
         } = *self;
-        if packet.len() < 2 {
-            return write!(f, "{}", PacketLine { number, packet });
-        }
-        match message_id(packet) {
-            mids::EVENT if packet.len() == EVENT_SIZE => {
-                write!(f, "{number} ")?;
-                say_named_event(packet, texts, f)
-            }
-            mids::LC_HOUSEKEEPING if packet.len() == HOUSEKEEPING_SIZE => {
-                write!(f, "{number} ")?;
-                say_housekeeping_of(packet, only_rules(texts), f)
-            }
-            mids::SEQUENCE if packet.len() == REQUEST_SIZE => {
-                write!(f, "{number} ")?;
-                say_named_request(packet, texts, f)
-            }
-            _ => write!(f, "{}", PacketLine { number, packet }),
+        let said = NamedPacket { packet, texts };
+        match listed_time(packet) {
+            Some(time) => write!(f, "{number} {time} {said}"),
+            None => write!(f, "{number} - {said}"),
         }
     }
 }
 
-/// Writes one line for each whole packet at the front, numbered after `before` earlier ones, with the names of these rules. Returns
-/// the number of the last one, and the bytes of all. The error is the writer's.
-pub fn list_named<'x, W: io::Write>(
-    packets: &'x [u8],
-    before: u64,
-    texts: &'x [TextRules<'x>],
-    out: &mut W,
-) -> io::Result<(u64, usize)> {
-    let mut number = before;
-    let mut rest = packets;
-    for _ in 0..packets.len() {
-        let Some((packet, behind)) = first_packet(rest) else {
-            break;
-        };
-        number = number.saturating_add(1);
+impl Display for PacketLine<'_> {
+    fn fmt<W: Write>(&self, f: &mut Formatter<W>) -> fmt::Result {
+        let PacketLine { number, packet } = *self;
         let line = NamedLine {
             number,
             packet,
-            texts,
+            texts: &[],
         };
-        writeln!(out, "{line}")?;
-        rest = behind;
+        write!(f, "{line}")
     }
-    Ok((number, packets.len().saturating_sub(rest.len())))
 }

@@ -1,31 +1,32 @@
-//! Rules as events and sequence requests speak of them.
+//! The rules of texts, by what events and sequence requests say of them.
 
-use crate::text_front::{behind, number_in};
+use crate::text_front::number_in;
 use rpn_compiler::RuleText;
 use rule_parser::{Item, RuleItem};
 use std::alloc::{AllocError, Global};
 
-/// What an event says before the number of the rule whose own event it is.
+/// The part of a rule's own event between the rule's text and its number.
 const OF_RULE: &[u8] = b": AP = ";
 
-/// What an event of another kind says before a rule's number.
+/// The front of the Limit Checker's other events about a rule, before its number.
 const ABOUT_RULE: &[u8] = b"actionpoint ";
 
-/// The numbers of the events that say of a rule, by its number, how it failed or turned.
+/// The ids of the events by which the Limit Checker reports that a rule failed, or that its result changed.
 const ABOUT_RULES: [u16; 4] = [3, 4, 5, 6];
 
-/// A rule, by what events and sequence requests say of it.
+/// A rule's name, and what it sends.
 #[derive(Clone, Copy)]
 pub struct RuleNames<'a> {
     pub name: &'a [u8],
-    /// The number of its own event, and what that says first.
+    /// The id of its own event, and the text with which that begins.
     event: i64,
     text: &'a [u8],
+    /// The command sequence that it requests.
     pub sequence: i64,
 }
 
 impl<'a> RuleNames<'a> {
-    /// What is said of a rule.
+    /// The name of a rule, and what it sends.
     fn of(rule: &RuleItem<'a>) -> RuleNames<'a> {
         RuleNames {
             name: rule.name.text,
@@ -36,7 +37,7 @@ impl<'a> RuleNames<'a> {
     }
 }
 
-/// The rules of a text, in order.
+/// The rules of a text, in order: a rule's place here is its number.
 #[derive(Drop)]
 pub struct TextRules<'a> {
     pub rules: Vec<RuleNames<'a>>,
@@ -65,17 +66,19 @@ pub fn rules_of_texts<'a>(
     Ok(all)
 }
 
-/// A rule that an event speaks of, the number of its text, and what the event says: the rule's own text, where it is its own
-/// event, and the rest.
+/// The rule that an event is about, and what the event says apart from the rule's number.
 #[derive(Clone, Copy)]
 pub struct About<'r, 't> {
+    /// The number of the rule's text.
     pub of: usize,
     pub name: &'r [u8],
+    /// The rule's own text; empty for an event of the Limit Checker about a rule.
     pub text: &'r [u8],
+    /// What follows the rule's number.
     pub rest: &'t [u8],
 }
 
-/// The rule with this number whose own event this is, where it is.
+/// This rule, with this number, if the event is its own.
 fn own_event<'r, 't>(
     of: usize,
     rule: &RuleNames<'r>,
@@ -86,7 +89,7 @@ fn own_event<'r, 't>(
     if rule.event != i64::from(id) {
         return None;
     }
-    let (place, rest) = number_in(behind(OF_RULE, behind(rule.text, text)?)?)?;
+    let (place, rest) = number_in(text.strip_prefix(rule.text)?.strip_prefix(OF_RULE)?)?;
     if place != number {
         return None;
     }
@@ -98,7 +101,7 @@ fn own_event<'r, 't>(
     })
 }
 
-/// The rule of which an event of the Limit Checker says how it failed or turned, where it does.
+/// The rule that an event of the Limit Checker names by its number; `None` for another event, or without a rule of this number.
 fn about_rule<'r, 't>(
     of: usize,
     rules: &[RuleNames<'r>],
@@ -108,16 +111,16 @@ fn about_rule<'r, 't>(
     if !ABOUT_RULES.contains(&id) {
         return None;
     }
-    let (number, rest) = number_in(behind(ABOUT_RULE, text)?)?;
+    let (number, rest) = number_in(text.strip_prefix(ABOUT_RULE)?)?;
     Some(About {
         of,
         name: rules.get(number)?.name,
         text: b"",
-        rest: behind(b" ", rest)?,
+        rest: rest.strip_prefix(b" ")?,
     })
 }
 
-/// The rule of one text that an event of the Limit Checker speaks of, where it speaks of one of these.
+/// The rule of one text that an event of the Limit Checker is about; `None` if it is about none of them.
 fn spoken_in<'r, 't>(
     of: usize,
     rules: &[RuleNames<'r>],
@@ -133,7 +136,8 @@ fn spoken_in<'r, 't>(
     about_rule(of, rules, id, text)
 }
 
-/// The rule that an event of the Limit Checker speaks of, of the first text that has it; none where texts have other names for it.
+/// The rule that an event of the Limit Checker is about, of the first text that has it; `None` if no text has it, or if texts give it
+/// different names.
 pub fn spoken_of<'r, 't>(
     texts: &[TextRules<'r>],
     id: u16,

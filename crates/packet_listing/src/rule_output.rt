@@ -1,4 +1,4 @@
-//! What came of a record, as a line: rules are called by their names, and commands by their words.
+//! Requests and events as lines, with the names of rules and the words of commands.
 
 use crate::command_word::{LIMIT_CHECKER, command_word};
 use crate::display::TextField;
@@ -6,7 +6,7 @@ use crate::naming::{RuleNames, TextRules, spoken_of};
 use crate::sent::{Event, Sent};
 use std::fmt::{self, Display, Formatter, Write};
 
-/// A rule's name, behind its text's number where there are several texts.
+/// A rule's name, with the number of its text in front if there are several texts.
 #[derive(Clone, Copy)]
 struct RuleWord<'a> {
     text: Option<usize>,
@@ -22,7 +22,7 @@ impl Display for RuleWord<'_> {
     }
 }
 
-/// A rule of the text with this number among these.
+/// The word for a rule of the text with this number.
 fn word_in<'a>(texts: &[TextRules<'_>], text: usize, name: &'a [u8]) -> RuleWord<'a> {
     RuleWord {
         text: if texts.len() > 1 { Some(text) } else { None },
@@ -30,7 +30,7 @@ fn word_in<'a>(texts: &[TextRules<'_>], text: usize, name: &'a [u8]) -> RuleWord
     }
 }
 
-/// Writes the rules of one text that request a sequence, behind `sign`. Returns what stands before a further one.
+/// Writes the rules of one text that request a sequence, with `sign` before the first of them. Returns the sign before a further one.
 fn say_requesters_of<W: Write>(
     texts: &[TextRules<'_>],
     text: usize,
@@ -49,7 +49,7 @@ fn say_requesters_of<W: Write>(
     Ok(sign)
 }
 
-/// Writes the rules that request the sequence of this number, in parentheses, where there are any.
+/// Writes the rules that request the sequence of this number, in parentheses; nothing if there are none.
 pub fn say_requesters<W: Write>(
     texts: &[TextRules<'_>],
     sequence: u16,
@@ -62,7 +62,8 @@ pub fn say_requesters<W: Write>(
     if sign == ", " { write!(f, ")") } else { Ok(()) }
 }
 
-/// Writes what an event says behind its level: of which rule it is, or its text, and the word of the command that was done.
+/// Writes the part of an event's line after its type: its rule and the text without the rule's number, or the text and the word of the
+/// command that was done.
 pub fn say_event_text<W: Write>(
     texts: &[TextRules<'_>],
     sender: &[u8],
@@ -91,14 +92,14 @@ pub fn say_event_text<W: Write>(
     }
 }
 
-/// A sequence request or an event, and the rules of the texts in whose run it came.
+/// The content of a packet, and the rules of its run's texts; it displays as its line in a comparison of runs.
 #[derive(Clone, Copy)]
 pub struct RuleOutput<'a> {
     pub sent: Sent<'a>,
     pub texts: &'a [TextRules<'a>],
 }
 
-/// Writes an event.
+/// Writes an event: its sender, id, type and text.
 fn say_event<W: Write>(
     texts: &[TextRules<'_>],
     event: Event<'_>,

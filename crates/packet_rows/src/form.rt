@@ -1,5 +1,7 @@
 //! How rows are written.
 
+ghost use Rattle.std.specs.Prelude.{◌≡◌, length};
+
 use crate::cell::Cell;
 use crate::error::RowError;
 use csv::WriterBuilder;
@@ -94,14 +96,16 @@ fn write_json<W: Write>(
     Ok(())
 }
 
-/// Writes a row. Errors: `Memory`, or `Write` with the writer's error.
+/// Writes a row, with a cell for each name. Errors: `Memory`, or `Write` with the writer's error.
 pub fn write_row<W: Write>(
     alloc: Global,
     form: Form,
     names: &[&str],
     cells: &[Cell],
     out: &mut W,
-) -> Result<(), RowError> {
+) -> Result<(), RowError>
+    requires { length cells.now ≡ length names.now }
+{
     match form {
         Form::Csv => write_csv(alloc, cells, out),
         Form::Json => write_json(alloc, names, cells, out),

@@ -9,12 +9,12 @@ use crate::error::RowError;
 use crate::form::{Form, write_row};
 use lc_model::packet::{COUNT_END, TELEMETRY_HEADERS, message_id};
 use lc_model::{Moment, u16_at, u32_at};
-use packet_listing::{Event, PacketLine, Sent, TextField, read_packet};
+use packet_listing::{Event, NamedLine, NamedPacket, Sent, TextField, read_packet};
 use std::alloc::Global;
 use std::io::Write;
 
 /// The columns of a packet's row, in order (docs/TOOLS.md, this project's own).
-pub const PACKET_NAMES: [&str; 12] = [
+pub const PACKET_NAMES: [&str; 13] = [
     "number",
     "time",
     "utc",
@@ -27,6 +27,7 @@ pub const PACKET_NAMES: [&str; 12] = [
     "count",
     "message_id",
     "size",
+    "says",
 ];
 
 /// The bytes of a packet's primary header.
@@ -75,13 +76,13 @@ fn event_said(alloc: Global, event: Event<'_>) -> Result<PacketContent, RowError
     })
 }
 
-/// The content of a housekeeping packet: its text is the part of its line after `housekeeping: `.
+/// The content of a housekeeping packet: its text is the part of its line after `housekeeping: `, with rules by number.
 fn housekeeping_said(alloc: Global, packet: &[u8]) -> Result<PacketContent, RowError>
     requires { telemetry_header_size ≤ length packet.now }
 {
-    let line = PacketLine { number: 0, packet };
-    let line = format!(in alloc; "{line}")?;
-    let text = match line.as_str().split_once("housekeeping: ") {
+    let said = NamedPacket { packet, texts: &[] };
+    let said = format!(in alloc; "{said}")?;
+    let text = match said.as_str().split_once("housekeeping: ") {
         Some((_, text)) => word(alloc, text)?,
         None => Cell::Empty,
     };
@@ -128,19 +129,29 @@ fn count_cell(packet: &[u8]) -> Cell {
     number(Some(u16_at(packet, 2) % COUNT_END))
 }
 
-/// Writes the row of a packet with this number. The time is also in UTC if the epoch is known. A byte of a text that isn't printable
-/// ASCII becomes `.`. Errors: `Memory`, or `Write` with the writer's error.
+/// The cell of what a packet's line says after the time.
+fn says_cell(alloc: Global, said: NamedPacket<'_>) -> Result<Cell, RowError> {
+    Ok(Cell::Text(format!(in alloc; "{said}")?))
+}
+
+/// Writes the row of a packet with this number. The time is also in UTC if the epoch is known. The column `says` is the part of the
+/// packet's line after the time, with the names of the line's texts. A byte of a text that isn't printable ASCII becomes `.`. Errors:
+/// `Memory`, or `Write` with the writer's error.
 pub fn write_packet<W: Write>(
     alloc: Global,
     form: Form,
     epoch: Option<Epoch>,
-    line: PacketLine<'_>,
+    line: NamedLine<'_>,
     out: &mut W,
 ) -> Result<(), RowError> {
-    let packet = line.packet;
+    let NamedLine {
+        number: place,
+        packet,
+        texts,
+    } = line;
     let said = said_of(alloc, packet)?;
     let cells = [
-        Cell::Number(line.number),
+        Cell::Number(place),
         time_cell(alloc, said.moment)?,
         utc_cell(alloc, epoch, said.moment)?,
         word(alloc, said.kind)?,
@@ -152,6 +163,7 @@ pub fn write_packet<W: Write>(
         count_cell(packet),
         id_cell(alloc, packet)?,
         Cell::Number(packet.len() as u64),
+        says_cell(alloc, NamedPacket { packet, texts })?,
     ];
     write_row(alloc, form, &PACKET_NAMES, &cells, out)
 }

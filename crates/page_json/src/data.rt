@@ -1,5 +1,6 @@
 //! The data of a page as one object.
 
+use crate::commands::{CommandLine, put_commands};
 use crate::json::{Item, Json};
 use crate::lists::{put_fields, put_lanes, put_modes, put_tables};
 use crate::requests::put_sent;
@@ -68,6 +69,8 @@ pub struct Data<'a, 'n, 't, 's> {
     pub lanes: &'a [Changes],
     /// The changes of each field.
     pub values: &'a [Changes],
+    /// The commands that are kept, in words.
+    pub commands: &'a [CommandLine],
 }
 
 const WHOLE: &[&str] = &["{\"status\":0,\"says\":\"", " records\",\"whole\":true}"];
@@ -222,6 +225,7 @@ impl Display for Data<'_, '_, '_, '_> {
         put_texts(&mut json, self.account);
         put_lists(&mut json, self);
         put_sent(&mut json, self.account);
+        put_commands(&mut json, self.account, self.commands);
         json.text("}");
         json.end()
     }

@@ -2,6 +2,7 @@
 //! Each row is a list of texts with a value after each.
 #![tactic(auto)]
 
+mod commands;
 mod data;
 mod json;
 mod lists;
@@ -9,4 +10,5 @@ mod requests;
 mod rules;
 mod value_names;
 
+pub use commands::{CommandLine, command_lines};
 pub use data::{Data, Ended, Run, Source};

@@ -128,7 +128,7 @@ fn put_events<W: Write>(json: &mut Json<'_, W>, events: &[SeenEvent]) {
 const LEFT: &[&str] = &["[", ",", ",", "]"];
 
 /// The number and the records of what is left out of a list.
-fn put_left<W: Write>(json: &mut Json<'_, W>, left: Option<Left>) {
+pub fn put_left<W: Write>(json: &mut Json<'_, W>, left: Option<Left>) {
     match left {
         Some(left) => {
             let count = Item::Natural(left.count);

@@ -4,7 +4,8 @@ ghost use Rattle.std.specs.Prelude.{◌≡◌, IfOk};
 ghost use Rattle.diagnostics.specs.Message.{IsAt};
 
 use crate::marks::{declared_mark, text_of, token_mark};
-use crate::source::{Declaration, NameKind, Source, begins_item};
+use crate::mistakes::mistake_label;
+use crate::source::{Declaration, NameKind, Source, TokenRange, begins_item};
 use crate::wanted::{describe_found, describe_wanted, is_reserved, words_for};
 use diagnostics::{Mark, Message, around, choice_of, nearest, printable};
 use lc_model::{CmpOp, TYPE_WORDS};
@@ -71,7 +72,7 @@ impl<'a> Stop<'_, 'a> {
     }
 
     /// The item that is read at that place: that of the token before it, unless that item has ended.
-    fn part(&self) -> crate::source::TokenRange {
+    fn part(&self) -> TokenRange {
         let before = self.number.saturating_sub(1);
         match self.source.token(before) {
             Some(token) if token.kind != TokenKind::Semicolon => self.source.part_of(before),
@@ -89,10 +90,23 @@ impl<'a> Stop<'_, 'a> {
         }
     }
 
+    /// What stands before that place in its item.
+    fn part_before(&self) -> TokenRange {
+        let TokenRange { from, to } = self.part();
+        TokenRange {
+            from,
+            to: to.min(self.number),
+        }
+    }
+
     /// A word that was meant.
     fn suggestion(&self, alloc: Global) -> Result<Option<&'static [u8]>, AllocError> {
         match self.word() {
-            Some(word) => nearest(alloc, word, words_for(self.source, self.part(), self.what)),
+            Some(word) => nearest(
+                alloc,
+                word,
+                words_for(self.source, self.part_before(), self.what),
+            ),
             None => Ok(None),
         }
     }
@@ -213,6 +227,9 @@ impl<'a> Stop<'_, 'a> {
 
     /// What to do.
     fn label(&self, alloc: Global) -> Result<String, AllocError> {
+        if let Some(label) = mistake_label(alloc, self.source, self.number, self.what)? {
+            return Ok(label);
+        }
         match self.suggestion(alloc)? {
             Some(word) => around(alloc, "did you mean ", word, "?"),
             None => self.operand_label(alloc),

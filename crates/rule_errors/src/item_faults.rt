@@ -4,6 +4,7 @@ use crate::fields::{packet_of, type_of};
 use crate::marks::value_of;
 use crate::naming::{declared_in, names};
 use crate::source::{Declaration, NameKind, Source, TokenRange};
+use diagnostics::behind;
 use field_checker::{CheckError, RuleNumber};
 use lc_model::{FieldType, mids, packet};
 use rule_lexer::{Token, TokenKind};
@@ -82,7 +83,13 @@ impl<'s, 'a> Checked<'s, 'a> {
         false
     }
 
-    /// Whether an item that isn't whole and may declare a packet or a field has no name before its `=`, so that its name is unknown.
+    /// Whether a blank or `=` follows a name in the text, so that no bad byte has cut it.
+    fn is_whole_word(&self, name: Token<'a>) -> bool {
+        let after = behind(self.source.text, name.at.saturating_add(name.text.len()));
+        matches!(after, [byte, ..] if byte.is_ascii_whitespace() || *byte == b'=')
+    }
+
+    /// Whether an item that isn't whole and may declare a packet or a field has no whole name before its `=`, so that its name is unknown.
     fn is_name_lost(&self) -> bool {
         for (number, part) in self.source.parts.iter().enumerate() {
             if self.is_whole_part(number) {
@@ -91,7 +98,9 @@ impl<'s, 'a> Checked<'s, 'a> {
             match self.source.tokens_of(*part) {
                 [first, ..] if first.kind == TokenKind::Rule => {}
                 [_, name, sign, ..]
-                    if name.kind == TokenKind::Name && sign.kind == TokenKind::Equals => {}
+                    if name.kind == TokenKind::Name
+                        && sign.kind == TokenKind::Equals
+                        && self.is_whole_word(*name) => {}
                 _ => return true,
             }
         }
@@ -137,13 +146,25 @@ impl<'s, 'a> Checked<'s, 'a> {
         Some(value)
     }
 
+    /// Whether an item surely declares the name: it is whole, or what follows the name is no second one.
+    fn is_surely_declared(&self, name: Declaration<'a>) -> bool {
+        let Some(part) = self.source.parts.get(name.part) else {
+            return false;
+        };
+        self.is_whole(name)
+            || !matches!(
+                self.source.tokens_of(*part),
+                [_, _, third, ..] if third.kind == TokenKind::Name
+            )
+    }
+
     /// The fault of a name that was declared before.
     fn check_name(&self, number: usize, found: &mut Vec<CheckError>) -> Result<(), AllocError> {
         let Some(name) = declared_in(self.source, number) else {
             return Ok(());
         };
         if let Some(first) = self.source.first_declared(name.text) {
-            if first.at < name.at {
+            if first.at < name.at && self.is_surely_declared(first) {
                 found.push(CheckError::DuplicateName { at: name.at })?;
             }
         }

@@ -11,6 +11,7 @@ mod grammar;
 mod grammar_errors;
 mod item_faults;
 mod marks;
+mod mistakes;
 mod naming;
 mod nearest;
 mod numbers;

@@ -4,10 +4,11 @@ ghost use Rattle.std.specs.Prelude.{◌≡◌, IfOk};
 ghost use Rattle.diagnostics.specs.Message.{IsAt};
 
 use crate::marks::{mark, value_of};
-use diagnostics::{Message, around};
+use diagnostics::{Message, around, printable};
 use lc_model::mids;
 use rule_lexer::Token;
 use std::alloc::{AllocError, Global};
+use std::str;
 
 /// Message ids of commands.
 const FIRST_COMMAND: i64 = 0x1800;
@@ -23,6 +24,26 @@ fn telemetry_label(value: i64) -> &'static str {
     }
 }
 
+/// Whether the digits of a decimal number are those of a message id of telemetry in hexadecimal.
+fn is_telemetry_in_hex(digits: &[u8]) -> bool {
+    match str::from_utf8(digits) {
+        Ok(digits) => match u16::from_str_radix(digits, 16) {
+            Ok(mid) => mids::is_telemetry(mid),
+            Err(_) => false,
+        },
+        Err(_) => false,
+    }
+}
+
+/// What to do about the message id in a token.
+fn mid_label(alloc: Global, token: Token<'_>) -> Result<String, AllocError> {
+    if is_telemetry_in_hex(token.text) {
+        let digits = printable(alloc, token.text)?;
+        return format!(in alloc; "did you mean `0x{digits}`?");
+    }
+    String::from_str(alloc, telemetry_label(value_of(token)))
+}
+
 /// The message for a message id that isn't one of telemetry.
 pub fn no_telemetry(alloc: Global, token: Token<'_>) -> Result<Message, AllocError>
     ensures { IfOk result (IsAt 23 token.entry.at) }
@@ -33,7 +54,7 @@ pub fn no_telemetry(alloc: Global, token: Token<'_>) -> Result<Message, AllocErr
         token.text,
         " is not one of telemetry",
     )?;
-    let label = String::from_str(alloc, telemetry_label(value_of(token)))?;
+    let label = mid_label(alloc, token)?;
     Ok(Message::at(alloc, 23, head, mark(token, label)))
 }
 

@@ -8,7 +8,8 @@ ghost use Rattle.diagnostics.specs.Message.{IsAt, first_place};
 ghost use Rattle.rule_errors.specs.Telling.{TellsOf, TellsReason, ends_line, place_of};
 
 use crate::bytes::{character, last_word, word_size};
-use diagnostics::{Grouped, Many, Mark, Message, around, behind, front};
+use diagnostics::{Grouped, Many, Mark, Message, around, behind, front, nearest};
+use lc_model::TYPE_WORDS;
 use rule_lexer::{LexError, LexReason, TokenKind, lex};
 use std::alloc::{AllocError, Global};
 
@@ -102,16 +103,16 @@ fn plain_advice(character: char) -> &'static str {
 
 /// What to do about a character that begins no token.
 fn advice(text: &[u8], at: usize, character: char) -> &'static str {
-    if character == '.' && is_behind_number(text, at) {
-        "numbers are whole: write the raw value of the telemetry"
-    } else {
-        plain_advice(character)
+    if character != '.' {
+        return plain_advice(character);
     }
-}
-
-/// Whether a number ends at this place.
-fn is_behind_number(text: &[u8], at: usize) -> bool {
-    matches!(last_word(front(text, at)), [first, ..] if first.is_ascii_digit())
+    match last_word(front(text, at)) {
+        [first, ..] if first.is_ascii_digit() => {
+            "numbers are whole: write the raw value of the telemetry"
+        }
+        [_, ..] => "a field is named alone, without its packet",
+        [] => plain_advice(character),
+    }
 }
 
 fn bad_byte(alloc: Global, text: &[u8], at: usize) -> Result<Message, AllocError>
@@ -175,8 +176,12 @@ fn intended_number(alloc: Global, digits: &[u8]) -> Result<Vec<u8>, AllocError> 
     if are_hexadecimal(inner) {
         return hexadecimal(alloc, inner);
     }
+    if matches!(digits, [b'0', _, _, _]) && are_hexadecimal(digits) {
+        return hexadecimal(alloc, digits);
+    }
     match without_unit(digits) {
         Some(number) => Vec::from_slice(alloc, number),
+        None if are_hexadecimal(digits) => hexadecimal(alloc, digits),
         None => without_lines(alloc, digits),
     }
 }
@@ -229,11 +234,60 @@ fn number_advice(alloc: Global, written: &[u8]) -> Result<String, AllocError> {
     String::from_str(alloc, "write digits, or hexadecimal digits behind `0x`")
 }
 
-/// What to do about an invalid number, or one that is too large.
-fn number_label(alloc: Global, written: &[u8], is_too_large: bool) -> Result<String, AllocError> {
-    if !is_too_large {
-        return number_advice(alloc, written);
+/// Whether a field's type stands after these bytes: they end with `=` and a packet's name.
+fn ends_before_type(bytes: &[u8]) -> bool {
+    let bytes = bytes.trim_ascii_end();
+    let name = last_word(bytes);
+    if matches!(name, [] | [b'm', b'i', b'd']) {
+        return false;
     }
+    match front(bytes, bytes.len().saturating_sub(name.len())).trim_ascii_end() {
+        [.., b'<' | b'!' | b'=' | b'>', b'='] => false,
+        [.., b'='] => true,
+        _ => false,
+    }
+}
+
+/// The letters of a word behind its digits, and then the digits: `u8` for `8u`.
+fn letters_first(alloc: Global, word: &[u8]) -> Result<Vec<u8>, AllocError> {
+    let count = digit_count(word);
+    let mut turned = Vec::from_slice(alloc, behind(word, count))?;
+    turned.extend_from_slice(front(word, count))?;
+    Ok(turned)
+}
+
+/// The type that was probably meant by an invalid number at a type's place.
+fn intended_type(
+    alloc: Global,
+    text: &[u8],
+    at: usize,
+    written: &[u8],
+) -> Result<Option<&'static [u8]>, AllocError> {
+    if !ends_before_type(front(text, at)) {
+        return Ok(None);
+    }
+    let turned = letters_first(alloc, written)?;
+    match TYPE_WORDS.iter().find(|word| **word == turned.as_slice()) {
+        Some(word) => Ok(Some(*word)),
+        None => nearest(alloc, written, TYPE_WORDS),
+    }
+}
+
+/// What to do about an invalid number.
+fn invalid_label(
+    alloc: Global,
+    text: &[u8],
+    at: usize,
+    written: &[u8],
+) -> Result<String, AllocError> {
+    match intended_type(alloc, text, at, written)? {
+        Some(word) => around(alloc, "did you mean ", word, "?"),
+        None => number_advice(alloc, written),
+    }
+}
+
+/// What to do about a number that is too large.
+fn most_label(alloc: Global) -> Result<String, AllocError> {
     let most = Grouped(LARGEST_NUMBER);
     format!(in alloc; "write at most {most}")
 }
@@ -255,7 +309,11 @@ fn bad_number(
         " is not a number"
     };
     let head = around(alloc, "", written, what)?;
-    let label = number_label(alloc, written, is_too_large)?;
+    let label = if is_too_large {
+        most_label(alloc)?
+    } else {
+        invalid_label(alloc, text, at, written)?
+    };
     Ok(Message::at(alloc, 2, head, Mark { at, size, label }))
 }
 

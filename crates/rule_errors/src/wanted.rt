@@ -12,7 +12,8 @@ pub const ITEM_WORDS: &[&[u8]] = &[b"packet", b"field", b"rule"];
 
 const JOINING_WORDS: &[&[u8]] = &[b"or", b"xor", b"and"];
 
-const OPERAND_WORDS: &[&[u8]] = &[b"not"];
+/// The words that begin an operand.
+pub const OPERAND_WORDS: &[&[u8]] = &[b"not"];
 
 /// The words for what is expected, if they differ from the parser's.
 fn own_words(what: What) -> Option<&'static str> {
@@ -79,7 +80,7 @@ pub fn describe_found(alloc: Global, token: Option<Token<'_>>) -> Result<String,
     }
 }
 
-/// The words that may come before the `;` of a field, if that is expected.
+/// The words that may come before the `;` of a field after these tokens.
 fn before_end(source: &Source<'_>, part: TokenRange) -> &'static [&'static [u8]] {
     let has_stale = source.first_of(part, TokenKind::Stale).is_some();
     let has_mask = source.first_of(part, TokenKind::Mask).is_some();
@@ -92,7 +93,7 @@ fn before_end(source: &Source<'_>, part: TokenRange) -> &'static [&'static [u8]]
     }
 }
 
-/// The words that the grammar accepts if this is expected, including optional ones.
+/// The words that the grammar accepts after these tokens of an item if this is expected, including optional ones.
 pub fn words_for(source: &Source<'_>, part: TokenRange, what: What) -> &'static [&'static [u8]] {
     match what {
         What::Item => ITEM_WORDS,

@@ -1,22 +1,17 @@
 -- The warnings of what is declared: fields and packets that no rule uses, events that are off, and sequences that are requested
 -- twice. This project's own.
-use Rattle.std.specs.Prelude.{ℕ, Bool, true, false, not, ◌&&◌, ◌||◌, if◌then◌else◌, nat_lt, List, [], ◌∷◌, ◌++◌, flat_map, bytes_eq}
+use Rattle.std.specs.Prelude.{ℕ, Bool, true, false, not, ◌&&◌, if◌then◌else◌, nat_lt, List, [], ◌∷◌, ◌++◌, flat_map, bytes_eq}
 use Rattle.std.specs.List.{list_any}
 use Rattle.std.specs.Ordering.{int_eq}
 use Rattle.lc_model.specs.declared.rule.EventKind.{EventKind}
 use Rattle.lc_model.specs.declared.rule.EventKind.TheVariants as event
-use Rattle.lc_model.specs.Text.Syntax.{Expression, Compare, Not, Join, RuleItem, Item, Packet, Field, Rule}
+use Rattle.lc_model.specs.Text.Syntax.{RuleItem, Item, Packet, Field, Rule}
+use Rattle.analysis_listing.specs.Compared.{compares}
 use Rattle.rule_lints.specs.declared.lint.Lint.{Lint}
 use Rattle.rule_lints.specs.declared.lint.Lint.TheVariants as lint
 use Rattle.rule_lints.specs.declared.warning.Warning.{Warning}
 
 -- ---- what rules use
-
--- a condition compares the field of this name
-abbrev pub compares : List ℕ → Expression → Bool
-compares name (Compare field op value) = bytes_eq field.text name
-compares name (Not e) = compares name e
-compares name (Join o a b) = compares name a || compares name b
 
 -- the item is a rule that does
 abbrev pub uses_field : List ℕ → Item → Bool

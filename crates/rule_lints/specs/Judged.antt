@@ -1,6 +1,7 @@
 -- The warnings of what is judged of rules before any packet comes. This project's own.
-use Rattle.std.specs.Prelude.{ℕ, zero, suc, Bool, true, false, not, ◌&&◌, if◌then◌else◌, List, [], ◌∷◌, ◌++◌, filter_map, flat_map, length, slice_get, Option, Some, None, option_map}
+use Rattle.std.specs.Prelude.{ℕ, zero, suc, Bool, true, false, not, ◌&&◌, ◌||◌, if◌then◌else◌, List, [], ◌∷◌, ◌++◌, filter_map, flat_map, length, slice_get, Option, Some, None, option_map}
 use Rattle.std.specs.List.{list_all}
+use Rattle.std.specs.Ordering.{int_eq}
 use Rattle.lc_model.specs.Text.Syntax.{Expression, Compare, Not, Join, RuleItem, Item, Packet, Field, Rule}
 use Rattle.rule_analysis.specs.declared.finding.ComparisonJudgement.{ComparisonJudgement}
 use Rattle.rule_analysis.specs.declared.finding.Constancy.{Constancy}
@@ -113,10 +114,25 @@ lint_of_relation relation.Same = lint.FailsAlike
 lint_of_relation relation.FirstFollows = lint.FailsWherever
 lint_of_relation relation.SecondFollows = lint.FailsWherever
 
+-- both rules request one sequence
+abbrev pub request_alike : Option RuleItem → Option RuleItem → Bool
+request_alike None second = false
+request_alike (Some first) None = false
+request_alike (Some first) (Some second) = int_eq first.sequence.value second.sequence.value
+
+abbrev pub is_same : Relation → Bool
+is_same relation.Same = true
+is_same relation.FirstFollows = false
+is_same relation.SecondFollows = false
+
+-- rules that fail alike are told, and rules of which one follows the other where both request one sequence: others are stages
+abbrev pub is_doubtful : List Item → PairJudgement → Bool
+is_doubtful items p = is_same p.relation || request_alike (rule_at items p.first) (rule_at items p.second)
+
 -- rules that always or never fail are reported already
 abbrev pub of_pair : List Item → List RuleJudgement → PairJudgement → List Warning
 of_pair items js p =
-    if goes_both_ways (slice_get js p.first) && goes_both_ways (slice_get js p.second)
+    if goes_both_ways (slice_get js p.first) && goes_both_ways (slice_get js p.second) && is_doubtful items p
     then warn_at (name_at items (told_of p)) (lint_of_relation p.relation) (other_of p) else []
 
 -- ---- comparisons that can be done without

@@ -1,6 +1,6 @@
 -- Comments that keep warnings quiet: `# quiet: NAME, ..` alone on a line keeps the warnings of these names in the next line quiet.
 -- This project's own.
-use Rattle.std.specs.Prelude.{ℕ, zero, suc, ◌+◌, Bool, true, not, ◌&&◌, ◌||◌, ◌==◌, if◌then◌else◌, List, [], ◌++◌, filter, length, map, min, take, drop, codes, bytes_eq, slice_index, slice_get, Option, Some, None}
+use Rattle.std.specs.Prelude.{ℕ, zero, suc, ◌+◌, Bool, true, false, not, ◌&&◌, ◌||◌, ◌==◌, if◌then◌else◌, List, [], ◌++◌, filter, length, map, min, take, drop, codes, bytes_eq, slice_index, slice_get, Option, Some, None}
 use Rattle.std.specs.List.{list_any, prefix_len}
 use Rattle.lc_model.specs.Host.ScheduleText.{parted}
 use Rattle.diagnostics.specs.Line.{line_feed, line_of, line_start}
@@ -106,6 +106,22 @@ of_place text all at = if begins_line text at then of_line all at (line_of text 
 abbrev pub spare_below : List ℕ → List Placed → ℕ → List Warning
 spare_below text all zero = []
 spare_below text all (suc n) = spare_below text all n ++ of_place text all n
+
+-- the name that the warning of a comment is about
+abbrev pub quiet_name : List ℕ → Warning → Option (List ℕ)
+quiet_name text w = slice_get (quiet_names (line_of text (min w.at (length text)))) w.about
+
+-- only with a schedule is a warning of this name given
+abbrev pub is_of_schedule : Option (List ℕ) → Bool
+is_of_schedule None = false
+is_of_schedule (Some name) = bytes_eq (name_of lint.NeverSampled) name
+
+-- without a schedule nobody knows whether such a name keeps something quiet
+abbrev pub is_known : Bool → List ℕ → Warning → Bool
+is_known has_plan text w = has_plan || not (is_of_schedule (quiet_name text w))
+
+abbrev pub known : Bool → List ℕ → List Warning → List Warning
+known has_plan text spare = filter (is_known has_plan text) spare
 
 -- all comments that keep nothing quiet
 abbrev pub spare_quiets : List ℕ → List Warning → List Warning

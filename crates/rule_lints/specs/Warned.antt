@@ -1,5 +1,5 @@
 -- The warnings about a valid rule text. This project's own.
-use Rattle.std.specs.Prelude.{◌≡◌, ℕ, not, List, [], ◌++◌, filter, length, map, Option, Some, None, option_map}
+use Rattle.std.specs.Prelude.{◌≡◌, ℕ, Bool, not, List, [], ◌++◌, filter, is_some, length, map, Option, Some, None, option_map}
 use Rattle.std.specs.List.{AllByRecursion}
 use denote.Ref.{Bor}
 use Rattle.lc_model.specs.Rule.{NamedRule}
@@ -18,7 +18,7 @@ use Rattle.rule_lints.specs.declared.warning.Warning.{Warning}
 use Rattle.rule_lints.specs.Names.{name_of}
 use Rattle.rule_lints.specs.Items.{declared}
 use Rattle.rule_lints.specs.Judged.{judged}
-use Rattle.rule_lints.specs.Quiet.{kept, spare_quiets}
+use Rattle.rule_lints.specs.Quiet.{kept, known, spare_quiets}
 
 -- the numbers of the rules that the schedule never samples; none without a schedule
 abbrev pub unsampled : Option (Bor Schedule) → ℕ → List ℕ
@@ -42,9 +42,9 @@ found text items all =
     declared items (length text)
     ++ judged items all.rules.items all.pairs.items all.spare.items all.unsampled.items
 
--- the warnings that are reported: those not kept quiet, and those of comments that keep nothing quiet
-abbrev pub told : List ℕ → List Item → Judged → List Warning
-told text items all = kept text (found text items all) ++ spare_quiets text (found text items all)
+-- the warnings that are reported: those not kept quiet, and those of comments that are known to keep nothing quiet
+abbrev pub told : Bool → List ℕ → List Item → Judged → List Warning
+told has_plan text items all = kept text (found text items all) ++ known has_plan text (spare_quiets text (found text items all))
 
 -- the name and the place of a warning, and of a message
 abbrev pub named : Warning → Option (List ℕ) × Option ℕ
@@ -60,4 +60,4 @@ pub record AreWarned (text : List ℕ) (plan : Option (Bor Schedule)) (messages 
   pub read : IsRead text items rules
   pub all : Judged
   pub are_judged : IsJudged rules plan all
-  pub are_told : map seen messages ≡ map named (told text items all)
+  pub are_told : map seen messages ≡ map named (told (is_some plan) text items all)

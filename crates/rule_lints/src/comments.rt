@@ -3,7 +3,7 @@
 ghost use Rattle.std.specs.Prelude.{◌≡◌, ◌≤◌, ◌<◌, ◌^◌, ◌==◌, ◌++◌, ◌&&◌, IfOk, OnOk, bytes_eq, length, option_map, slice_get, take};
 ghost use Rattle.std.specs.List.{list_any, position_or_len, prefix_len};
 ghost use Rattle.rule_lints.specs.Names.{name_of};
-ghost use Rattle.rule_lints.specs.Quiet.{begins_line, behind_opening, is_gap, is_met, is_quieted, kept, line_above, most_names, names_below, names_in, of_line, of_name, of_place, placed, quiet_names, spare_below, spare_quiets, start_of, unindented};
+ghost use Rattle.rule_lints.specs.Quiet.{begins_line, behind_opening, is_gap, is_known, is_met, is_of_schedule, is_quieted, kept, known, line_above, most_names, names_below, names_in, of_line, of_name, of_place, placed, quiet_names, spare_below, spare_quiets, start_of, unindented};
 ghost use Rattle.rule_lints.specs.Words.{names_by, texts_of};
 
 use crate::declarations::warn_if;
@@ -294,6 +294,47 @@ fn add_places(
         add_place(alloc, text, all, at, found)?;
     }
     Ok(())
+}
+
+/// Whether only with a schedule a warning of this name is given.
+fn is_of_schedule(name: Option<&[u8]>) -> bool
+    ensures { result ≡ is_of_schedule (option_map (λ name. name.now) name.entry) }
+{
+    match name {
+        Some(name) => Lint::NeverSampled.name().as_bytes() == name,
+        None => false,
+    }
+}
+
+/// Whether it is known that the name of a comment, which this warning is about, keeps nothing quiet.
+fn is_known(
+    alloc: Global,
+    has_plan: bool,
+    text: &[u8],
+    warning: Warning,
+) -> Result<bool, AllocError>
+    ensures { IfOk result (λ known. known ≡ is_known has_plan text.now warning) }
+{
+    let names = quiet_names(alloc, line_of(text, warning.at.min(text.len())))?;
+    Ok(has_plan || !is_of_schedule(name_at(&names, warning.about)))
+}
+
+/// The warnings of comments that are known to keep nothing quiet.
+pub(crate) fn known_ones(
+    alloc: Global,
+    has_plan: bool,
+    text: &[u8],
+    spare: &[Warning],
+) -> Result<Vec<Warning>, AllocError>
+    ensures { IfOk result (λ told. told.items ≡ known has_plan text.now spare.now) }
+{
+    let mut told = Vec::new(alloc);
+    for warning in spare {
+        if is_known(alloc, has_plan, text, *warning)? {
+            told.push(*warning)?;
+        }
+    }
+    Ok(told)
 }
 
 /// Adds the warnings of comments that keep none of `all` quiet.

@@ -2,27 +2,15 @@
 
 ghost use Rattle.std.specs.Prelude.{◌≡◌, ◌++◌, IfOk, OnOk, length};
 ghost use Rattle.std.specs.List.{list_any};
-ghost use Rattle.rule_parser.specs.Syntax.{expression_of, item_of, items_of, rule_of};
-ghost use Rattle.rule_lints.specs.Items.{compares, declared, is_debug, is_field_used, is_packet_used, is_requested_before, is_rule, of_item, of_rule, requests_before, uses_field, uses_packet, warn_if};
+ghost use Rattle.rule_parser.specs.Syntax.{item_of, items_of, rule_of};
+ghost use Rattle.rule_lints.specs.Items.{declared, is_debug, is_field_used, is_packet_used, is_requested_before, is_rule, of_item, of_rule, requests_before, uses_field, uses_packet, warn_if};
 
 use crate::lint::Lint;
 use crate::warning::Warning;
+use analysis_listing::compares;
 use lc_model::EventKind;
-use rule_parser::{Expression, Item, RuleItem};
+use rule_parser::{Item, RuleItem};
 use std::alloc::{AllocError, Global};
-
-/// Whether a condition compares the field of this name.
-fn compares(condition: &Expression<'_>, name: &[u8]) -> bool
-    ensures { result ≡ compares name.now (expression_of condition.now) }
-{
-    match condition {
-        Expression::Compare(comparison) => comparison.field.text == name,
-        Expression::Not(operand) => compares(operand, name),
-        Expression::And(operands) | Expression::Or(operands) | Expression::Xor(operands) => {
-            compares(&operands.0, name) || compares(&operands.1, name)
-        }
-    }
-}
 
 /// Whether the item is a rule that compares the field of this name.
 fn uses_field(item: &Item<'_>, name: &[u8]) -> bool

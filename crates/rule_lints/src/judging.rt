@@ -5,7 +5,7 @@ ghost use Rattle.std.specs.List.{list_all};
 ghost use Rattle.analysis_listing.specs.Said.{line_of};
 ghost use Rattle.rule_parser.specs.Syntax.{expression_of, items_of, rule_of};
 ghost use Rattle.rule_analysis.specs.declared.finding.PairJudgement.{PairJudgement as Pair};
-ghost use Rattle.rule_lints.specs.Judged.{all_vary, comparisons_below, goes_both_ways, is_constant, judged, lint_of, lint_of_relation, name_at, of_comparison, of_found, of_judged, of_pair, of_spare, of_unsampled, other_of, places, rule_at, rules_below, spare_below, told_first, told_of, warn_at, warn_of};
+ghost use Rattle.rule_lints.specs.Judged.{all_vary, comparisons_below, goes_both_ways, is_constant, is_doubtful, is_same, judged, lint_of, lint_of_relation, name_at, of_comparison, of_found, of_judged, of_pair, of_spare, of_unsampled, other_of, places, request_alike, rule_at, rules_below, spare_below, told_first, told_of, warn_at, warn_of};
 
 use crate::declarations::warn_if;
 use crate::lint::Lint;
@@ -265,6 +265,34 @@ fn lint_of_relation(relation: Relation) -> Lint
     }
 }
 
+/// Whether the rules with these numbers request one sequence.
+fn request_alike(items: &[Item<'_>], first: usize, second: usize) -> bool
+    ensures { result ≡ request_alike (rule_at (items_of items.now) first)
+        (rule_at (items_of items.now) second) }
+{
+    match (rule_at(items, first), rule_at(items, second)) {
+        (Some(first), Some(second)) => first.sequence.value == second.sequence.value,
+        (Some(_), None) | (None, _) => false,
+    }
+}
+
+/// Whether both rules of a pair always fail together.
+fn is_same(relation: Relation) -> bool
+    ensures { result ≡ is_same relation }
+{
+    match relation {
+        Relation::Same => true,
+        Relation::FirstFollows | Relation::SecondFollows => false,
+    }
+}
+
+/// Whether a pair is worth a warning: rules that fail together; rules of which one follows the other, if both request one sequence.
+fn is_doubtful(items: &[Item<'_>], pair: PairJudgement) -> bool
+    ensures { result ≡ is_doubtful (items_of items.now) pair }
+{
+    is_same(pair.relation) || request_alike(items, pair.first, pair.second)
+}
+
 /// Adds the warning of a pair of rules.
 fn add_pair(
     items: &[Item<'_>],
@@ -275,7 +303,7 @@ fn add_pair(
     ensures { OnOk result (found.new.items ≡
         found.old.items ++ of_pair (items_of items.now) rules.now pair) }
 {
-    if !(is_open(rules, pair.first) && is_open(rules, pair.second)) {
+    if !(is_open(rules, pair.first) && is_open(rules, pair.second) && is_doubtful(items, pair)) {
         return Ok(());
     }
     let place = name_at(items, told_of(pair));

@@ -38,6 +38,25 @@ pub enum Lint {
     UnusedQuiet,
 }
 
+/// All kinds of warnings.
+pub const LINTS: &[Lint] = &[
+    Lint::NoRules,
+    Lint::UnusedField,
+    Lint::UnusedPacket,
+    Lint::DebugEvent,
+    Lint::SameSequence,
+    Lint::NeverFails,
+    Lint::AlwaysFails,
+    Lint::NeverPasses,
+    Lint::NotKnown,
+    Lint::ConstantComparison,
+    Lint::FailsAlike,
+    Lint::FailsWherever,
+    Lint::SpareComparison,
+    Lint::NeverSampled,
+    Lint::UnusedQuiet,
+];
+
 impl Lint {
     /// The name of the warning, as comments have it.
     pub fn name(self) -> &'static str

@@ -6,12 +6,12 @@ ghost use Rattle.rule_lints.specs.Names.{name_of};
 
 use crate::comments::quiet_names;
 use crate::judging::{Judged, places_of, rule_at};
-use crate::lint::Lint;
+use crate::lint::{LINTS, Lint};
 use crate::warning::Warning;
 use analysis_listing::{
     FieldNames, NameSource, RuleFindings, ShownTerm, Values, said_of, terms_in, why,
 };
-use diagnostics::{Mark, Message, around, written_line};
+use diagnostics::{Mark, Message, around, nearest, written_line};
 use lc_model::Term;
 use rpn_compiler::RuleText;
 use rule_analysis::{ComparisonJudgement, Constancy, RuleJudgement, SpareComparison};
@@ -230,33 +230,43 @@ impl<'s, 'a> Subject<'s, 'a> {
         }
     }
 
-    /// The values of a rule's fields in packets, in words.
-    fn values(
-        &self,
-        alloc: Global,
-        before: &str,
-        judged: &RuleJudgement,
-        packets: &[Vec<u8>],
-    ) -> Result<String, AllocError> {
-        let terms = terms_in(alloc, &judged.comparisons)?;
-        let values = Values {
-            names: NameSource::Text(&self.names),
-            terms: &terms,
-            packets,
-        };
-        format!(in alloc; "{before}{values}")
+    /// The names of fields, with those first by which the rule with this number calls them.
+    fn names_in(&self, alloc: Global, rule: usize) -> Result<FieldNames<'a>, AllocError> {
+        match rule_at(&self.text.file.items, rule) {
+            Some(rule) => self.names.first_in(alloc, &rule.condition),
+            None => FieldNames::of(alloc, self.text),
+        }
     }
 }
 
-/// A comparison, as it is written between backticks.
+/// The values of a rule's fields in packets, in words, by these names.
+fn shown_values(
+    alloc: Global,
+    before: &str,
+    names: &FieldNames<'_>,
+    judged: &RuleJudgement,
+    packets: &[Vec<u8>],
+) -> Result<String, AllocError> {
+    let terms = terms_in(alloc, &judged.comparisons)?;
+    let values = Values {
+        names: NameSource::Text(names),
+        terms: &terms,
+        packets,
+    };
+    format!(in alloc; "{before}{values}")
+}
+
+/// A comparison of the rule with this number, between backticks.
 fn shown_term(
     alloc: Global,
     subject: &Subject<'_, '_>,
+    rule: usize,
     term: Term,
     behind: &str,
 ) -> Result<String, AllocError> {
+    let names = subject.names_in(alloc, rule)?;
     let shown = ShownTerm {
-        name: NameSource::Text(&subject.names).name(&term),
+        name: NameSource::Text(&names).name(&term),
         term,
     };
     format!(in alloc; "`{shown}`{behind}")
@@ -266,15 +276,19 @@ fn shown_term(
 fn rule_label(
     alloc: Global,
     subject: &Subject<'_, '_>,
+    number: usize,
     judged: &RuleJudgement,
 ) -> Result<String, AllocError> {
+    let names = subject.names_in(alloc, number)?;
     match said_of(judged) {
         RuleFindings::NeverFails(Some(packets)) => {
-            subject.values(alloc, "it passes for ", judged, packets)
+            shown_values(alloc, "it passes for ", &names, judged, packets)
         }
-        RuleFindings::AlwaysFails(packets) => subject.values(alloc, "as for ", judged, packets),
+        RuleFindings::AlwaysFails(packets) => {
+            shown_values(alloc, "as for ", &names, judged, packets)
+        }
         RuleFindings::FailsUnknown(reason) | RuleFindings::PassesUnknown(reason) =>
-            String::from_str(alloc, why(reason)),
+            String::from_str(alloc, why(reason, &judged.comparisons)),
         RuleFindings::NeverPasses => String::from_str(alloc, "no packets make its condition false"),
         _ => String::from_str(alloc, "no packets make its condition true"),
     }
@@ -302,7 +316,7 @@ fn judged_rule(
     };
     let (before, behind) = rule_head(judged);
     let head = around(alloc, before, subject.rule_name(number), behind)?;
-    Ok(plain(head, rule_label(alloc, subject, judged)?))
+    Ok(plain(head, rule_label(alloc, subject, number, judged)?))
 }
 
 impl<'s, 'a> Subject<'s, 'a> {
@@ -375,7 +389,7 @@ fn constant_comparison(
         Constancy::Never => " never holds",
         _ => " always holds",
     };
-    let head = shown_term(alloc, subject, comparison.term, holds)?;
+    let head = shown_term(alloc, subject, warning.about, comparison.term, holds)?;
     let label = "take another number, or leave the comparison out";
     Ok(plain(head, String::from_str(alloc, label)?))
 }
@@ -427,7 +441,7 @@ fn fails_wherever(
         subject.text_at(warning.at),
         " does",
     )?;
-    let label = "with one sequence it may go, unless it counts fewer failures";
+    let label = "both request one sequence: it may go, unless it counts fewer failures";
     let mut words = plain(head, String::from_str(alloc, label)?);
     words.other = subject.rule_mark(alloc, warning.about, "fails there, too")?;
     Ok(words)
@@ -444,7 +458,7 @@ fn spare_head(
     } else {
         " taken as false"
     };
-    let term = shown_term(alloc, subject, spare.term, value)?;
+    let term = shown_term(alloc, subject, spare.rule, spare.term, value)?;
     let mut head = around(
         alloc,
         "",
@@ -485,6 +499,29 @@ impl<'s, 'a> Subject<'s, 'a> {
     }
 }
 
+/// What to do about a name that no warning has.
+fn no_lint_label(alloc: Global, name: &[u8]) -> Result<String, AllocError> {
+    let mut names = Vec::new(alloc);
+    for lint in LINTS {
+        names.push(lint.name().as_bytes())?;
+    }
+    match nearest(alloc, name, names.as_slice())? {
+        Some(meant) => around(alloc, "did you mean ", meant, "?"),
+        None => String::from_str(alloc, "leave the name out"),
+    }
+}
+
+/// A comment with a name that no warning has.
+fn no_lint(alloc: Global, name: &[u8]) -> Result<WarningWords, AllocError> {
+    let head = around(alloc, "no warning has the name ", name, "")?;
+    Ok(plain(head, no_lint_label(alloc, name)?))
+}
+
+/// Whether a warning has this name.
+fn is_lint(name: &[u8]) -> bool {
+    LINTS.iter().any(|lint| lint.name().as_bytes() == name)
+}
+
 /// A comment that keeps nothing quiet.
 fn unused_quiet(
     alloc: Global,
@@ -496,6 +533,9 @@ fn unused_quiet(
         Some(name) => *name,
         None => &[],
     };
+    if !is_lint(name) {
+        return no_lint(alloc, name);
+    }
     of_name(
         alloc,
         "no ",

@@ -7,7 +7,7 @@ ghost use Rattle.rpn_compiler.specs.TextParts.{IsRuleText};
 ghost use Rattle.rule_parser.specs.Syntax.{items_of};
 ghost use Rattle.rule_lints.specs.Warned.{AreWarned, found, named, seen, told};
 
-use crate::comments::{spare_quiets, without_quiet};
+use crate::comments::{known_ones, spare_quiets, without_quiet};
 use crate::declarations::declaration_warnings;
 use crate::judged_rules::judge_all;
 use crate::judging::{Judged, add_judged};
@@ -39,12 +39,17 @@ fn reported_warnings(
     text: &[u8],
     items: &[Item<'_>],
     all: &Judged,
+    has_plan: bool,
 ) -> Result<Vec<Warning>, AllocError>
-    ensures { IfOk result (λ list. list.items ≡ told text.now (items_of items.now) all.now) }
+    ensures { IfOk result (λ list. list.items ≡
+        told has_plan text.now (items_of items.now) all.now) }
 {
     let found = all_warnings(alloc, text, items, all)?;
     let mut told = without_quiet(alloc, text, &found)?;
-    spare_quiets(alloc, text, &found, &mut told)?;
+    let mut spare = Vec::new(alloc);
+    spare_quiets(alloc, text, &found, &mut spare)?;
+    let known = known_ones(alloc, has_plan, text, &spare)?;
+    told.extend_from_slice(known.as_slice())?;
     Ok(told)
 }
 
@@ -78,7 +83,8 @@ pub fn warnings(
     ensures { IfOk result (λ messages. AreWarned text.now.bytes.now plan.entry messages.items) }
 {
     let all = judge_all(alloc, &text.rules.rules, plan)?;
-    let told = reported_warnings(alloc, text.bytes, text.file.items.as_slice(), &all)?;
+    let items = text.file.items.as_slice();
+    let told = reported_warnings(alloc, text.bytes, items, &all, plan.is_some())?;
     let subject = Subject::new(alloc, text, &all)?;
     explain_all(alloc, &subject, told.as_slice())
 }

@@ -1,5 +1,5 @@
 -- Two hosts go through the records of a stream side by side, and what both led to is counted.
-use Rattle.std.proofs.Common.{◌≡◌, ℕ, ◌+◌, Bool, true, List, [], ◌∷◌, ◌++◌, length, length-append, map, Option, Some, None, refl, ap, sym, ◌∙◌, subst, arith}
+use Rattle.std.proofs.Common.{◌≡◌, ℕ, ◌+◌, Bool, true, List, [], ◌∷◌, ◌++◌, length, length-append, map, Option, Some, refl, ap, sym, ◌∙◌, subst, arith}
 use Rattle.std.proofs.lemmas.List.{map-append}
 use Rattle.std.proofs.lemmas.List.Sums.{fold-append}
 use Rattle.std.specs.Io.KnownBytes.{IsAtEnd}
@@ -9,16 +9,15 @@ use Rattle.flight_core.specs.Compiled.{IsCompiled}
 use Rattle.flight_core.specs.Feeding.{Feeding}
 use Rattle.flight_core.specs.Records.{Held}
 use Rattle.run_stepper.specs.Stepping.{BeginsWith, HandlesAlone, HandlesRecord, MeetsNoRecord, Waits, holding_none}
-use Rattle.run_stepper.specs.Steps.{HaveRun, Step, StepsAreARun, part_of}
-use Rattle.run_stepper.specs.Trace.{IsTraced, Part}
+use Rattle.run_stepper.specs.Steps.{Step, StepsAreARun, part_of}
 use Rattle.run_stepper.specs.declared.ending.Ending.{Ending}
 use Rattle.run_stepper.specs.declared.ending.Ending.TheVariants as ended
 use Rattle.run_stepper.specs.declared.handled.Handled.{Handled}
 use Rattle.run_stepper.specs.declared.handled.Handled.TheVariants as handled
-use Rattle.run_comparison.specs.Coming.{Arrives, GoOn, HandleAlone, Pair, Took, Written}
+use Rattle.run_comparison.specs.Coming.{Arrives, GoOn, Pair, Took, Written}
 use Rattle.run_comparison.specs.Compared.{compared_in}
 use Rattle.run_comparison.specs.Counted.{CountsRecord, Lines, counted_with, counts_of, nothing_counted}
-use Rattle.run_comparison.specs.Course.{AreNew, Compares, ComparesRuns, ComparesTaken, EndsThere, GoesThrough, IsBad, IsComparison, MeetsEnd, StopsSo, of_new, of_old, of_parts, of_steps, stop_at}
+use Rattle.run_comparison.specs.Course.{AreNew, Compares, ComparesTaken, EndsThere, GoesThrough, IsBad, IsComparison, MeetsEnd, StopsSo, of_new, of_old, of_parts, of_steps, stop_at}
 use Rattle.run_comparison.specs.declared.comparison.Compared.{Compared}
 use Rattle.run_comparison.specs.declared.counts.LineCounts.{LineCounts}
 use Rattle.run_comparison.specs.declared.stop.Stop.{Stop}

@@ -3,3 +3,4 @@ pub mod OneHost
 pub mod BothHosts
 pub mod Packets
 pub mod Counting
+pub mod Words

@@ -1,5 +1,5 @@
 -- One host goes through the records of a stream that comes in pieces.
-use Rattle.std.proofs.Common.{◌≡◌, ℕ, ◌+◌, true, List, [], ◌∷◌, ◌++◌, length, length-append, map, refl, ap, sym, ◌∙◌, subst, arith, Ok}
+use Rattle.std.proofs.Common.{◌≡◌, ℕ, ◌+◌, List, [], ◌∷◌, ◌++◌, length, map, refl, ap, sym, ◌∙◌, subst, Ok}
 use Rattle.std.proofs.lemmas.List.{append_assoc, append-nil, length-map, map-append}
 use Rattle.lc_model.specs.Host.Stream.{StreamEntry, End, Bad, Truncated, Record, all_kinds, front, records_of}
 use Rattle.lc_model.specs.Host.Stream as stream
@@ -8,7 +8,7 @@ use Rattle.flight_core.specs.Feeding.{Feeding, fed_with}
 use Rattle.flight_core.specs.Front.{part_of}
 use Rattle.flight_core.specs.Records.{Held}
 use Rattle.run_stepper.specs.Stepping.{HandlesRecord, HasHandled, HasStepped, MeetsNoRecord, Waits, holding_none, one_record}
-use Rattle.run_stepper.specs.Steps.{AreItsRecords, Step, Went, bytes_of}
+use Rattle.run_stepper.specs.Steps.{Step, Went, bytes_of}
 use Rattle.run_stepper.specs.Trace.{ending_by}
 use Rattle.run_stepper.specs.declared.ending.Ending.{Ending}
 use Rattle.run_stepper.specs.declared.ending.Ending.TheVariants as ended

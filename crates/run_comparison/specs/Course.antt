@@ -13,7 +13,6 @@ use Rattle.run_comparison.specs.Coming.{Pair, Took}
 use Rattle.run_comparison.specs.Compared.{compared_in}
 use Rattle.run_comparison.specs.Counted.{Lines, counts_of}
 use Rattle.run_comparison.specs.declared.comparison.Compared.{Compared}
-use Rattle.run_comparison.specs.declared.counts.LineCounts.{LineCounts}
 use Rattle.run_comparison.specs.declared.stop.Stop.{Stop}
 use Rattle.run_comparison.specs.declared.stop.Stop.TheVariants as stop
 
@@ -109,6 +108,10 @@ pub record ComparesTaken (before now : Option (List ℕ)) (was is : Bool) (first
 -- the texts of a run: one of the two that are compared, and the further ones, numbered from 1
 abbrev pub run_sources : RuleText → List RuleText → List (List ℕ)
 run_sources text further = text.bytes.now ∷ map (λ (one : RuleText). one.bytes.now) further
+
+-- all given texts: the old one, the further ones, and the new one
+abbrev pub given_sources : RuleText → List RuleText → RuleText → List (List ℕ)
+given_sources old further new = run_sources old further ++ new.bytes.now ∷ []
 
 -- the runs of these texts under this schedule over a stream are those of the definitions; of what their records led to, each request and
 -- each event is a line, and the counts are those of the lines, record by record

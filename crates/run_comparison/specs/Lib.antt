@@ -3,3 +3,4 @@ pub mod Compared
 pub mod Counted
 pub mod Coming
 pub mod Course
+pub mod Naming

@@ -1,79 +1,92 @@
 //! The ground command that led to a difference, in words.
 
-use crate::error::{ComparisonError, Which};
-use rpn_compiler::{CompileError, RuleText};
-use scenarios::{DeclaredItems, declared_in, record_in_words};
+ghost use Rattle.std.specs.Prelude.{◌≡◌, IfOk, option_map};
+ghost use Rattle.scenarios.specs.CommandWords.{record_in_words};
+ghost use Rattle.run_comparison.specs.Naming.{words_by};
+
+use crate::forces::Forces;
+use crate::given::GivenTexts;
+use scenarios::record_in_words;
 use std::alloc::{AllocError, Global};
+use text_lines::first_word;
 
-/// What the two compared texts declare, and nothing, for commands whose rules have their numbers.
-#[derive(Drop)]
-pub struct CommandNames<'a> {
-    old: DeclaredItems<'a>,
-    new: DeclaredItems<'a>,
-    nothing: DeclaredItems<'a>,
-}
-
-/// What a text declares whose bytes compile.
-fn declared_alone<'a>(
-    alloc: Global,
-    which: Which,
-    bytes: &'a [u8],
-) -> Result<DeclaredItems<'a>, ComparisonError> {
-    let mut texts = Vec::new(alloc);
-    match RuleText::read_valid(alloc, bytes) {
-        Ok(text) => texts.push(text)?,
-        Err(CompileError::Memory) => return Err(ComparisonError::Memory),
-        Err(error) => return Err(ComparisonError::Rules { which, error }),
+/// The rule's name in a command's words, if they are others than those with its number.
+fn name_in<'w>(words: &'w Option<Vec<u8>>, numbered: &[u8]) -> Option<&'w [u8]> {
+    let words = match words {
+        Some(words) => words.as_slice(),
+        None => return None,
+    };
+    if words == numbered {
+        return None;
     }
-    Ok(declared_in(alloc, texts.as_slice())?)
+    let (_verb, rest) = first_word(words)?;
+    let (name, _state) = first_word(rest)?;
+    Some(name)
 }
 
-/// Nothing that is declared.
-fn declared_nowhere<'a>(alloc: Global) -> Result<DeclaredItems<'a>, AllocError> {
-    let texts: Vec<RuleText<'a>> = Vec::new(alloc);
-    declared_in(alloc, texts.as_slice())
-}
-
-/// Whether both have these words.
-fn are_same(one: &Option<Vec<u8>>, other: &Option<Vec<u8>>) -> bool {
-    match (one, other) {
-        (Some(one), Some(other)) => one.as_slice() == other.as_slice(),
+/// Whether there are two names, and they are the same.
+fn are_same(old: Option<&[u8]>, new: Option<&[u8]>) -> bool {
+    match (old, new) {
+        (Some(old), Some(new)) => old == new,
         _ => false,
     }
 }
 
-impl<'a> CommandNames<'a> {
-    /// What the texts with these bytes declare.
-    pub fn new(
-        alloc: Global,
-        old: &'a [u8],
-        new: &'a [u8],
-    ) -> Result<CommandNames<'a>, ComparisonError> {
-        Ok(CommandNames {
-            old: declared_alone(alloc, Which::Old, old)?,
-            new: declared_alone(alloc, Which::New, new)?,
-            nothing: declared_nowhere(alloc)?,
-        })
+/// A command's words with the rule's number, and after them the names that the texts in force have for the rule.
+fn with_names(
+    alloc: Global,
+    numbered: &[u8],
+    old: Option<&[u8]>,
+    new: Option<&[u8]>,
+) -> Result<Vec<u8>, AllocError> {
+    let mut text = Vec::from_slice(alloc, numbered)?;
+    if let Some(name) = old {
+        text.extend_from_slice(b": old ")?;
+        text.extend_from_slice(name)?;
     }
+    if let Some(name) = new {
+        let sign: &[u8] = if old.is_some() { b", new " } else { b": new " };
+        text.extend_from_slice(sign)?;
+        text.extend_from_slice(name)?;
+    }
+    Ok(text)
+}
 
-    /// The words of the command that a record brings, where it brings one that has words. Its rule is called by name where both texts
-    /// call it so and `is_named`, else by its number. Out of memory is the only error.
-    pub fn words(
+impl GivenTexts<'_> {
+    /// The words of the command that a record brings, if it brings one that has words. Its rule has the name that the text of this
+    /// number gives it, else its number. Out of memory is the only error.
+    fn words_by(
         &self,
         alloc: Global,
         record: &[u8],
-        is_named: bool,
+        text: Option<usize>,
+    ) -> Result<Option<Vec<u8>>, AllocError>
+        ensures { IfOk result (λ words. option_map (λ words. words.items) words ≡
+            record_in_words (words_by self.now text).declared «record».now) }
+    {
+        record_in_words(alloc, record, self.declared(text))
+    }
+
+    /// The words of the command that a record brings, if it brings one that has words. Its rule has its name if the texts in force agree
+    /// on it. Else it has its number, and after a colon the names that they have for it: `state 1 off: old LOW, new HOT`. Out of memory
+    /// is the only error.
+    pub fn command_words(
+        &self,
+        alloc: Global,
+        record: &[u8],
+        forces: Forces,
     ) -> Result<Option<Vec<u8>>, AllocError> {
-        let numbered = record_in_words(alloc, record, &self.nothing)?;
-        if numbered.is_none() || !is_named {
-            return Ok(numbered);
+        let Some(numbered) = self.words_by(alloc, record, None)? else {
+            return Ok(None);
+        };
+        let old = self.words_by(alloc, record, forces.old)?;
+        let new = self.words_by(alloc, record, forces.new)?;
+        let old_name = name_in(&old, numbered.as_slice());
+        let new_name = name_in(&new, numbered.as_slice());
+        if are_same(old_name, new_name) {
+            return Ok(old);
         }
-        let old = record_in_words(alloc, record, &self.old)?;
-        let new = record_in_words(alloc, record, &self.new)?;
-        if are_same(&old, &new) {
-            Ok(old)
-        } else {
-            Ok(numbered)
-        }
+        let text = with_names(alloc, numbered.as_slice(), old_name, new_name)?;
+        Ok(Some(text))
     }
 }

@@ -1,25 +1,27 @@
 //! From two rule texts and a stream to what differs.
 
-ghost use Rattle.std.specs.Prelude.{◌≡◌, ◌+◌, ◌<◌, ◌^◌, ℕ, List, length, IfOk};
+ghost use Rattle.std.specs.Prelude.{◌≡◌, ◌+◌, ◌<◌, ◌^◌, ℕ, List, length, IfOk, Some, None, if◌then◌else◌};
 ghost use Rattle.flight_core.specs.Compiled.{sources_of};
 ghost use Rattle.flight_core.specs.Records.{piece_size};
 ghost use Rattle.lc_model.specs.Host.Schedule.{Schedule as Plan};
 ghost use Rattle.run_stepper.specs.Stepping.{BeginsWith, IsAtRest, host_in, written_by};
 ghost use Rattle.run_comparison.specs.Coming.{hosts_in};
 ghost use Rattle.run_comparison.specs.Counted.{CountsRecord};
-ghost use Rattle.run_comparison.specs.Course.{AreNew, ComparesTaken, IsBad, IsComparison, run_sources, stop_at};
+ghost use Rattle.run_comparison.specs.Course.{AreNew, ComparesTaken, IsBad, IsComparison, given_sources, run_sources, stop_at};
+ghost use Rattle.run_comparison.specs.Naming.{forces_at, forces_in, nowhere};
 
 use crate::arriving::handle_next;
-use crate::command_said::CommandNames;
 use crate::counts::{LineCounts, RecordPlace, TextNames, write_record};
 use crate::error::{ComparisonError, Which};
+use crate::forces::{Forces, forces_at, forces_in, stay_settled};
+use crate::given::GivenTexts;
 use crate::inflow::Inflow;
-use crate::lines::lines_of;
+use crate::lines::{has_lines, lines_of};
 use crate::stop::Stop;
 use flight_core::laws::{records_are_handed_out, the_rest_says_the_end};
-use lc_model::stream::{HALF, HEADER, PIECE};
-use lc_model::{ByteSource, u16_at};
-use packet_listing::{TextRules, Time, rules_of};
+use lc_model::ByteSource;
+use lc_model::stream::PIECE;
+use packet_listing::Time;
 use rpn_compiler::RuleText;
 use run_stepper::laws::steps_are_a_run;
 use run_stepper::{Handled, Stepping, moment_of};
@@ -42,62 +44,74 @@ pub struct Compared {
     pub stop: Option<Stop>,
 }
 
-/// What is compared: the texts' names, how events and commands speak of the rules of each, and how many texts each run has.
+/// What is compared: the texts' names, the given texts, and how many texts each run has.
 #[derive(Clone, Copy)]
-struct Comparison<'a> {
+struct Comparison<'n, 'g, 't> {
     alloc: Global,
-    names: TextNames<'a>,
-    old: &'a [TextRules<'a>],
-    new: &'a [TextRules<'a>],
-    commands: &'a CommandNames<'a>,
+    names: TextNames<'n>,
+    given: &'g GivenTexts<'t>,
     texts: usize,
 }
 
-/// Where the number of a text stands in a record that brings a half of it.
-const TEXT_NUMBER: usize = HEADER + HALF - 2;
-
-/// Whether a record brings a file, or a half of a further text: from there on other rules may be in force than those of the compared
-/// texts.
-fn brings_other_rules(record: &[u8]) -> bool {
-    match record.first() {
-        Some(3) => true,
-        Some(4) if record.len() == HEADER + HALF => u16_at(record, TEXT_NUMBER) > 0,
-        _ => false,
+impl Comparison<'_, '_, '_> {
+    /// The texts in force before the next record, where they are asked for.
+    fn forces_before(&self, old: &Stepping, new: &Stepping, is_asked: bool) -> Option<Forces>
+        ensures { result ≡ (if is_asked
+            then Some (forces_in self.now.given.now.pairs.items (hosts_in old.now new.now))
+            else None) }
+    {
+        if is_asked {
+            Some(forces_in(self.given.pairs.as_slice(), old, new))
+        } else {
+            None
+        }
     }
-}
 
-/// These rules where they may be named, and none else: events then speak of rules by their numbers.
-fn named<'r, 'a>(is_named: bool, texts: &'r [TextRules<'a>]) -> &'r [TextRules<'a>] {
-    if is_named { texts } else { &[] }
-}
+    /// The texts in force at the record that both runs handled last, if one of them has lines: those `before` it if they are given, else
+    /// those after it.
+    fn forces_of_lines(
+        &self,
+        old: &Stepping,
+        new: &Stepping,
+        before: Option<Forces>,
+        has_lines: bool,
+    ) -> Forces
+        ensures { result ≡ (if has_lines
+            then forces_at self.now.given.now.pairs.items before (hosts_in old.now new.now)
+            else nowhere) }
+    {
+        if has_lines {
+            forces_at(self.given.pairs.as_slice(), before, old, new)
+        } else {
+            Forces::nowhere()
+        }
+    }
 
-impl Comparison<'_> {
-    /// Writes what differs of the record of this number, which both runs handled last, and answers the counts with it. Rules are
-    /// called by their names in the compared texts, where `is_named`.
+    /// Writes what differs of the record of this number, which both runs handled last, and answers the counts with it. Rules have the
+    /// names that the texts in force `before` it give them, or those after it.
     fn compare_record<W: Write>(
         &self,
         old: &Stepping,
         new: &Stepping,
         number: u64,
-        is_named: bool,
+        before: Option<Forces>,
         counts: LineCounts,
         out: &mut W,
     ) -> Result<LineCounts, ComparisonError>
         ensures { IfOk result (CountsRecord (written_by old.now) (written_by new.now) counts) }
     {
-        let command = self
-            .commands
-            .words(self.alloc, old.last_record(), is_named)?;
+        let (has_old, has_new) = (has_lines(old.packets()), has_lines(new.packets()));
+        let forces = self.forces_of_lines(old, new, before, has_old || has_new);
         let place = RecordPlace {
             time: Time::at(moment_of(old.last_record())),
             record: number,
-            command: match &command {
-                Some(words) => Some(words.as_slice()),
-                None => None,
-            },
+            bytes: old.last_record(),
+            forces,
+            given: self.given,
         };
-        let olds = lines_of(self.alloc, old.packets(), named(is_named, self.old))?;
-        let news = lines_of(self.alloc, new.packets(), named(is_named, self.new))?;
+        let named = forces.of_names(has_old, has_new);
+        let olds = lines_of(self.alloc, old.packets(), self.given.rules(named.old))?;
+        let news = lines_of(self.alloc, new.packets(), self.given.rules(named.new))?;
         let (olds, news) = (olds.as_slice(), news.as_slice());
         write_record(self.alloc, place, self.names, olds, news, counts, out)
     }
@@ -126,9 +140,10 @@ impl Comparison<'_> {
         the_rest_says_the_end();
         let mut counts = LineCounts::none();
         let mut number = 0u64;
-        let mut is_named = true;
+        let mut are_settled = true;
         for _ in 0..u64::MAX {
             let next = number + 1;
+            let before = self.forces_before(old, new, !are_settled);
             match handle_next(old, new, inflow, room, reader)? {
                 Handled::Whole => {}
                 Handled::NoRecord => {
@@ -141,8 +156,8 @@ impl Comparison<'_> {
                 }
             }
             inflow.pass();
-            is_named = is_named && !brings_other_rules(old.last_record());
-            counts = self.compare_record(old, new, next, is_named, counts, out)?;
+            counts = self.compare_record(old, new, next, before, counts, out)?;
+            are_settled = stay_settled(are_settled, old, new);
             number = next;
         }
         Err(ComparisonError::Bound)
@@ -213,10 +228,13 @@ pub struct Sides<'a, 't> {
     pub further: &'a [RuleText<'t>],
 }
 
-/// The rules of one text, alone among texts.
-fn rules_alone<'t>(alloc: Global, text: &RuleText<'t>) -> Result<Vec<TextRules<'t>>, AllocError> {
-    let mut texts = Vec::new(alloc);
-    texts.push(rules_of(alloc, text)?)?;
+/// The given rule texts: the old one, the further ones, and the new one.
+fn given_texts<'t>(alloc: Global, sides: Sides<'_, 't>) -> Result<Vec<&'t [u8]>, AllocError>
+    ensures { IfOk result (λ texts. sources_of texts.items ≡
+        given_sources sides.entry.old.text.now sides.entry.further.now sides.entry.new.text.now) }
+{
+    let mut texts = texts_of(alloc, sides.old.text, sides.further)?;
+    texts.push(sides.new.text.bytes)?;
     Ok(texts)
 }
 
@@ -240,18 +258,15 @@ fn compare_runs<R: ByteSource, W: Write>(
         (R.source reader.old).rest (R.source reader.new).rest) }
 {
     steps_are_a_run();
-    let olds = rules_alone(alloc, sides.old.text)?;
-    let news = rules_alone(alloc, sides.new.text)?;
-    let commands = CommandNames::new(alloc, sides.old.text.bytes, sides.new.text.bytes)?;
+    let sources = given_texts(alloc, sides)?;
+    let given = GivenTexts::new(alloc, sources.as_slice())?;
     let comparison = Comparison {
         alloc,
         names: TextNames {
             old: sides.old.name,
             new: sides.new.name,
         },
-        old: olds.as_slice(),
-        new: news.as_slice(),
-        commands: &commands,
+        given: &given,
         texts: 1 + sides.further.len(),
     };
     let mut inflow = Inflow::new(alloc)?;
@@ -298,10 +313,10 @@ fn write_summary<W: Write>(names: TextNames<'_>, found: Compared, out: &mut W) -
 }
 
 /// Runs each of two rule texts over a stream, and writes a line for each sequence request and event that came of one alone: its
-/// record's moment and number from 1, the command that it brings, which text it is, and what came. Rules are called by their names, so that a rule may have
-/// another number in the other text; from a record on that brings a file or a half of a further text they are called by number, since
-/// other rules may then be in force. Of what came of one record the order doesn't count. A last line says how many came of each
-/// alone, and of both; one before it, why both runs ended before the stream did, where they did.
+/// record's moment and number from 1, the command that it brings, which text it is, and what came. Rules have the names that the text
+/// in force before the record, in each run, gives them, so that a rule may have another number in the other text; where one run has
+/// none of the given texts in force, rules have their numbers. Of what came of one record the order doesn't count. A last line says how
+/// many came of each alone, and of both; one before it, why both runs ended before the stream did, where they did.
 ///
 /// The stream is read in pieces of 8,192 bytes at most, once, and both runs go over it side by side, so that memory does not grow
 /// with it. Both runs get the same further texts, for records that bring them.

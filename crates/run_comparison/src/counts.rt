@@ -5,6 +5,8 @@ ghost use Rattle.run_comparison.specs.Counted.{CountsLines, more, nothing_counte
 
 use crate::difference::only_in;
 use crate::error::ComparisonError;
+use crate::forces::Forces;
+use crate::given::GivenTexts;
 use packet_listing::Time;
 use std::alloc::{AllocError, Global};
 use std::io::{self, Write};
@@ -17,12 +19,14 @@ pub struct LineCounts {
     pub both: u64,
 }
 
-/// Where a record stands: its moment, and its number from 1; and the words of the command that it brings, where it has some.
+/// A record in both runs: its moment, its number from 1, its bytes, and the texts in force at it among the given ones.
 #[derive(Clone, Copy)]
-pub struct RecordPlace<'a> {
+pub struct RecordPlace<'r, 'g, 't> {
     pub time: Time,
     pub record: u64,
-    pub command: Option<&'a [u8]>,
+    pub bytes: &'r [u8],
+    pub forces: Forces,
+    pub given: &'g GivenTexts<'t>,
 }
 
 /// The two texts' names.
@@ -45,13 +49,14 @@ fn texts_of<'a>(alloc: Global, lines: &'a [Vec<u8>]) -> Result<Vec<&'a [u8]>, Al
 
 /// Writes the lines that came of a record with one text alone.
 fn write_alone<W: Write>(
-    place: RecordPlace<'_>,
+    place: RecordPlace<'_, '_, '_>,
+    command: Option<&[u8]>,
     name: &str,
     lines: &[&[u8]],
     out: &mut W,
 ) -> io::Result<()> {
     for line in lines {
-        write_place(place, out)?;
+        write_place(place, command, out)?;
         write!(out, ": only {name}: ")?;
         out.write_all(line)?;
         out.write_all(b"\n")?;
@@ -60,18 +65,40 @@ fn write_alone<W: Write>(
 }
 
 /// Writes where a record stands, and the command that it brings in parentheses.
-fn write_place<W: Write>(place: RecordPlace<'_>, out: &mut W) -> io::Result<()> {
-    let RecordPlace {
-        time,
-        record,
-        command,
-    } = place;
+fn write_place<W: Write>(
+    place: RecordPlace<'_, '_, '_>,
+    command: Option<&[u8]>,
+    out: &mut W,
+) -> io::Result<()> {
+    let (time, record) = (place.time, place.record);
     write!(out, "{time} record {record}")?;
     if let Some(words) = command {
         out.write_all(b" (")?;
         out.write_all(words)?;
         out.write_all(b")")?;
     }
+    Ok(())
+}
+
+/// Writes the lines that came of a record with one text alone, those of the old text first.
+fn write_differences<W: Write>(
+    alloc: Global,
+    place: RecordPlace<'_, '_, '_>,
+    names: TextNames<'_>,
+    old: &[&[u8]],
+    new: &[&[u8]],
+    out: &mut W,
+) -> Result<(), ComparisonError> {
+    if old.is_empty() && new.is_empty() {
+        return Ok(());
+    }
+    let words = place.given.command_words(alloc, place.bytes, place.forces)?;
+    let command = match &words {
+        Some(words) => Some(words.as_slice()),
+        None => None,
+    };
+    write_alone(place, command, names.old, old, out)?;
+    write_alone(place, command, names.new, new, out)?;
     Ok(())
 }
 
@@ -106,7 +133,7 @@ impl LineCounts {
 /// Writes what differs of a record, and answers the counts with it.
 pub fn write_record<W: Write>(
     alloc: Global,
-    place: RecordPlace<'_>,
+    place: RecordPlace<'_, '_, '_>,
     names: TextNames<'_>,
     old: &[Vec<u8>],
     new: &[Vec<u8>],
@@ -119,8 +146,8 @@ pub fn write_record<W: Write>(
     let new = texts_of(alloc, new)?;
     let only_old = only_in(alloc, old.as_slice(), new.as_slice())?;
     let only_new = only_in(alloc, new.as_slice(), old.as_slice())?;
-    write_alone(place, names.old, only_old.as_slice(), out)?;
-    write_alone(place, names.new, only_new.as_slice(), out)?;
+    let (olds, news) = (only_old.as_slice(), only_new.as_slice());
+    write_differences(alloc, place, names, olds, news, out)?;
     let both = old.len().saturating_sub(only_old.len());
     Ok(counts.with(only_old.len(), only_new.len(), both))
 }

@@ -43,7 +43,34 @@ fn which_of(first: Which, text: usize) -> Which {
     Which::Further(text - 1)
 }
 
+/// Which text it is that has this number among the old one, the further ones and the new one, which is the last.
+fn which_given(last: usize, text: usize) -> Which {
+    if text == last {
+        return Which::New;
+    }
+    which_of(Which::Old, text)
+}
+
 impl ComparisonError {
+    /// Why the text of this number is not read, among the old one, the further ones and the new one.
+    pub(crate) fn of_text(last: usize, text: usize, error: CourseError) -> ComparisonError {
+        match error {
+            CourseError::Rules { text: _, error } => ComparisonError::Rules {
+                which: which_given(last, text),
+                error,
+            },
+            CourseError::Memory => ComparisonError::Memory,
+        }
+    }
+
+    /// Why these texts are not read: the old one, the further ones and the new one.
+    pub(crate) fn of_texts(last: usize, error: CourseError) -> ComparisonError {
+        match error {
+            CourseError::Rules { text, error: _ } => ComparisonError::of_text(last, text, error),
+            CourseError::Memory => ComparisonError::Memory,
+        }
+    }
+
     /// Why there is no course of this text, and of the further ones behind it.
     pub(crate) fn of(first: Which, error: CourseError) -> ComparisonError {
         match error {

@@ -7,6 +7,8 @@ mod comparison;
 mod counts;
 mod difference;
 mod error;
+mod forces;
+mod given;
 mod inflow;
 mod lines;
 mod stop;

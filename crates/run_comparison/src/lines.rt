@@ -2,7 +2,7 @@
 
 ghost use Rattle.std.specs.Prelude.{◌≡◌, ◌+◌, ◌∷◌, [], filter, is_some, length, IfOk, OnOk};
 ghost use Rattle.packet_listing.specs.Told.{told_in};
-ghost use Rattle.run_comparison.specs.Compared.{compared_in, is_compared, is_told};
+ghost use Rattle.run_comparison.specs.Compared.{compared_in, has_line, is_compared, is_told};
 
 use crate::error::ComparisonError;
 use lc_model::packet::first_packet;
@@ -47,6 +47,20 @@ fn push_line(
         lines.push(line_of(alloc, sent, texts)?)?;
     }
     Ok(())
+}
+
+/// Whether there are requests or events among packets that stand one behind the other.
+pub fn has_lines(packets: &[u8]) -> bool
+    ensures { result ≡ has_line packets.now }
+{
+    let mut rest = packets;
+    while let Some((packet, behind)) = first_packet(rest) {
+        if compared_packet(packet).is_some() {
+            return true;
+        }
+        rest = behind;
+    }
+    false
 }
 
 /// The lines of the requests and events among packets that stand one behind the other, in order, where these are the rules of its text, or none.

@@ -66,5 +66,8 @@ const sent = run.requests.map(request => ({ kind: 'request', request, packet: re
     { kind: level, packet, rule, sender, id, says, at: { record, time } })))
   .sort((one, other) => one.packet - other.packet);
 
+// Ground commands and uplinked files and halves, by their records.
+const commands = run.commands.map(([record, time, says]) => ({ kind: 'command', rule: null, says, at: { record, time } }));
+
 const whatOf = item => (item.request
   ? `sequence ${item.request.sequence}, count ${item.request.count}` : `${item.sender} ${item.id}: ${item.says}`);

@@ -40,7 +40,7 @@ function find() {
 // What the page hasn't, in words.
 function leftOut() {
   const words = (list, kind) => (list ? [`${list[0]} ${kind} of the records ${list[1]} to ${list[2]} are left out of this page`] : []);
-  return words(run.requests_left_out, 'requests').concat(words(run.events_left_out, 'events'));
+  return words(run.requests_left_out, 'requests').concat(words(run.events_left_out, 'events'), words(run.commands_left_out, 'commands'));
 }
 
 function makeTableRow(item) {

@@ -134,13 +134,12 @@ function makeBands() {
   makeBand('mode of the checker', run.mode, ([, , mode]) => modes[mode] ?? mode, ([, , mode]) => modes[mode] ?? mode);
 }
 
-// The events that are about no rule have a row of marks alone.
-function makeOtherEvents() {
-  const others = sent.filter(item => item.rule === null);
-  if (!others.length) return;
-  const row = makeRow('other events', false);
+// Commands, and the events that are about no rule, have a row of marks alone.
+function makeMarks(label, items) {
+  if (!items.length) return;
+  const row = makeRow(label, false);
   row.track.classList.add('marks_alone');
-  drawings.push(() => redraw(row.track, marksOf(others, row.track.clientWidth || 1)));
+  drawings.push(() => redraw(row.track, marksOf(items, row.track.clientWidth || 1)));
 }
 
 function makeLanes() {
@@ -151,7 +150,8 @@ function makeLanes() {
   }
   makeAxis();
   makeBands();
-  makeOtherEvents();
+  makeMarks('commands', commands);
+  makeMarks('other events', byRule.get(null) ?? []);
   run.lanes.forEach((list, rule) => makeLane(list, rule, byRule.get(rule) ?? []));
   drawings.push(drawLanes);
 }

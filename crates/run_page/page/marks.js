@@ -1,12 +1,14 @@
-// Marks of requests and events above a lane. Those whose labels would meet are one mark, which says how many it has.
+// Marks of requests, events and commands. Those whose labels would meet are one mark, which says how many it has.
 
-// What a mark says: one request its sequence, one event its number, of several how many.
+// What a mark says: one request its sequence, one event its number, one command its first word, of several how many.
 function labelOf(items) {
   const requests = items.filter(item => item.request);
-  const events = items.filter(item => !item.request);
+  const uplinks = items.filter(item => item.kind === 'command');
+  const events = items.filter(item => !item.request && item.kind !== 'command');
   const parts = [];
   if (requests.length) parts.push(requests.length === 1 ? `▼ ${requests[0].request.sequence}` : `▼ ${requests.length}×`);
   if (events.length) parts.push(events.length === 1 ? `● ${events[0].id}` : `● ${events.length}×`);
+  if (uplinks.length) parts.push(uplinks.length === 1 ? `◆ ${uplinks[0].says.split(' ')[0]}` : `◆ ${uplinks.length}×`);
   return parts.join(' ');
 }
 
@@ -35,7 +37,7 @@ function groupsOf(items, width) {
 
 // A mark, and below it a line from the place of its first to that of its last.
 function drawGroup(group, width) {
-  const kind = group.items.some(item => item.request) ? 'request' : 'event';
+  const kind = group.items.some(item => item.request) ? 'request' : group.items[0].kind === 'command' ? 'command' : 'event';
   const count = group.items.length;
   const name = count === 1 ? itemName(group.items[0])
     : `${count} marks: ${group.label}, from ${at(group.items[0].at)} to ${at(group.items.at(-1).at)}`;

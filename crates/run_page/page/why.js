@@ -81,7 +81,8 @@ function showRequest(request) {
 function showItem(item) {
   if (item.request) { showRequest(item.request); return; }
   choose(item.packet);
-  showIn(byId('panel'), make('h3', '', `${item.kind} event`), make('p', '', itemName(item)), rowLink(item));
+  const [title, links] = item.kind === 'command' ? ['command', []] : [`${item.kind} event`, [rowLink(item)]];
+  showIn(byId('panel'), make('h3', '', title), make('p', '', itemName(item)), ...links);
 }
 
 // Several marks that are drawn as one: each has its own button, and all are zoomed to.
@@ -95,7 +96,7 @@ function showItems(items) {
     return link;
   });
   const rest = items.length > links.length ? [make('p', 'soft', `and ${items.length - links.length} more: zoom to see them`)] : [];
-  showIn(byId('panel'), make('h3', '', `${items.length} requests and events`), nearer, ...links, ...rest);
+  showIn(byId('panel'), make('h3', '', `${items.length} ${items[0].kind === 'command' ? 'commands' : 'requests and events'}`), nearer, ...links, ...rest);
 }
 
 // A span, or each of those that are drawn as one.

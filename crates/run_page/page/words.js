@@ -47,6 +47,7 @@ function spanName(rule, span) {
 }
 
 function itemName(item) {
+  if (item.kind === 'command') return `command ${item.says}, ${at(item.at)}`;
   const what = item.request ? `request of sequence ${item.request.sequence}` : `${item.kind} event ${whatOf(item)}`;
   const rule = item.rule === null ? '' : ` of ${nameIn(textBehind(item.at.record), item.rule)}`;
   return `${what}${rule}, ${at(item.at)}, packet ${item.packet}`;

@@ -1,5 +1,5 @@
--- What a page tells of a run: how the Limit Checker stands behind each record, rule by rule, the values of fields, and the account of
--- the run (page/DATA.md). This project's own.
+-- The data of a page about a run: each rule's result and state after each record, the values of fields, and the account of the run
+-- (page/DATA.md). This project's own.
 use Rattle.std.specs.Prelude.{◌≡◌, ℕ, zero, suc, ◌+◌, ◌-◌, ◌*◌, ◌^◌, ◌<◌, min, true, false, List, [], ◌∷◌, ◌++◌, length, map, pos, ◌-ℤ◌, negsuc, ℤ, nat_lt, if◌then◌else◌, Option, Some, None, Ok}
 use Rattle.lc_model.specs.declared.mode.LcMode.{LcMode}
 use Rattle.lc_model.specs.Bytes.{u16_at, u32_at}
@@ -39,18 +39,18 @@ use Rattle.sha2.specs.Sha256.{sha256}
 
 -- ---- a run
 
--- nothing has come to a host
+-- a host that is open and to which no byte has come
 pub record IsNew (host : Feeding) : Type 0 where
   pub held : host.held ≡ nothing_held (length host.files)
   pub is_open : host.host.is_closed ≡ false
 
--- ---- how a rule stands
+-- ---- results and states of rules
 
--- with how many failures in a row
+-- those of one rule, with its failures in a row
 abbrev pub stand_of : Point Tally → Stand
 stand_of point = record { result = bit_of_result point.past.last; state = bit_of_state point.state; fails = point.past.run }
 
--- all rules, where a Limit Checker runs; none else
+-- those of all rules of the running Limit Checker; none if none runs
 abbrev pub stands_of : Option LcOwn → List Stand
 stands_of None = []
 stands_of (Some engine) = map stand_of engine.points
@@ -61,7 +61,7 @@ stands_of (Some engine) = map stand_of engine.points
 abbrev pub ticks_of : List ℕ → ℕ
 ticks_of bytes = if nat_lt (length bytes) header_size then 0 else u32_at bytes 1 * 65536 + u16_at bytes 5
 
--- that of the first record
+-- the time of the first record; 0 if there is none
 abbrev pub start_of : List Step → ℕ
 start_of [] = 0
 start_of (step ∷ steps) = ticks_of step.bytes
@@ -86,26 +86,26 @@ told_from start number rule (step ∷ steps) =
     stood (place_of start number step.bytes) (stand_at rule (stands_of (engine_among step.host.host.seats)))
     ∷ told_from start (number + 1) rule steps
 
--- .. from a whole run: its result and state after each record
+-- the entries of a rule over a whole run: its result and state after each record
 abbrev pub told_of : ℕ → List Step → List Entry
 told_of rule steps = told_from (start_of steps) 1 rule steps
 
--- the same for a number of rules, from this one on
+-- the same for this many rules, from this one on
 abbrev pub lanes_from : (rule count : ℕ) → List Step → List (List Entry)
 lanes_from rule zero steps = []
 lanes_from rule (suc count) steps = told_of rule steps ∷ lanes_from (suc rule) count steps
 
--- one more entry for each rule, from this one on
+-- these lists with one more entry each, for the rules from this one on
 abbrev pub stood_more : Place → List Stand → ℕ → List (List Entry) → List (List Entry)
 stood_more place stands rule [] = []
 stood_more place stands rule (told ∷ more) = (told ++ stood place (stand_at rule stands) ∷ []) ∷ stood_more place stands (suc rule) more
 
--- empty lists, of this number
+-- this many empty lists
 abbrev pub nothing_told : ℕ → List (List Entry)
 nothing_told zero = []
 nothing_told (suc count) = [] ∷ nothing_told count
 
--- the last entry of each of these lists has the result and state of its rule, from this rule on
+-- the last entry of each of these lists has the result and state of its rule; the first list is that of this rule
 abbrev pub SaidLast : Place → ℕ → List Stand → List (List Entry) → Type 0
 SaidLast place rule stands [] = Unit {0}
 SaidLast place rule stands (told ∷ more) = (is_said_last told (stood place (stand_at rule stands)) ≡ true) × SaidLast place (suc rule) stands more
@@ -114,7 +114,7 @@ SaidLast place rule stands (told ∷ more) = (is_said_last told (stood place (st
 abbrev pub most_entries : ℕ
 most_entries = 22528
 
--- the lists tell this: those of the lanes stand in front of those of the fields, and all have room together
+-- the lists have these entries, shortened: first the lanes, then the fields; all share one bound
 pub record ListsTell (lists : Lists) (lanes values : List (List Entry)) : Type 0 where
   pub lanes_are : length lanes ≡ lists.lanes
   pub most : most_of lists.pool ≡ most_entries
@@ -129,7 +129,7 @@ greatest = pos 9_223_372_036_854_775_807
 abbrev pub least : ℤ
 least = negsuc 9_223_372_036_854_775_807
 
--- a field has this value from this place on; one that its packet is too short for is less than the least and more than the greatest
+-- the entry of a field with this value from this place on; if its packet is too short, `low` is the greatest number and `high` the least
 abbrev pub valued : Place → Option ℤ → Entry
 valued place None = record {
   from = place.«record»;
@@ -144,7 +144,7 @@ valued place (Some value) = record {
   changes = 1;
 }
 
--- the entry of a field at a place that brought this of it
+-- the entry of a field at a place, if the record there brought a value of it
 abbrev pub value_told : Place → Option Met → List Entry
 value_told place None = []
 value_told place (Some met) = valued place met.value ∷ []
@@ -156,35 +156,35 @@ values_from start number field (step ∷ steps) =
     value_told (place_of start number step.bytes) (brought_of field (place_of start number step.bytes) (brings step.bytes))
     ++ values_from start (number + 1) field steps
 
--- .. from a whole run
+-- the entries of a field over a whole run
 abbrev pub values_of : List Step → Field → List Entry
 values_of steps field = values_from (start_of steps) 1 field steps
 
--- for each of these fields
+-- the entries of each of these fields
 abbrev pub all_values : List Field → List Step → List (List Entry)
 all_values fields steps = map (values_of steps) fields
 
--- each field gets an entry for what came of it at this place
+-- each field gets an entry for its value that came at this place, if one came
 abbrev pub values_more : Place → List (Option Met) → List (List Entry) → List (List Entry)
 values_more place [] values = values
 values_more place (met ∷ more) [] = []
 values_more place (met ∷ more) (told ∷ values) = (told ++ value_told place met) ∷ values_more place more values
 
--- ---- what was told last
+-- ---- the last entries
 
--- after a look at the rules, the last entries of the lanes have their results and states
+-- once the rules were looked at, the last entries of the lanes have the results and states that were found then
 abbrev pub IsKept : Behind → List (List Entry) → Type 0
 IsKept behind lanes = behind.looked ≡ true → (place : Place) → SaidLast place 0 behind.rules.items lanes
 
 -- ---- the account of a run
 
--- the mode of the Limit Checker that runs
+-- the mode of the running Limit Checker; none if none runs
 abbrev pub mode_of : Option LcOwn → Option LcMode
 mode_of None = None
 mode_of (Some engine) = Some engine.mode
 
--- the record of this number, in a run whose first record is of this time, as its account takes it: its place, its bytes, the packets
--- that the host wrote, and how the Limit Checker that runs stands behind it
+-- the record with this number as the account takes it: its place (the run's first record has the time `start`), its bytes, the packets that
+-- the host wrote, and the Limit Checker's mode and rules after it
 abbrev pub taken_of : (start number : ℕ) → Step → account.Step
 taken_of start number step = record {
   place = place_of start number step.bytes;
@@ -194,12 +194,12 @@ taken_of start number step = record {
   stands = stands_of (engine_among step.host.host.seats);
 }
 
--- .. and the records after it
+-- the same of these records, the first of which has this number
 abbrev pub taken_from : (start number : ℕ) → List Step → List account.Step
 taken_from start number [] = []
 taken_from start number (step ∷ steps) = taken_of start number step ∷ taken_from start (number + 1) steps
 
--- those of a whole run
+-- the records of a whole run
 abbrev pub all_taken : List Step → List account.Step
 all_taken steps = taken_from (start_of steps) 1 steps
 
@@ -207,17 +207,17 @@ all_taken steps = taken_from (start_of steps) 1 steps
 abbrev pub account_by : OfTexts → List Step → Account
 account_by texts steps = account_behind (run.nothing_told texts) (all_taken steps)
 
--- after a look at the rules, the account has them as they were after the last record
+-- once the rules were looked at, they are those that the account has after the last record
 abbrev pub KeepsStands : Behind → Account → Type 0
 KeepsStands behind a = behind.looked ≡ true → run.StoodLast behind.rules.items a
 
--- the account after a record came and what it led to
+-- the account after what a record led to, once the record has come
 abbrev pub led_to : List ℕ → Place → Behind → Account → Account
 led_to written place behind a =
     account.stood_so place behind.mode behind.rules.items
     (account.written written place behind.rules.items (account.sampled place behind.rules.items a))
 
--- the record of this number was taken into the account
+-- the record with this number was taken into the account
 pub record HasTaken (step : Step) (start number : ℕ) (behind : Behind) (old new : Account) : Type 0 where
   pub taken : new ≡ account.account_with (taken_of start number step) old
   pub known : (fields : List Field) → AreKnown number fields old.seen → AreKnown (number + 1) fields new.seen
@@ -225,7 +225,7 @@ pub record HasTaken (step : Step) (start number : ℕ) (behind : Behind) (old ne
 
 -- ---- a whole run
 
--- all this is told of these records, in a run of these texts
+-- the lists and the account are those of these records, in a run of these texts
 pub record HasTold (texts : OfTexts) (lists : Lists) (behind : Behind) (a : Account) (start : ℕ) (steps : List Step) : Type 0 where
   pub first : start ≡ start_of steps
   pub small : start < 2 ^ 48
@@ -235,7 +235,7 @@ pub record HasTold (texts : OfTexts) (lists : Lists) (behind : Behind) (a : Acco
   pub known : AreKnown (length steps + 1) texts.fields a.seen
   pub stood_last : KeepsStands behind a
 
--- what is in front of these bytes the host doesn't handle
+-- the host can't handle the front of these bytes
 pub record StopsAt (host : Feeding) (rest : List ℕ) (handled : Handled) : Type 0 where
   pub front : List ℕ
   pub others : List ℕ
@@ -244,16 +244,16 @@ pub record StopsAt (host : Feeding) (rest : List ℕ) (handled : Handled) : Type
   pub written : List ℕ
   pub stops : HasStepped front host now written (Ok handled)
 
--- how a run ends after these records, by the host after the last of them and the bytes that are left
+-- the run ends so after these records; the host is that after the last of them, and `rest` the bytes that are left
 abbrev pub EndsSo : Ending → List Step → Feeding → List ℕ → Type 0
 EndsSo (Whole records) steps host rest = (records ≡ length steps) × (rest ≡ [])
 EndsSo (NoRecord n) steps host rest = (n ≡ length steps + 1) × StopsAt host rest handled.NoRecord
 EndsSo (Cut n) steps host rest = (n ≡ length steps + 1) × StopsAt host rest handled.Part
 EndsSo Bound steps host rest = ⊥
 
--- a run over a stream by a host that was so at first, as its page tells it: the records of the stream are handled, each as the host
--- itself handles it, each rule's lane has the changes of how the rule stood behind each of them, each field's list those of its values in the
--- packets of its message id, all reduced by columns, and the account is that of these records
+-- The data of a run over a stream by the host `first`. The host handled the records of the stream, each as it does by itself. Each rule's
+-- lane has the changes of its result and state after each record, and each field's list the changes of its value, all shortened by columns.
+-- The account is that of these records.
 pub record Tells (texts : OfTexts) (stream : List ℕ) (first : Feeding) (lists : Lists) (a : Account) (ending : Ending) : Type 0 where
   pub steps : List Step
   pub host : Feeding
@@ -265,9 +265,9 @@ pub record Tells (texts : OfTexts) (stream : List ℕ) (first : Feeding) (lists 
   pub lists_tell : ListsTell lists (lanes_from 0 texts.lanes steps) (all_values texts.fields steps)
   pub is_account : a ≡ account_by texts steps
 
--- .. of these texts under this schedule: the lanes are those of the texts' rules, the lists of values those of the fields that the rules
--- compare, and the host is new at first, with the texts' files and this profile's applications in stock; each record led to the packets that the
--- definitions call for
+-- The same of these texts under this schedule. The lanes are those of the texts' rules, and the lists of values those of the fields that the
+-- rules compare. The host is new at first, with the texts' files and this profile's applications in stock. Each record led to the packets
+-- that the definitions call for.
 pub record TellsRun (sources : List (List ℕ)) (schedule : Schedule) (stream : List ℕ) (lists : Lists) (a : Account) (ending : Ending) : Type 0 where
   pub read : OfTexts
   pub items : HaveItems sources read.texts
@@ -279,18 +279,18 @@ pub record TellsRun (sources : List (List ℕ)) (schedule : Schedule) (stream : 
 
 -- ---- a stream that comes in pieces
 
--- how a stream ended, after this number of records and with these bytes left
+-- the end of a stream after this many records, with these bytes left
 abbrev pub ending_at : List ℕ → ℕ → Ending
 ending_at [] records = Whole records
 ending_at (byte ∷ bytes) records = Cut (records + 1)
 
--- of these bytes, taken of a source, and whatever is taken behind them, it is told so; nothing is, where the source's end was met
+-- bytes were taken from a source, and the data is that of a stream of them and whatever follows them; if the source has ended, nothing follows
 pub record TellsTaken (texts : OfTexts) (before now : Option (List ℕ)) (old new : Intake) (first : Feeding) (lists : Lists) (a : Account) (ending : Ending) : Type 0 where
   pub taken : List ℕ
   pub took : Took before now old new taken
   pub tells : (more : List ℕ) → (new.is_ended ≡ true → more ≡ []) → Tells texts (taken ++ more) first lists a ending
 
--- all bytes of a source were taken, so many with this SHA-256, and of them it is told so
+-- all bytes of a source were taken; their number and their SHA-256 are these, and the data is that of a stream of them
 pub record TellsRead (sources : List (List ℕ)) (schedule : Schedule) (before now : Option (List ℕ)) (lists : Lists) (a : Account) (bytes : ℕ) (digest : List ℕ) (ending : Ending) : Type 0 where
   pub stream : List ℕ
   pub consumes : Consumes before now stream

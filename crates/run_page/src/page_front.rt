@@ -104,6 +104,7 @@ font-weight:700;line-height:18px;white-space:nowrap;z-index:4;max-width:none;}
 .reach{position:absolute;top:19px;height:4px;min-width:2px;background:currentColor;z-index:4;}
 .request{color:var(--request);}
 .event{color:var(--event);}
+.command{color:var(--link);}
 .chosen{outline:3px solid var(--link);}
 .plot .name{color:var(--soft);padding-left:14px;}
 .plot .track{height:92px;margin:4px 0;background:var(--box);cursor:crosshair;}
@@ -199,6 +200,7 @@ thead{display:table-header-group;}
 <span><i class="cell state mixed"></i> several states</span>
 <span><b class="request">▼ 7</b> request of sequence 7</span>
 <span><b class="event">● 1001</b> event 1001</span>
+<span><b class="command">◆ load</b> a ground command, or an uplinked file or half</span>
 <span><b>▼ 3× ● 2×</b> three requests and two events</span>
 <span><i class="diamond"></i> a sample that counted</span>
 <span><i class="box shade"></i> values with which the condition can be true</span>

@@ -49,6 +49,7 @@ const sent = run.requests.map(request => ({ kind: 'request', request, packet: re
 .concat(run.events.map(([packet, record, time, rule, sender, id, level, says]) => (
 { kind: level, packet, rule, sender, id, says, at: { record, time } })))
 .sort((one, other) => one.packet - other.packet);
+const commands = run.commands.map(([record, time, says]) => ({ kind: 'command', rule: null, says, at: { record, time } }));
 const whatOf = item => (item.request
 ? `sequence ${item.request.sequence}, count ${item.request.count}` : `${item.sender} ${item.id}: ${item.says}`);
 function decimal(time) {
@@ -86,6 +87,7 @@ const changes = span.changes > 1 ? `, ${span.changes} changes` : '';
 return `${nameOf(rule)}: ${span.changes > 1 ? 'worst ' : ''}${worst}${also}${states && ', ' + states}${changes}, ${during(span)}`;
 }
 function itemName(item) {
+if (item.kind === 'command') return `command ${item.says}, ${at(item.at)}`;
 const what = item.request ? `request of sequence ${item.request.sequence}` : `${item.kind} event ${whatOf(item)}`;
 const rule = item.rule === null ? '' : ` of ${nameIn(textBehind(item.at.record), item.rule)}`;
 return `${what}${rule}, ${at(item.at)}, packet ${item.packet}`;
@@ -339,10 +341,12 @@ drawings.push(() => drawAxis(axis));
 }
 function labelOf(items) {
 const requests = items.filter(item => item.request);
-const events = items.filter(item => !item.request);
+const uplinks = items.filter(item => item.kind === 'command');
+const events = items.filter(item => !item.request && item.kind !== 'command');
 const parts = [];
 if (requests.length) parts.push(requests.length === 1 ? `▼ ${requests[0].request.sequence}` : `▼ ${requests.length}×`);
 if (events.length) parts.push(events.length === 1 ? `● ${events[0].id}` : `● ${events.length}×`);
+if (uplinks.length) parts.push(uplinks.length === 1 ? `◆ ${uplinks[0].says.split(' ')[0]}` : `◆ ${uplinks.length}×`);
 return parts.join(' ');
 }
 function grouped(items, first, last, width) {
@@ -366,7 +370,7 @@ groups.push(group);
 return groups;
 }
 function drawGroup(group, width) {
-const kind = group.items.some(item => item.request) ? 'request' : 'event';
+const kind = group.items.some(item => item.request) ? 'request' : group.items[0].kind === 'command' ? 'command' : 'event';
 const count = group.items.length;
 const name = count === 1 ? itemName(group.items[0])
 : `${count} marks: ${group.label}, from ${at(group.items[0].at)} to ${at(group.items.at(-1).at)}`;
@@ -377,8 +381,4 @@ const reach = make('span', `reach ${kind}`, undefined, { 'aria-hidden': 'true' }
 reach.style.left = Math.min(group.first, width - 2) / width * 100 + '%';
 reach.style.width = (group.last - group.first) / width * 100 + '%';
 return [mark, reach];
-}
-const marksOf = (items, width) => groupsOf(items, width).flatMap(group => drawGroup(group, width));
-const LEAST = 4; // px: what is narrower is drawn together with its neighbours
-const CELL_WORDS = { fail: 'FAIL', error: 'error', stale: 'stale', pass: 'pass', none: 'none', absent: '' };
 "#;

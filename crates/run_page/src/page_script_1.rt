@@ -1,7 +1,11 @@
 //! The page behind its data, part 1. Written by tools/gate/page_constants.
 
 /// The page behind its data, part 1.
-pub const TEXT: &str = r#"const lanes = [];
+pub const TEXT: &str = r#"}
+const marksOf = (items, width) => groupsOf(items, width).flatMap(group => drawGroup(group, width));
+const LEAST = 4; // px: what is narrower is drawn together with its neighbours
+const CELL_WORDS = { fail: 'FAIL', error: 'error', stale: 'stale', pass: 'pass', none: 'none', absent: '' };
+const lanes = [];
 function makeRow(label, isButton) {
 const row = make('div', 'row');
 const name = make(isButton ? 'button' : 'div', 'name', label, isButton ? { type: 'button', 'aria-expanded': 'false' } : {});
@@ -114,12 +118,11 @@ makeBand('tables in force', run.tables, ([, , text, way]) => (way in { none: 0, 
 const modes = { absent: 'no Limit Checker', untold: 'not told any more' };
 makeBand('mode of the checker', run.mode, ([, , mode]) => modes[mode] ?? mode, ([, , mode]) => modes[mode] ?? mode);
 }
-function makeOtherEvents() {
-const others = sent.filter(item => item.rule === null);
-if (!others.length) return;
-const row = makeRow('other events', false);
+function makeMarks(label, items) {
+if (!items.length) return;
+const row = makeRow(label, false);
 row.track.classList.add('marks_alone');
-drawings.push(() => redraw(row.track, marksOf(others, row.track.clientWidth || 1)));
+drawings.push(() => redraw(row.track, marksOf(items, row.track.clientWidth || 1)));
 }
 function makeLanes() {
 const byRule = new Map();
@@ -129,7 +132,8 @@ byRule.get(item.rule).push(item);
 }
 makeAxis();
 makeBands();
-makeOtherEvents();
+makeMarks('commands', commands);
+makeMarks('other events', byRule.get(null) ?? []);
 run.lanes.forEach((list, rule) => makeLane(list, rule, byRule.get(rule) ?? []));
 drawings.push(drawLanes);
 }
@@ -377,8 +381,4 @@ read(plot, plot.steps.findLastIndex(step => positionOf(step.from) <= position));
 }
 function readByKey(plot, event) {
 const step = { ArrowLeft: -1, ArrowRight: 1 }[event.key];
-if (!step || event.target !== plot.track) return;
-event.preventDefault();
-event.stopPropagation();
-const first = plot.steps.findIndex(each => shareOf(each.from) >= 0);
 "#;

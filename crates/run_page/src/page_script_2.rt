@@ -1,7 +1,11 @@
 //! The page behind its data, part 2. Written by tools/gate/page_constants.
 
 /// The page behind its data, part 2.
-pub const TEXT: &str = r#"const next = plot.read === undefined ? first : plot.read + step;
+pub const TEXT: &str = r#"if (!step || event.target !== plot.track) return;
+event.preventDefault();
+event.stopPropagation();
+const first = plot.steps.findIndex(each => shareOf(each.from) >= 0);
+const next = plot.read === undefined ? first : plot.read + step;
 if (!plot.steps[next]) return;
 bring(plot.steps[next].from);
 read(plot, next);
@@ -79,7 +83,8 @@ showIn(byId('panel'), whyOf(request), rowLink(item));
 function showItem(item) {
 if (item.request) { showRequest(item.request); return; }
 choose(item.packet);
-showIn(byId('panel'), make('h3', '', `${item.kind} event`), make('p', '', itemName(item)), rowLink(item));
+const [title, links] = item.kind === 'command' ? ['command', []] : [`${item.kind} event`, [rowLink(item)]];
+showIn(byId('panel'), make('h3', '', title), make('p', '', itemName(item)), ...links);
 }
 function showItems(items) {
 if (items.length === 1) { showItem(items[0]); return; }
@@ -91,7 +96,7 @@ link.tabIndex = 0;
 return link;
 });
 const rest = items.length > links.length ? [make('p', 'soft', `and ${items.length - links.length} more: zoom to see them`)] : [];
-showIn(byId('panel'), make('h3', '', `${items.length} requests and events`), nearer, ...links, ...rest);
+showIn(byId('panel'), make('h3', '', `${items.length} ${items[0].kind === 'command' ? 'commands' : 'requests and events'}`), nearer, ...links, ...rest);
 }
 function showSpan(rule, cell) {
 const inForce = ruleIn(textBehind(cell.from.record), rule);
@@ -141,7 +146,7 @@ drawSoon();
 }
 function leftOut() {
 const words = (list, kind) => (list ? [`${list[0]} ${kind} of the records ${list[1]} to ${list[2]} are left out of this page`] : []);
-return words(run.requests_left_out, 'requests').concat(words(run.events_left_out, 'events'));
+return words(run.requests_left_out, 'requests').concat(words(run.events_left_out, 'events'), words(run.commands_left_out, 'commands'));
 }
 function makeTableRow(item) {
 const row = make('tr', item.packet === chosen ? 'chosen' : '', undefined, { 'data-packet': item.packet });

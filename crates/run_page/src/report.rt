@@ -6,7 +6,7 @@ use crate::progress::Progress;
 use crate::telling::{Telling, tell_run};
 use crate::{page_front, page_script_0, page_script_1, page_script_2};
 use lc_model::ByteSource;
-use page_json::{Data, Ended, Run, Source};
+use page_json::{CommandLine, Data, Ended, Run, Source, command_lines};
 use run_stepper::Ending;
 use schedules::Schedule;
 use std::alloc::{AllocError, Global};
@@ -53,6 +53,7 @@ fn put_told<W: Write>(
     out: &mut W,
     run: &Run<'_, '_>,
     telling: &Telling<'_>,
+    commands: &[CommandLine],
     taken: Taken,
     ending: Ending,
 ) -> io::Result<()> {
@@ -69,6 +70,7 @@ fn put_told<W: Write>(
         account: &telling.account,
         lanes,
         values,
+        commands,
     };
     put_page(out, &data)
 }
@@ -92,6 +94,7 @@ pub fn write_page<R: ByteSource, W: Write, P: Progress>(
 ) -> Result<Ending, ReportError> {
     let texts = bytes_of(alloc, run.texts)?;
     let (telling, taken, ending) = tell_run(alloc, schedule, texts.as_slice(), reader, progress)?;
-    put_told(out, run, &telling, taken, ending)?;
+    let commands = command_lines(alloc, &telling.account)?;
+    put_told(out, run, &telling, commands.as_slice(), taken, ending)?;
     Ok(ending)
 }

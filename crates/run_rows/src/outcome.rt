@@ -5,7 +5,7 @@ use crate::row::Row;
 use flight_core::{Report, RunError};
 use flight_profile::launch;
 use lc_model::{Reading, Writing};
-use packet_listing::list_whole;
+use packet_listing::list_named;
 use schedules::parse_schedule;
 use sha2::{Digest, Sha256};
 use std::alloc::Global;
@@ -55,6 +55,6 @@ pub fn outcome(alloc: Global, row: &Row) -> anyhow::Result<Vec<u8>> {
     if row.has_effort {
         write_effort(alloc, row, &mut text)?;
     }
-    let _listed = list_whole(packets.as_slice(), 0, &mut text)?;
+    let _listed = list_named(packets.as_slice(), 0, &[], &mut text)?;
     Ok(text)
 }

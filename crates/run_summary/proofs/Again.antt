@@ -14,12 +14,14 @@ use Rattle.run_summary.specs.declared.seen.Seen.{Seen}
 use Rattle.run_summary.specs.Account.{Account, Reading, Step, account_with, before_with, come, come_by, enforced_so, in_force_by, read, read_all, read_by, rows_with, sampled, started_with_tables, stood_again, stood_so, written}
 use Rattle.run_summary.specs.Bands.{stood}
 use Rattle.run_summary.specs.Brought.{Brings, Command, File, Half, Load, Telemetry, Tick, brings}
+use Rattle.run_summary.specs.Ends.{Ends}
 use Rattle.run_summary.specs.Figures.{with_event, with_packet}
 use Rattle.run_summary.specs.Packets.{packets_of}
 use Rattle.run_summary.specs.Plans.{Planned, parts_by, planned_at}
 use Rattle.run_summary.specs.Run.{AreCounted, StandAgain, StoodLast}
 use Rattle.run_summary.specs.Samples.{Row, Sampled, in_row, met_by_parts, row_with, sampled_more}
 use Rattle.run_summary.specs.Standing.{stand_at}
+use Rattle.run_summary.specs.Uplinks.{Uplinked}
 
 -- ---- rows
 
@@ -54,16 +56,17 @@ before_again : (stands : List Stand) (rule : ℕ) (before : List Stand) → befo
 before_again stands rule [] = refl
 before_again stands rule (one ∷ before) = ap (λ more. stand_at rule stands ∷ more) (before_again stands (rule + 1) before)
 
--- ---- what a record brings and leads to leaves them
+-- ---- what a record brings and leads to leaves them, and the uplinks that were kept
 
 pub record OfRules : Type 0 where
   pub plans : List (List Planned)
   pub lanes : ℕ
   pub rows : List Row
   pub before : List Stand
+  pub uplinks : Ends Uplinked
 
 abbrev pub of_rules : Account → OfRules
-of_rules a = record { plans = a.plans; lanes = a.lanes; rows = a.rows; before = a.before }
+of_rules a = record { plans = a.plans; lanes = a.lanes; rows = a.rows; before = a.before; uplinks = a.uplinks }
 
 pub come_keeps : (brought : Brings) (place : Place) (a : Account) → of_rules (come_by brought place a) ≡ of_rules a
 come_keeps (Telemetry packet) place a = refl
@@ -100,7 +103,7 @@ reads_keep (packet ∷ packets) place stands r =
     reads_keep packets place stands (read packet place stands r)
     ∙ read_keeps (told_in packet) packet place stands (record r { account = record r.account { figures = with_packet r.account.figures } })
 
-written_keeps : (bytes : List ℕ) (place : Place) (stands : List Stand) (a : Account) → of_rules (written bytes place stands a) ≡ of_rules a
+pub written_keeps : (bytes : List ℕ) (place : Place) (stands : List Stand) (a : Account) → of_rules (written bytes place stands a) ≡ of_rules a
 written_keeps bytes place stands a = reads_keep (packets_of bytes) place stands (record { account = a; from = 0 })
 
 -- ---- a record
@@ -118,7 +121,7 @@ behind_one step a =
 
 comes_one : (stands : List Stand) (bytes : List ℕ) (place : Place) (a : Account) → StoodLast stands a → StoodLast stands (come bytes place a)
 comes_one stands bytes place a last =
-    let same : of_rules a ≡ of_rules (come bytes place a) = sym (come_keeps (brings bytes) place a) in
+    let same : of_rules a ≡ of_rules (come_by (brings bytes) place a) = sym (come_keeps (brings bytes) place a) in
     record {
       rows = subst (λ (rules : OfRules). AreCounted stands 0 rules.rows) same last.rows;
       before = subst (λ (rules : OfRules). before_with stands 0 rules.before ≡ rules.before) same last.before;

@@ -11,7 +11,7 @@ use Rattle.packet_listing.specs.Told.{told_in}
 use Rattle.run_summary.specs.declared.figures.Figures.{Figures}
 use Rattle.run_summary.specs.declared.place.Place.{Place}
 use Rattle.run_summary.specs.declared.place.Stand.{Stand}
-use Rattle.run_summary.specs.Account.{Account, Reading, Step, account_behind, account_with, come_by, read, read_all, read_by, sampled}
+use Rattle.run_summary.specs.Account.{Account, Reading, Step, account_behind, account_with, come, come_by, read, read_all, read_by, sampled}
 use Rattle.run_summary.specs.Brought.{Brings, Command, File, Half, Load, Telemetry, Tick, brings}
 use Rattle.run_summary.specs.Figures.{one_more, with_event, with_packet, with_record}
 use Rattle.run_summary.specs.Packets.{packets_of}
@@ -134,7 +134,7 @@ come_figures (Half name text) place a = refl
 step_more : (step : Step) (a : Account) (brought : List Brings) (said : List (Option told.Told)) → a.figures ≡ figures_by brought said →
     (account_with step a).figures ≡ figures_by (brought ++ brings step.bytes ∷ []) (said ++ map told_in (packets_of step.written))
 step_more step a brought said is =
-    let came : Account = come_by (brings step.bytes) step.place a in
+    let came : Account = come step.bytes step.place a in
     reads_more (packets_of step.written) step.place step.stands (record { account = sampled step.place step.stands came; from = 0 })
     (brought ++ brings step.bytes ∷ []) said
     (come_figures (brings step.bytes) step.place a

@@ -14,7 +14,7 @@ use Rattle.run_summary.specs.declared.place.Stand.{Stand}
 use Rattle.run_summary.specs.declared.seen.Met.{Met}
 use Rattle.run_summary.specs.declared.seen.Seen.{Seen}
 use Rattle.run_summary.specs.declared.texts.Field.{Field}
-use Rattle.run_summary.specs.Account.{Account, Reading, Step, account_behind, account_with, come_by, enforced_so, read, read_all, read_by, sampled, started_with_tables}
+use Rattle.run_summary.specs.Account.{Account, Reading, Step, account_behind, account_with, come, come_by, enforced_so, read, read_all, read_by, sampled, started_with_tables}
 use Rattle.run_summary.specs.Brought.{Brings, Command, File, Half, Load, Telemetry, Tick, brings}
 use Rattle.run_summary.specs.Fields.{forgotten, met_in, seen_by, unseen}
 use Rattle.run_summary.specs.Figures.{one_more, with_event, with_packet}
@@ -183,7 +183,7 @@ run_seen (step ∷ steps) a number happened fields is =
     let own : List (List ℕ) = packets_of step.written in
     let now : List Happened = Came step.place (brings step.bytes) ∷ happened in
     run_seen steps (account_with step a) (number_behind number own) (behind_record number step happened) fields
-    (reads_seen own step.place step.stands (record { account = sampled step.place step.stands (come_by (brings step.bytes) step.place a); from = 0 }) number now fields
+    (reads_seen own step.place step.stands (record { account = sampled step.place step.stands (come step.bytes step.place a); from = 0 }) number now fields
     (come_seen (brings step.bytes) step.place a happened fields is)
     ∙ none_more (Over step.place step.mode) (behind_packets (packets_led_to number step) now) fields refl (λ field. refl))
 

@@ -16,3 +16,4 @@ pub mod Sends
 pub mod SmallRun
 pub mod Stands
 pub mod Turning
+pub mod Uplinking

@@ -11,7 +11,7 @@ use Rattle.run_summary.specs.declared.place.Place.{Place}
 use Rattle.run_summary.specs.declared.place.Stand.{Stand}
 use Rattle.run_summary.specs.declared.seen.Seen.{Seen}
 use Rattle.run_summary.specs.About.{rule_of}
-use Rattle.run_summary.specs.Account.{Account, Reading, Step, account_behind, account_with, before_with, come_by, count_of, read, read_all, read_by, rows_with, rule_asking, said, sampled, stood_so, written}
+use Rattle.run_summary.specs.Account.{Account, Reading, Step, account_behind, account_with, before_with, come, come_by, count_of, read, read_all, read_by, rows_with, rule_asking, said, sampled, stood_so, written}
 use Rattle.run_summary.specs.Asking.{Counted, asking, behind_rule, counted_by, row_asked}
 use Rattle.run_summary.specs.Brought.{brings}
 use Rattle.run_summary.specs.Ends.{Ends}
@@ -401,12 +401,13 @@ before_stood stands n (one ∷ before) (suc k) within = before_stood stands (n +
 -- its samples were taken
 begins_inside : (texts : OfTexts) (past : List Taken) (happened : List Happened) (number : ℕ) (step : Step) (a : Account) → Between texts past happened number a →
     Inside texts (taken_by step happened ∷ past) (Came step.place (brings step.bytes) ∷ happened) number 0
-    (record { account = sampled step.place step.stands (come_by (brings step.bytes) step.place a); from = 0 })
+    (record { account = sampled step.place step.stands (come step.bytes step.place a); from = 0 })
 begins_inside texts past happened number step a between =
-    let came : Account = come_by (brings step.bytes) step.place a in
+    let came : Account = come step.bytes step.place a in
+    let kept : Account = come_by (brings step.bytes) step.place a in
     let now : List Happened = Came step.place (brings step.bytes) ∷ happened in
-    let same : of_rules a ≡ of_rules came = sym (come_keeps (brings step.bytes) step.place a) in
-    let stays : Stays texts (stands_behind past) (of_rules came) = subst (λ (rules : OfRules). Stays texts (stands_behind past) rules) same between.stays in
+    let same : of_rules a ≡ of_rules kept = sym (come_keeps (brings step.bytes) step.place a) in
+    let stays : Stays texts (stands_behind past) (of_rules kept) = subst (λ (rules : OfRules). Stays texts (stands_behind past) rules) same between.stays in
     let follows : Follows now came.bands = come_follows (brings step.bytes) step.place a happened between.follows in
     let seen : came.seen ≡ map (seen_behind now) texts.fields = come_seen (brings step.bytes) step.place a happened texts.fields between.seen in
     record {
@@ -464,7 +465,7 @@ run_goes texts wanted (step ∷ steps) past happened number parts a between g =
     let others : List Packet = packets_from behind steps in
     let now : List Happened = Came step.place (brings step.bytes) ∷ happened in
     let records : List Taken = taken_by step happened ∷ past in
-    let counting : Account = sampled step.place step.stands (come_by (brings step.bytes) step.place a) in
+    let counting : Account = sampled step.place step.stands (come step.bytes step.place a) in
     let over = reads_go texts records others (requests_from texts records (behind_record number step happened) behind steps) wanted step.place own now number 0 parts
     (record { account = counting; from = 0 })
     (begins_inside texts past happened number step a between)

@@ -13,7 +13,7 @@ use Rattle.run_summary.specs.declared.figures.Figures.{Figures}
 use Rattle.run_summary.specs.declared.place.Place.{Place}
 use Rattle.run_summary.specs.declared.place.Stand.{Stand}
 use Rattle.run_summary.specs.About.{rule_of}
-use Rattle.run_summary.specs.Account.{Account, Reading, Step, account_behind, account_with, come_by, enforced_so, in_force_by, read, read_all, read_by, rule_asking, said, sampled, started_with_tables}
+use Rattle.run_summary.specs.Account.{Account, Reading, Step, account_behind, account_with, come, come_by, enforced_so, in_force_by, read, read_all, read_by, rule_asking, said, sampled, started_with_tables}
 use Rattle.run_summary.specs.Asking.{counted_by, row_asked}
 use Rattle.run_summary.specs.Brought.{Brings, Command, File, Half, Load, Telemetry, Tick, brings}
 use Rattle.run_summary.specs.Ends.{Ends, kept}
@@ -161,13 +161,13 @@ reads_count (bytes ∷ packets) place stands r =
 step_sends : (step : Step) (a : Account) →
     (account_with step a).sending.events ≡ all_kept record_of (filter_map event_in (numbered a.figures.packets step.place (packets_of step.written))) a.sending.events
 step_sends step a =
-    let sampling : Account = sampled step.place step.stands (come_by (brings step.bytes) step.place a) in
+    let sampling : Account = sampled step.place step.stands (come step.bytes step.place a) in
     reads_send (packets_of step.written) step.place step.stands (record { account = sampling; from = 0 })
     ∙ (λ i. all_kept record_of (filter_map event_in (numbered (come_counts (brings step.bytes) step.place a i) step.place (packets_of step.written))) ((come_sends (brings step.bytes) step.place a i).events))
 
 step_counts : (step : Step) (a : Account) → (account_with step a).figures.packets ≡ number_behind a.figures.packets (packets_of step.written)
 step_counts step a =
-    let sampling : Account = sampled step.place step.stands (come_by (brings step.bytes) step.place a) in
+    let sampling : Account = sampled step.place step.stands (come step.bytes step.place a) in
     reads_count (packets_of step.written) step.place step.stands (record { account = sampling; from = 0 })
     ∙ ap (λ n. number_behind n (packets_of step.written)) (come_counts (brings step.bytes) step.place a)
 

@@ -13,7 +13,7 @@ use Rattle.run_summary.specs.declared.bands.How.TheVariants as how
 use Rattle.run_summary.specs.declared.bands.TablesFrom.{TablesFrom}
 use Rattle.run_summary.specs.declared.place.Place.{Place}
 use Rattle.run_summary.specs.declared.place.Stand.{Stand}
-use Rattle.run_summary.specs.Account.{Account, Reading, Step, account_behind, account_with, come_by, read, read_all, sampled, written}
+use Rattle.run_summary.specs.Account.{Account, Reading, Step, account_behind, account_with, come, come_by, read, read_all, sampled, written}
 use Rattle.run_summary.specs.Bands.{InForce, enforced, in_mode, is_none_in_force, mode_number, mode_told, most, nothing_in_force, stood, told_more}
 use Rattle.run_summary.specs.Brought.{Brings, Command, File, Half, Load, Telemetry, Tick, brings}
 use Rattle.run_summary.specs.Figures.{one_more, with_packet}
@@ -228,7 +228,7 @@ run_turns [] a number happened f t = t
 run_turns (step ∷ steps) a number happened f t =
     let own : List (List ℕ) = packets_of step.written in
     let now : List Happened = Came step.place (brings step.bytes) ∷ happened in
-    let came : Account = come_by (brings step.bytes) step.place a in
+    let came : Account = come step.bytes step.place a in
     let over = reads_turn own step.place step.stands (record { account = sampled step.place step.stands came; from = 0 }) number now
     (come_follows (brings step.bytes) step.place a happened f) (come_turns (brings step.bytes) step.place a happened t) in
     let behind : List Happened = behind_packets (packets_led_to number step) now in

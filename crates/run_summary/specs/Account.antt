@@ -26,7 +26,9 @@ use Rattle.run_summary.specs.Packets.{packets_of}
 use Rattle.run_summary.specs.Plans.{Planned, parts_by, planned_at}
 use Rattle.run_summary.specs.Samples.{Row, met_by_parts, row_with}
 use Rattle.run_summary.specs.Sent.{Requested, Said, Sending, requested_more, said_more}
+use Rattle.run_summary.specs.Ends.{Ends}
 use Rattle.run_summary.specs.Standing.{stand_at}
+use Rattle.run_summary.specs.Uplinks.{Uplinked, uplink_of, with_uplink}
 use Rattle.rpn_compiler.specs.TextParts.{items_in}
 
 -- the account of a run
@@ -42,6 +44,7 @@ pub record Account : Type 0 where
   pub before : List Stand
   pub bands : InForce
   pub sending : Sending
+  pub uplinks : Ends Uplinked
   pub figures : Figures
 
 -- as it is held
@@ -55,6 +58,7 @@ account_of held = record {
   before = held.before.items;
   bands = held.bands;
   sending = held.sending;
+  uplinks = held.uplinks;
   figures = held.figures;
 }
 
@@ -73,8 +77,10 @@ brought_by (Half name text) place a = record a { bands = stored name (Some text)
 abbrev pub come_by : Brings → Place → Account → Account
 come_by brings place a = brought_by brings place (record a { figures = with_record brings a.figures })
 
+-- a ground command, a file or a half is kept with the text in force in front of it
 abbrev pub come : List ℕ → Place → Account → Account
-come bytes place a = come_by (brings bytes) place a
+come bytes place a =
+    record (come_by (brings bytes) place a) { uplinks = with_uplink (brings bytes) (uplink_of place a.bands.text bytes) a.uplinks }
 
 -- ---- its samples
 

@@ -1,5 +1,5 @@
 -- What a record brings, as far as a page shows it, by the format of streams (lc_model's Host.Stream). This project's own.
-use Rattle.std.specs.Prelude.{ℕ, ◌+◌, not, ◌||◌, ◌&&◌, List, [], length, take, drop, slice_index, nat_lt, ◌==◌, if◌then◌else◌}
+use Rattle.std.specs.Prelude.{ℕ, ◌+◌, Bool, true, false, not, ◌||◌, ◌&&◌, List, [], length, take, drop, slice_index, nat_lt, ◌==◌, if◌then◌else◌}
 use Rattle.lc_model.specs.Bytes.{u16_at}
 use Rattle.lc_model.specs.Host.Stream.{half_size, header_size}
 use Rattle.lc_model.specs.Name.{Name, name_in, name_size}
@@ -16,6 +16,12 @@ pub data Brings : Type 0 where
   Load : (name : Name) → Brings
   File : (name : Name) → Brings
   Half : (name : Name) (text : ℕ) → Brings
+
+-- whether it is a ground command, a file or a half
+abbrev pub is_uplink : Brings → Bool
+is_uplink (Telemetry packet) = false
+is_uplink Tick = false
+is_uplink other = true
 
 -- as it is held
 abbrev pub brings_of : Brought → Brings

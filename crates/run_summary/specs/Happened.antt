@@ -1,5 +1,5 @@
--- All that happened in a run, one after the other: which files are known, which text is in force, and what is known of fields. This
--- project's own.
+-- The events of a run in the order in which they happened, and what follows from them: the known files, the text in force, and what is
+-- known of fields. This project's own.
 use Rattle.std.specs.Prelude.{◌≡◌, ℕ, Bool, false, not, ◌||◌, List, [], ◌∷◌, bytes_eq, filter_map, is_some, length, map, nat_le, Option, Some, None, ◌==◌, if◌then◌else◌}
 use Rattle.std.specs.List.{list_any, take_while}
 use Rattle.lc_model.specs.declared.mode.LcMode.{LcMode}
@@ -20,8 +20,8 @@ use Rattle.run_summary.specs.Fields.{brought_of, nothing}
 use Rattle.run_summary.specs.Packets.{packets_of}
 use Rattle.run_summary.specs.Run.{OfTexts, Packet, nothing_told, number_behind, numbered, stopped}
 
--- a record of this place came, which brings this; a packet was sent; the record of this place is over, behind which the Limit Checker has
--- this mode, where one runs. Of all that happened the newest stands in front.
+-- `Came`: the record at this place came and brings this. `Sent`: a packet was sent. `Over`: the record at this place is done, and the Limit
+-- Checker has this mode; `None` if none runs. In lists the newest is the first.
 pub data Happened : Type 0 where
   Came : (place : Place) (brought : Brings) → Happened
   Sent : (packet : Packet) → Happened
@@ -84,11 +84,11 @@ abbrev pub last_stored : Name → List Happened → Option ℕ
 last_stored name [] = None
 last_stored name (it ∷ before) = text_with name (file_stored it) (last_stored name before)
 
--- .. where files of this name are known
+-- the same, if a file of this name is known; else none
 abbrev pub text_of_file : Name → List Happened → Option ℕ
 text_of_file name happened = if is_named name (names_known happened) then last_stored name happened else None
 
--- the text of the file that was loaded last, as it was when it was loaded
+-- the text of the file that was loaded last, as it was at that load
 abbrev pub loaded_by : Option Name → List Happened → Option ℕ → Option ℕ
 loaded_by None before text = text
 loaded_by (Some name) before text = text_of_file name before
@@ -99,7 +99,7 @@ text_loaded (it ∷ before) = loaded_by (file_loaded it) before (text_loaded bef
 
 -- ---- the text in force
 
--- how tables come into force by an event of this sender with this number and text, if they do
+-- how tables came into force, if an event with this sender, number and text reports it
 abbrev pub how_by : List ℕ → ℕ → List ℕ → Option How
 how_by sender id text =
     if not (bytes_eq sender lc_name) then None
@@ -113,14 +113,14 @@ how_told (Some (told.Request sequence)) = None
 how_told (Some (told.Housekeeping mode count rules)) = None
 how_told None = None
 
--- .. by what happened: no tables are in force after a record that leaves no Limit Checker running
+-- the same of anything that happened: after a record without a running Limit Checker no tables are in force
 abbrev pub how_enforced : Happened → Option How
 how_enforced (Came place brought) = None
 how_enforced (Sent packet) = how_told (told_in packet.bytes)
 how_enforced (Over place None) = Some how.None
 how_enforced (Over place (Some mode)) = None
 
--- the text whose tables are in force: at a start that of the default file, at an adoption that of the file that was loaded last
+-- the text in force after that: at a start that of the default file, at an adoption that of the file that was loaded last
 abbrev pub text_then : Option How → List Happened → Option ℕ → Option ℕ
 text_then None before text = text
 text_then (Some how.None) before text = None
@@ -139,17 +139,17 @@ value_came field (Came place brought) = brought_of field place brought
 value_came field (Sent packet) = None
 value_came field (Over place mode) = None
 
--- all its values that came
+-- all its values that came, the newest first
 abbrev pub values_came : Field → List Happened → List Met
 values_came field happened = filter_map (value_came field) happened
 
--- whether tables came into force, or none did, by an event of the Limit Checker
+-- whether it is an event of the Limit Checker that reports tables in force, or that none are
 abbrev pub is_enforcing : Happened → Bool
 is_enforcing (Sent packet) = is_some (how_told (told_in packet.bytes))
 is_enforcing (Came place brought) = false
 is_enforcing (Over place mode) = false
 
--- what happened since then
+-- what happened since the last such event
 abbrev pub since_enforced : List Happened → List Happened
 since_enforced happened = take_while (λ it. not (is_enforcing it)) happened
 
@@ -158,8 +158,8 @@ abbrev pub newest_met : List Met → Met
 newest_met [] = nothing
 newest_met (met ∷ older) = met
 
--- what is known of a field: how many packets came with it, where the last of them was, and the value that comparisons meet, which is the
--- last one that came since tables came into force
+-- what is known of a field: the number of packets of its message id, the place of the last one, and what comparisons meet: the value of
+-- the last packet since tables came into force
 abbrev pub seen_behind : List Happened → Field → Seen
 seen_behind happened field = record {
   field = field;
@@ -168,7 +168,7 @@ seen_behind happened field = record {
   met = newest_met (values_came field (since_enforced happened));
 }
 
--- the account of a run knows of its fields what happened in it
+-- the account of a run knows this of each field
 abbrev pub TellsFields : Type 0
 TellsFields = (texts : OfTexts) (steps : List Step) →
     (account_behind (nothing_told texts) steps).seen ≡ map (seen_behind (happened_in steps)) texts.fields

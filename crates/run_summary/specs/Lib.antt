@@ -3,6 +3,7 @@ pub mod Account
 pub mod Asking
 pub mod Bands
 pub mod Brought
+pub mod Commands
 pub mod Ends
 pub mod Fields
 pub mod Figures
@@ -16,4 +17,5 @@ pub mod Sent
 pub mod Standing
 pub mod Texts
 pub mod Turns
+pub mod Uplinks
 pub mod Verdicts

@@ -1,5 +1,5 @@
--- All requests of a run, by its records and its packets: which rule made each, which text was in force, its event, and which samples
--- counted. This project's own.
+-- All requests of a run: for each the rule that made it, the text in force, the packet of its event, and the samples that counted. This
+-- project's own.
 use Rattle.std.specs.Prelude.{◌≡◌, ℕ, ◌+◌, ◌-◌, Bool, not, ◌&&◌, ◌||◌, List, [], ◌∷◌, ◌++◌, drop, filter_map, find, is_some, length, map, nat_le, nat_lt, slice_get, take, ◌==◌, if◌then◌else◌, Option, Some, None, option_map}
 use Rattle.std.specs.List.{take_while}
 use Rattle.packet_listing.specs.Told as told
@@ -19,7 +19,7 @@ use Rattle.run_summary.specs.Standing.{stand_at}
 
 -- ---- records that came
 
--- a record: its place, the rules after it, and what had happened when it came. Of several records the newest is the first.
+-- a record: its place, the rules after it, and what had happened up to its coming. In lists the newest record is the first.
 pub record Taken : Type 0 where
   pub place : Place
   pub stands : List Stand
@@ -40,15 +40,15 @@ failures_behind rule records = (stand_at rule (stands_behind records)).fails
 
 -- ---- samples
 
--- what the comparisons of a rule of the text in force meet in a record, by what packets brought up to then
+-- a sample of a rule of the text in force: the record's place, and what the rule's comparisons meet of the packets up to the record
 abbrev pub sample_of : OfTexts → ℕ → Taken → Sampled
 sample_of read rule taken = record {
   place = taken.place;
   met = met_by_parts (parts_by (planned_at read.plans (text_in_force taken.happened) rule)) (map (seen_behind taken.happened) read.fields);
 }
 
--- The samples of the row of failures that the rule is in, in order: those in which it failed once more. A first failure begins a row,
--- and so does one with fewer failures than there were; without a failure there is none.
+-- The samples of a rule's present row of failures, in order. A sample belongs to it if the rule's count of failures grew in it. The first
+-- failure begins a new row, and so does a count that is less than before. A rule without failures has no row.
 abbrev pub row_more : (now before : ℕ) → Sampled → List Sampled → List Sampled
 row_more now before sample row =
     if now == before then row
@@ -64,7 +64,7 @@ row_of read rule (taken ∷ before) =
 abbrev pub six_of : List Sampled → List Sampled
 six_of samples = take 3 samples ++ last_of 3 (drop 3 samples)
 
--- the number of samples of a rule that counted, and those that may be kept; none for an unknown rule
+-- the number of samples that counted for a rule, and those of them that may be kept; none for an unknown rule
 abbrev pub counted_of : Option ℕ → List Taken → ℕ
 counted_of None records = 0
 counted_of (Some rule) records = failures_behind rule records
@@ -75,7 +75,7 @@ samples_of read (Some rule) records = six_of (row_of read rule records)
 
 -- ---- requests
 
--- the event of a request among these packets: the first one of its own before the next request
+-- the packet of a request's event among these packets: the first event of the request's own, before the next request
 abbrev pub is_no_request : Packet → Bool
 is_no_request packet = not (is_request (told_in packet.bytes))
 
@@ -84,7 +84,7 @@ own_event request packets =
     option_map (λ (event : Said). event.packet)
     (find (λ (event : Said). is_own event request) (filter_map event_in (take_while is_no_request packets)))
 
--- a request without its event: by this packet of the newest of these records, for this sequence, by this rule, with this text in force
+-- a request without its event: this packet of the newest record, this sequence, this rule, and this text in force
 abbrev pub request_by : OfTexts → List Taken → Packet → ℕ → (rule text : Option ℕ) → Requested
 request_by read records packet sequence rule text = record {
   packet = packet.number;
@@ -98,7 +98,7 @@ request_by read records packet sequence rule text = record {
   samples = samples_of read rule records;
 }
 
--- with its event, which is among these packets after it
+-- the request with its event; these packets follow the request
 abbrev pub with_its_event : Requested → List Packet → Requested
 with_its_event request behind = record request { event = own_event request behind }
 
@@ -109,8 +109,8 @@ sequence_by (Some (told.Event moment sender id kind text)) = None
 sequence_by (Some (told.Housekeeping mode count rules)) = None
 sequence_by None = None
 
--- the rule that requested it: the first from this one on that is of this sequence in the text in force, and became passive by a failure
--- between how the rules stood in front of the newest record and how they stand behind it
+-- The rule that requested it: the first from this number on that became passive by a failure in the newest record and, if the text in
+-- force is known, requests this sequence in it.
 abbrev pub rule_by : OfTexts → List Taken → (text : Option ℕ) → (from : ℕ) → Option ℕ → Option ℕ
 rule_by read records text from None = None
 rule_by read records text from (Some sequence) = asking read.plans text (stands_before records) (stands_behind records) read.lanes from sequence
@@ -120,8 +120,8 @@ abbrev pub request_if : OfTexts → List Taken → Option ℕ → Packet → (ru
 request_if read records None packet rule text behind = []
 request_if read records (Some sequence) packet rule text behind = with_its_event (request_by read records packet sequence rule text) behind ∷ []
 
--- Those among the packets of the newest of these records. The rule of each is looked for behind that of the one before it. Behind these
--- packets others follow.
+-- The requests among these packets of the newest record. The rule of each is searched from the number after the rule of the request
+-- before it. `others` are the packets of later records.
 abbrev pub requests_in : OfTexts → List Taken → (others : List Packet) → (from : ℕ) → List Happened → List Packet → List Requested
 requests_in read records others from happened [] = []
 requests_in read records others from happened (packet ∷ packets) =
@@ -130,7 +130,7 @@ requests_in read records others from happened (packet ∷ packets) =
     ++ requests_in read records others (behind_rule (rule_by read records (text_in_force happened) from (sequence_by (told_in packet.bytes))) from)
     (Sent packet ∷ happened) packets
 
--- a record came
+-- the record of a step
 abbrev pub taken_by : Step → List Happened → Taken
 taken_by step happened = record { place = step.place; stands = step.stands; happened = Came step.place (brings step.bytes) ∷ happened }
 
@@ -142,12 +142,12 @@ requests_from read before happened number (step ∷ steps) =
     (Came step.place (brings step.bytes) ∷ happened) (packets_led_to number step)
     ++ requests_from read (taken_by step happened ∷ before) (behind_record number step happened) (number_behind number (packets_of step.written)) steps
 
--- a request with its samples, if they are kept
+-- a request with its samples, or without them if they aren't kept
 abbrev pub told_if : Bool → Requested → Requested
 told_if b request = record request { samples = if b then request.samples else [] }
 
--- Those with the samples that are told: where the text in force is known, as long as what comparisons met in the samples of all requests
--- up to this one isn't more than 3,072, behind so many.
+-- The requests with the samples that are kept. A request keeps its samples if the text in force is known, and if the samples of all requests
+-- up to and with this one have at most 3,072 `Met` values. Those before the first of these requests have this many.
 abbrev pub with_samples : ℕ → List Requested → List Requested
 with_samples parts [] = []
 with_samples parts (request ∷ requests) =
@@ -158,10 +158,9 @@ with_samples parts (request ∷ requests) =
 abbrev pub requests_of : OfTexts → List Step → List Requested
 requests_of read steps = with_samples 0 (requests_from read [] [] 0 steps)
 
--- ---- what is kept of them
+-- ---- the requests that are kept
 
--- the newest request is kept, and of all others the first 300 and the last 299, and how many are left out between them, of the records
--- from one to another
+-- the newest request, the first 300 and the last 299 of all others, and how many are left out between them, from which record to which
 pub record KeepsRequests (requests : List Requested) (sending : Sending) : Type 0 where
   pub newest : sending.newest ≡ slice_get requests (length requests - 1)
   pub others : sending.requests

@@ -14,7 +14,7 @@ use Rattle.run_summary.specs.declared.texts.Field.{Field}
 use Rattle.run_summary.specs.About.{rule_of}
 use Rattle.run_summary.specs.Account.{Account, Step, account_behind, account_with, before_with, come, sampled, stood_again, stood_so, written}
 use Rattle.run_summary.specs.Bands.{nothing_in_force}
-use Rattle.run_summary.specs.Ends.{Ends, kept}
+use Rattle.run_summary.specs.Ends.{Ends, kept, no_items}
 use Rattle.run_summary.specs.Brought.{Brings, Command, File, Half, Load, Telemetry, Tick, brings}
 use Rattle.run_summary.specs.Fields.{AreKnown, all_brought, come_in, unseen}
 use Rattle.run_summary.specs.Figures.{none, one_more}
@@ -24,15 +24,17 @@ use Rattle.run_summary.specs.Samples.{Row, no_row}
 use Rattle.run_summary.specs.Sent.{Said, events_kept, nothing_sent}
 use Rattle.run_summary.specs.Standing.{absent, stand_at}
 use Rattle.run_summary.specs.Texts.{HaveItems, compared_of, fields_of, most_rules, texts_planned}
+use Rattle.run_summary.specs.Uplinks.{uplinks_kept}
 
--- what is read of the texts of a run: the items of each, its rules, the most that a text has, and the fields that rules compare
+-- what is read of the texts of a run: the items and the rules of each, the number of rules in the text with the most, and the fields that
+-- rules compare
 pub record OfTexts : Type 0 where
   pub texts : List (List Item)
   pub plans : List (List Planned)
   pub lanes : ℕ
   pub fields : List Field
 
--- all of it is what the items say
+-- fields, rules and their greatest number are those of the items
 pub record AreRead (read : OfTexts) : Type 0 where
   pub fields : map compared_of read.fields ≡ fields_of read.texts
   pub plans : read.plans ≡ texts_planned (fields_of read.texts) read.texts
@@ -49,6 +51,7 @@ nothing_told read = record {
   before = replicate read.lanes absent;
   bands = nothing_in_force;
   sending = nothing_sent;
+  uplinks = no_items uplinks_kept uplinks_kept;
   figures = none;
 }
 
@@ -103,17 +106,17 @@ event_in packet = event_by packet.number packet.place (told_in packet.bytes)
 abbrev pub events_of : List Step → List Said
 events_of steps = filter_map event_in (packets_sent steps)
 
--- ---- how many there are of what
+-- ---- counts
 
 -- a count, up to 2^64 - 1
 abbrev pub stopped : ℕ → ℕ
 stopped count = min count (2 ^ 64 - 1)
 
--- the number of these for which it is true
+-- the number of items that pass the test, up to 2^64 - 1
 abbrev pub counted : {T : Type 0} → (T → Bool) → List T → ℕ
 counted test items = stopped (length (filter test items))
 
--- what a record brings
+-- the kinds of records
 abbrev pub is_telemetry : Brings → Bool
 is_telemetry (Telemetry packet) = true
 is_telemetry other = false
@@ -132,7 +135,7 @@ is_file (File name) = true
 is_file (Half name text) = true
 is_file other = false
 
--- what a packet says
+-- the kinds of packets
 abbrev pub is_request : Option told.Told → Bool
 is_request (Some (told.Request sequence)) = true
 is_request other = false
@@ -157,7 +160,7 @@ abbrev pub is_debug : Option told.Told → Bool
 is_debug (Some (told.Event moment sender id kind.Debug text)) = true
 is_debug other = false
 
--- of records that bring this, and of packets that say this
+-- the counts of a run whose records bring this and whose packets say this
 abbrev pub figures_by : List Brings → List (Option told.Told) → Figures
 figures_by brought said = record {
   records = stopped (length brought);
@@ -175,32 +178,32 @@ figures_by brought said = record {
   other = counted is_none said;
 }
 
--- what the records of a run bring, and what its packets say
+-- what each record of a run brings, and what each packet says
 abbrev pub brought_in : List Step → List Brings
 brought_in steps = map (λ (step : Step). brings step.bytes) steps
 
 abbrev pub said_in : List Step → List (Option told.Told)
 said_in steps = map (λ (packet : Packet). told_in packet.bytes) (packets_sent steps)
 
--- ---- what is kept of a list
+-- ---- the part of a list that is kept
 
--- each of these is added, one after the other
+-- after these items were added, one after the other
 abbrev pub all_kept : {T : Type 0} → (T → ℕ) → List T → Ends T → Ends T
 all_kept record_of [] e = e
 all_kept record_of (item ∷ items) e = all_kept record_of items (kept record_of item e)
 
--- a number of last items
+-- this many last items
 abbrev pub last_of : {T : Type 0} → ℕ → List T → List T
 last_of count items = drop (length items - count) items
 
--- what is left out: how many, and from which record to which
+-- the number of these items, and the records of the first and the last: they are left out, after those that already are
 abbrev pub left_by : {T : Type 0} → (T → ℕ) → List T → Option Left → Option Left
 left_by record_of [] left = left
 left_by record_of (item ∷ items) None = left_by record_of items (Some (record { count = 1; from = record_of item; to = record_of item }))
 left_by record_of (item ∷ items) (Some left) =
     left_by record_of items (Some (record { count = one_more left.count; from = left.from; to = record_of item }))
 
--- those between the first and the last
+-- the items between the first and the last
 abbrev pub between : {T : Type 0} → (front back : ℕ) → List T → List T
 between front back items = take (length items - front - back) (drop front items)
 
@@ -216,7 +219,7 @@ ends_of record_of front back items = record {
 
 -- ---- rules that stand as before
 
--- each of these rows, from the rule with this number on, has as many failures as the rule
+-- each of these rows has as many failures as its rule; the first row is that of the rule with this number
 abbrev pub AreCounted : List Stand → ℕ → List Row → Type 0
 AreCounted stands rule [] = ⊤
 AreCounted stands rule (row ∷ rows) = (row.fails ≡ (stand_at rule stands).fails) × AreCounted stands (rule + 1) rows
@@ -228,16 +231,16 @@ pub record StoodLast (stands : List Stand) (a : Account) : Type 0 where
 
 -- ---- the laws
 
--- behind a record the rules stood as they stood there, also once the next one came. Where they stand so behind that one, too, no sample
--- of it counts, and only the mode is new
+-- The rules that a record leaves are the account's rules after it, and still are when the next record has come. If that one leaves the
+-- same rules, none of its samples counts, and only the mode may change.
 pub record StandAgain : Type 0 where
   pub behind : (step : Step) (a : Account) → StoodLast step.stands (account_with step a)
   pub comes : (stands : List Stand) (bytes : List ℕ) (place : Place) (a : Account) → StoodLast stands a → StoodLast stands (come bytes place a)
   pub again : (stands : List Stand) (bytes : List ℕ) (place : Place) (mode : Option LcMode) (a : Account) → StoodLast stands a →
       stood_so place mode stands (written bytes place stands (sampled place stands a)) ≡ stood_again place mode (written bytes place stands a)
 
--- of each field its account knows, behind each record that came, what that record brought of it: a value that a packet of the record's
--- own place brought is that of the record, since what was known before is of records in front of it
+-- When a record has come, the account knows each field value that it brought. A value with the record's place is one that it brought:
+-- all values that were known before have places of earlier records (`AreKnown`), before the first record and after each.
 pub record FieldsCome : Type 0 where
   pub begin : (texts : OfTexts) → AreKnown 1 texts.fields (nothing_told texts).seen
   pub come : (fields : List Field) (bytes : List ℕ) (place : Place) (a : Account) → AreKnown place.«record» fields a.seen →
@@ -245,15 +248,14 @@ pub record FieldsCome : Type 0 where
   pub go_on : (fields : List Field) (step : Step) (a : Account) → AreKnown step.place.«record» fields a.seen →
       AreKnown (step.place.«record» + 1) fields (account_with step a).seen
 
--- the account of a run has the first 1,000 of all its events, and the last 1,000, and how many are left out between them, of the
--- records from one to another
+-- the account of a run has the first 1,000 and the last 1,000 of all its events, and how many are left out between them, from which record
+-- to which
 abbrev pub TellsEvents : Type 0
 TellsEvents = (texts : OfTexts) (steps : List Step) →
     (account_behind (nothing_told texts) steps).sending.events
     ≡ ends_of (λ (event : Said). event.place.«record») events_kept events_kept (events_of steps)
 
--- its figures are how many records the run has, and how many of them bring this and that; and how many packets, and how many of them
--- say this and that
+-- its figures are the number of the run's records, in all and of each kind, and the number of its packets, in all and of each kind
 abbrev pub TellsFigures : Type 0
 TellsFigures = (texts : OfTexts) (steps : List Step) →
     (account_behind (nothing_told texts) steps).figures ≡ figures_by (brought_in steps) (said_in steps)

@@ -12,6 +12,7 @@ ghost use Rattle.run_summary.specs.Texts.{most_rules};
 
 use crate::bands::Bands;
 use crate::brought::{Brought, read_record};
+use crate::ends::Ends;
 use crate::figures::Figures;
 use crate::place::{ABSENT, Place, Stand, stand_in};
 use crate::plans::{Part, RulePlans, parts_at, plans_of};
@@ -19,6 +20,7 @@ use crate::samples::FailRun;
 use crate::seen::{Seen, all_unseen, see_all};
 use crate::sent::Sending;
 use crate::texts::{fields_of, rule_count};
+use crate::uplinks::{UPLINKS, Uplink, keep_uplink};
 use lc_model::LcMode;
 use rpn_compiler::RuleText;
 use std::alloc::{AllocError, Global};
@@ -41,6 +43,8 @@ pub struct Account<'a> {
     pub bands: Bands,
     /// The requests and events that are kept.
     pub sending: Sending,
+    /// The ground commands, files and halves of rule texts that are kept.
+    pub uplinks: Ends<Uplink>,
     /// The counts of the run.
     pub figures: Figures,
 }
@@ -129,6 +133,7 @@ impl<'a> Account<'a> {
             before,
             bands: Bands::new(alloc),
             sending: Sending::new(alloc),
+            uplinks: Ends::new(alloc, UPLINKS, UPLINKS),
             figures: Figures::new(),
         })
     }
@@ -147,6 +152,10 @@ impl<'a> Account<'a> {
     {
         let brings = read_record(bytes);
         self.figures.take(brings);
+        if brings.is_uplink() {
+            let text = self.bands.text();
+            keep_uplink(self.alloc, &mut self.uplinks, place, text, bytes)?;
+        }
         self.bring(brings, place)
     }
 

@@ -3,7 +3,7 @@
 ghost use Rattle.std.specs.Prelude.{◌≡◌, ◌≤◌, length, take};
 ghost use Rattle.lc_model.specs.Host.Stream.{header_size};
 ghost use Rattle.lc_model.specs.Name.{name_in};
-ghost use Rattle.run_summary.specs.Brought.{body_brings, brings, brings_of, half_brings, name_in_front, packet_brings};
+ghost use Rattle.run_summary.specs.Brought.{body_brings, brings, brings_of, half_brings, is_uplink, name_in_front, packet_brings};
 
 use lc_model::packet::{function_code, message_id};
 use lc_model::stream::{HALF, HEADER, NAME};
@@ -22,6 +22,22 @@ pub(crate) enum Brought<'a> {
     File(&'a [u8]),
     /// The compiled half of a rule text, by its name and the text's number.
     Half(&'a [u8], u16),
+}
+
+impl Brought<'_> {
+    /// Whether it is a ground command, a file or a half.
+    pub(crate) fn is_uplink(self) -> bool
+        ensures { result ≡ is_uplink (brings_of self.entry) }
+    {
+        match self {
+            Brought::Telemetry(_) => false,
+            Brought::Tick => false,
+            Brought::Command => true,
+            Brought::Load(_) => true,
+            Brought::File(_) => true,
+            Brought::Half(..) => true,
+        }
+    }
 }
 
 /// The name in the field at the front, or in all bytes if there are fewer.

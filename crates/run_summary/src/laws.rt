@@ -1,5 +1,6 @@
 //! The laws of accounts, each stated by a function with an empty body.
 
+ghost use Rattle.run_summary.specs.Commands.{TellsUplinks};
 ghost use Rattle.run_summary.specs.Happened.{TellsFields};
 ghost use Rattle.run_summary.specs.Requests.{TellsRequests};
 ghost use Rattle.run_summary.specs.Run.{FieldsCome, StandAgain, TellsEvents, TellsFigures};
@@ -30,6 +31,12 @@ pub fn fields_that_come()
 /// States that an account keeps the newest request of a run, and the first 300 and the last 299 of all others.
 pub fn the_requests_of_a_run()
     ensures { TellsRequests }
+{}
+
+/// States that an account has the first 300 and the last 300 ground commands, files and halves that the stream of a run brings, each with
+/// the text in force when it came, and the number and the records of those left out between them.
+pub fn the_ends_of_all_uplinks()
+    ensures { TellsUplinks }
 {}
 
 /// States what an account knows of a field: the number of packets of its message id, the place of the last one, and what comparisons

@@ -17,6 +17,7 @@ mod samples;
 mod seen;
 mod sent;
 mod texts;
+mod uplinks;
 mod values;
 
 pub use account::Account;
@@ -29,3 +30,4 @@ pub use samples::{Sample, verdict};
 pub use seen::{Met, Seen};
 pub use sent::{Request, SeenEvent, Sending};
 pub use texts::{Field, condition_tokens, rule_at, rule_count, token_bytes};
+pub use uplinks::Uplink;

@@ -1,4 +1,5 @@
 mod Lines
+mod Marked
 mod Comments
 mod Ahead
 mod Forces

@@ -11,7 +11,7 @@ use Rattle.scenario_trial.specs.declared.error.TrialError.TheVariants as trial
 use Rattle.scenario_trial.specs.declared.trial.TrialOutcome.{TrialOutcome}
 use Rattle.scenario_trial.specs.declared.trial.Tried.{Tried}
 use Rattle.scenario_trial.specs.Outcomes.{IsPlainTried, IsTried}
-use Rattle.scenario_trial.specs.Warned.{warnings_of}
+use Rattle.scenario_trial.specs.Warned.{IsWarnedBefore, state_warnings, warnings_of}
 use Rattle.stream_script.specs.Script.{script_in}
 use Rattle.run_stepper.specs.Trace.{IsTraced, Traced, arrived_from}
 use Rattle.scenario_trial.specs.declared.expectation_lines.Placed.{Placed}
@@ -69,18 +69,19 @@ pub untried : (sources : List (List ℕ)) (schedule : Schedule) (text : List ℕ
 untried sources schedule text declared plain (Ok tried) declares short why = tt
 untried sources schedule text declared plain (Err error) declares short why = untried_for sources schedule text declared plain error declares short why
 
--- what a plain script comes to is what the scenario comes to that is short for it
-pub tried_so : (sources : List (List ℕ)) (schedule : Schedule) (text : List ℕ) (declared : Declarations) (plain : PlainScript) (result : Result TrialOutcome TrialError) →
-    AreDeclared sources nothing_declared declared → IsSettled sources schedule declared text plain → IfOk result (IsPlainTried sources schedule declared plain) →
-    IfOk result (IsTried sources schedule text)
-tried_so sources schedule text declared plain (Ok tried) declares settled tries = record {
+-- what a plain script comes to, with the warnings of the scenario's lines, is what the scenario comes to that is short for it
+pub tried_so : (sources : List (List ℕ)) (schedule : Schedule) (text : List ℕ) (declared : Declarations) (plain : PlainScript) (run outcome : TrialOutcome) →
+    AreDeclared sources nothing_declared declared → IsSettled sources schedule declared text plain → IsPlainTried sources schedule declared plain run →
+    IsWarnedBefore (state_warnings declared text) run outcome → IsTried sources schedule text outcome
+tried_so sources schedule text declared plain run outcome declares settled tries warned = record {
   declared = declared;
   declares = declares;
   plain = plain;
   settled = settled;
+  run = run;
   tries = tries;
+  warned = warned;
 }
-tried_so sources schedule text declared plain (Err error) declares settled tries = tries
 
 -- the same by the answer, where what is the same has several names
 pub outcome_so : (sources : List (List ℕ)) (schedule : Schedule) (declared : Declarations) (plain : PlainScript) (quiet quiet' stream stream' : List ℕ) (ps asked run_with warned_of : List Placed)

@@ -9,7 +9,7 @@ use Rattle.scenario_trial.specs.declared.trial.TrialOutcome.{TrialOutcome}
 use Rattle.scenario_trial.specs.Arrivals.{IsJudged, arrivals_of, is_whole}
 use Rattle.scenario_trial.specs.Reading.{PlacedExpected, expectations_in, silenced_in}
 use Rattle.scenario_trial.specs.Settled.{IsSettled}
-use Rattle.scenario_trial.specs.Warned.{warnings_of}
+use Rattle.scenario_trial.specs.Warned.{IsWarnedBefore, state_warnings, warnings_of}
 
 -- A plain script was tried: without its expectations it says a stream, the run over it goes to its end, and they are judged by what
 -- each of that stream's records led to, by the definitions, where the rule texts are run over it.
@@ -25,10 +25,12 @@ pub record IsPlainTried (sources : List (List ℕ)) (schedule : Schedule) (decla
   pub warned : outcome.warnings.items ≡ warnings_of declared plain.lines expectations (arrived_from 0 trace.parts)
 
 -- A scenario was tried: the plain script that it is short for, in the words that the rule texts declare, and in which each command that
--- sets the state of a rule has that rule's number in the text in force at its line.
+-- sets the state of a rule has that rule's number in the text in force at its line. The warnings of such lines come first.
 pub record IsTried (sources : List (List ℕ)) (schedule : Schedule) (scenario : List ℕ) (outcome : TrialOutcome) : Type 0 where
   pub declared : Declarations
   pub declares : AreDeclared sources nothing_declared declared
   pub plain : PlainScript
   pub settled : IsSettled sources schedule declared scenario plain
-  pub tries : IsPlainTried sources schedule declared plain outcome
+  pub run : TrialOutcome
+  pub tries : IsPlainTried sources schedule declared plain run
+  pub warned : IsWarnedBefore (state_warnings declared scenario) run outcome

@@ -1,10 +1,12 @@
 -- Which rule text is in force at the commands of a script that set states of rules, by the run over it. This project's own.
-use Rattle.std.specs.Prelude.{◌≡◌, ℕ, zero, suc, ◌+◌, ◌-◌, Bool, true, false, ◌&&◌, ◌||◌, List, [], ◌∷◌, codes, bytes_eq, map, take, Ok}
+use Rattle.std.specs.Prelude.{◌≡◌, ℕ, zero, suc, ◌+◌, ◌-◌, Bool, true, false, ◌&&◌, ◌||◌, List, [], ◌∷◌, codes, bytes_eq, map, take, Ok, Option}
 use Rattle.std.specs.List.{AllByRecursion}
 use Rattle.lc_model.specs.Host.Schedule.{Schedule}
 use Rattle.lc_model.specs.Host.ScheduleText.{lines_of, words_of}
 use Rattle.lc_model.specs.Kept.Executive.{Executive}
 use Rattle.scenarios.specs.Declarations.{Declarations}
+use Rattle.scenarios.specs.Named.{NamedRule}
+use Rattle.scenarios.specs.Orders.{state_line}
 use Rattle.scenarios.specs.Plain.{PlainScript, plain_in}
 use Rattle.scenarios.specs.declared.force.ForceChange.{ForceChange}
 use Rattle.stream_script.specs.ByLines.{line_start}
@@ -19,18 +21,22 @@ use Rattle.scenario_trial.specs.Reading.{silenced_in}
 abbrev pub is_state_code : List ℕ → Bool
 is_state_code code = bytes_eq code (codes "3") || bytes_eq code (codes "4")
 
--- `command 18a4 CODE` with such a code, as a scenario's line of a state says it: the Limit Checker's
+-- `command 18a4 CODE` with such a code: the Limit Checker's
 abbrev pub is_of_state : (verb mid code : List ℕ) → Bool
 is_of_state verb mid code = bytes_eq verb (codes "command") && (bytes_eq mid (codes "18a4") && is_state_code code)
 
--- the same, and its payload
+-- these are the words in front
 abbrev pub are_of_state : List (List ℕ) → Bool
-are_of_state (verb ∷ mid ∷ code ∷ payload ∷ []) = is_of_state verb mid code
+are_of_state (verb ∷ mid ∷ code ∷ words) = is_of_state verb mid code
 are_of_state words = false
 
 -- a line of a plain script is one
 abbrev pub sets_state : List ℕ → Bool
 sets_state line = are_of_state (words_of line)
+
+-- what a scenario's line of a state says is one
+abbrev pub StatesAreMarked : Type 0
+StatesAreMarked = (rules : List NamedRule) (force : Option ℕ) (words : List (List ℕ)) (line : List ℕ) → state_line rules force words ≡ Ok line → sets_state line ≡ true
 
 -- the numbers of the lines that are marked, where the first has this number
 abbrev pub marked_from : ℕ → List Bool → List ℕ

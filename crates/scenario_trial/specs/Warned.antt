@@ -1,12 +1,14 @@
 -- What is to be looked at in a script that was tried. This project's own.
-use Rattle.std.specs.Prelude.{ℕ, ◌==◌, Bool, true, false, not, List, [], ◌∷◌, ◌++◌, filter_map, find, Option, Some, None, if◌then◌else◌}
+use Rattle.std.specs.Prelude.{◌≡◌, ℕ, ◌+◌, ◌==◌, Bool, true, false, not, List, [], ◌∷◌, ◌++◌, filter_map, find, bytes_eq, codes, Option, Some, None, if◌then◌else◌}
 use Rattle.std.specs.List.{list_any}
+use Rattle.lc_model.specs.Host.ScheduleText.{lines_of, words_of}
 use Rattle.scenarios.specs.Declarations.{Declarations}
 use Rattle.scenarios.specs.Plain.{line_of}
 use Rattle.scenarios.specs.Rules.{numbers_differ}
 use Rattle.run_stepper.specs.Trace.{Arrived}
 use Rattle.scenario_trial.specs.declared.expectation.Arrival.{Arrival}
 use Rattle.scenario_trial.specs.declared.expectation.ArrivalKind.{ArrivalKind}
+use Rattle.scenario_trial.specs.declared.trial.TrialOutcome.{TrialOutcome}
 use Rattle.scenario_trial.specs.declared.warning.TrialWarning.{TrialWarning}
 use Rattle.scenario_trial.specs.declared.warning.TrialWarning.TheVariants.{ManyNumbers, NothingRan, NothingTried}
 use Rattle.scenario_trial.specs.Arrivals.{arrival_of, rule_in}
@@ -29,6 +31,28 @@ numbers_warning declared lines placed = if has_many_numbers declared placed then
 
 abbrev pub numbers_warnings : Declarations → List ℕ → List PlacedExpected → List TrialWarning
 numbers_warnings declared lines expectations = filter_map (numbers_warning declared lines) expectations
+
+-- ---- lines of a scenario that set the state of such a rule
+
+-- the rule of `state RULE STATE`
+abbrev pub state_rule : List (List ℕ) → Option (List ℕ)
+state_rule (verb ∷ name ∷ state ∷ []) = if bytes_eq verb (codes "state") then Some name else None
+state_rule words = None
+
+abbrev pub state_warning : Declarations → ℕ → List ℕ → Option TrialWarning
+state_warning declared n line = if are_many declared (state_rule (words_of line)) then Some (ManyNumbers n) else None
+
+abbrev pub warned_before : Option TrialWarning → List TrialWarning → List TrialWarning
+warned_before None warnings = warnings
+warned_before (Some warning) warnings = warning ∷ warnings
+
+-- those of lines of which the first has this number
+abbrev pub state_warnings_from : Declarations → ℕ → List (List ℕ) → List TrialWarning
+state_warnings_from declared n [] = []
+state_warnings_from declared n (line ∷ lines) = warned_before (state_warning declared n line) (state_warnings_from declared (n + 1) lines)
+
+abbrev pub state_warnings : Declarations → List ℕ → List TrialWarning
+state_warnings declared scenario = state_warnings_from declared 1 (lines_of scenario)
 
 -- ---- a run in which nothing was tried
 
@@ -75,3 +99,8 @@ with_idle warnings (Some warning) = warnings ++ warning ∷ []
 
 abbrev pub warnings_of : Declarations → List ℕ → List PlacedExpected → List Arrived → List TrialWarning
 warnings_of declared lines expectations came = with_idle (numbers_warnings declared lines expectations) (idle_warning lines expectations came)
+
+-- An outcome is that of a run, with these warnings before its own.
+pub record IsWarnedBefore (first : List TrialWarning) (run outcome : TrialOutcome) : Type 0 where
+  pub tried : outcome.tried ≡ run.tried
+  pub warned : outcome.warnings.items ≡ first ++ run.warnings.items

@@ -1,4 +1,4 @@
-//! Why a script isn't tried.
+//! The errors of a trial.
 
 ghost use Rattle.std.specs.Prelude.{◌≡◌};
 ghost use Rattle.scenario_trial.specs.Untried.{IsOwn, of_course, of_reading, of_scenario, of_script};
@@ -13,34 +13,34 @@ use std::io::{self, ErrorKind};
 use stream_script::ScriptError;
 use thiserror::Error;
 
-/// Why a script isn't tried, or what comes of it not wholly written.
+/// Why a script was not tried, or its result not written completely.
 #[derive(Clone, Copy, Debug, PartialEq, Eq, Error)]
 pub enum TrialError {
-    /// A line, counted from 1, says no line of a script.
+    /// A line of the scenario can't be read.
     #[error("{error}")]
     Scenario { error: ScenarioError },
-    /// A line, counted from 1, says no expectation.
+    /// A line that begins with `expect` is no valid expectation.
     #[error("{error}")]
     Expectation { error: ReadError },
-    /// The script says no stream.
+    /// A line of the plain script can't be read.
     #[error("{error}")]
     Script { error: ScriptError },
     /// A rule text doesn't compile. Texts count from 0.
     #[error("text {text}: {error}")]
     Rules { text: usize, error: CompileError },
-    /// This line of the scenario, counted from 1, expects something of a rule that no text has.
+    /// The expectation in this line of the scenario, counted from 1, names a rule that no text has.
     #[error("no rule text that is given has this rule")]
     NoRule { n: usize },
     /// The run stops at the record that this line of the scenario, counted from 1, says.
     #[error("the run stops here: no rule text of this number is given")]
     Stopped { n: usize },
-    /// Which text is in force where this line of the scenario, counted from 1, names a rule, stays open.
+    /// It can't be settled which text is in force at this line of the scenario, counted from 1, which names a rule.
     #[error("which rule text is in force here stays open after 1,000 runs")]
     Unsettled { n: usize },
     /// Out of memory.
     #[error("out of memory")]
     Memory,
-    /// What is found can't be written.
+    /// The output refused bytes.
     #[error("a write failed")]
     Write,
 }

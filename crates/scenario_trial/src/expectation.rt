@@ -29,41 +29,41 @@ impl ArrivalKind {
     }
 }
 
-/// A request or an event with this number, or with any.
+/// A request or an event with this number; any if there is none.
 #[derive(Clone, Copy, Debug, PartialEq, Eq)]
 pub struct What {
     pub kind: ArrivalKind,
     pub number: Option<u16>,
 }
 
-/// Seconds of the stream, from the first to the last; none where that lies before the first.
+/// A range of seconds of the stream, both ends included; empty if the last is before the first.
 #[derive(Clone, Copy, Debug, PartialEq, Eq)]
 pub struct Span {
     pub first: u32,
     pub last: u32,
 }
 
-/// Something that may come, and within which seconds.
+/// What is expected, and in which seconds.
 #[derive(Clone, Copy, Debug, PartialEq, Eq)]
 pub struct Coming {
     pub what: What,
     pub span: Span,
 }
 
-/// What is said to come, or how a rule is said to stand.
+/// An expectation: something comes, nothing comes, or a rule has a state or a last result.
 #[derive(Clone, Copy, Debug, PartialEq, Eq)]
 pub enum Expectation<'a> {
     /// Something comes within these seconds.
     Comes(Coming),
-    /// Nothing of it comes within them.
+    /// Nothing of this comes within these seconds.
     Absent(Coming),
-    /// A rule is in this state, where the expectation stands in the script.
+    /// A rule is in this state at the expectation's place in the script.
     State(&'a [u8], ApMode),
-    /// A rule's last result is this one there.
+    /// A rule has this last result at the expectation's place in the script.
     Result(&'a [u8], Option<ApResult>),
 }
 
-/// A request or an event that came, by its number, and the second of its record.
+/// A request or an event that came: its number, and the second of its record.
 #[derive(Clone, Copy, Debug, PartialEq, Eq)]
 pub struct Arrival {
     /// The number of its record, from 0.
@@ -73,7 +73,7 @@ pub struct Arrival {
     pub number: u16,
 }
 
-/// Whether a number is the one that is asked for, where one is.
+/// Whether the number is the expected one, or any number is expected.
 fn is_number(asked: Option<u16>, number: u16) -> bool
     ensures { result ≡ is_number asked number }
 {
@@ -84,7 +84,7 @@ fn is_number(asked: Option<u16>, number: u16) -> bool
 }
 
 impl What {
-    /// Whether it is this that came.
+    /// Whether an arrival is of this kind and has the expected number.
     pub fn is(self, came: Arrival) -> bool
         ensures { result ≡ is_what self came }
     {
@@ -93,7 +93,7 @@ impl What {
 }
 
 impl Span {
-    /// Whether a second is one of these.
+    /// Whether a second is in the range.
     pub fn holds(self, second: u32) -> bool
         ensures { result ≡ is_within self second }
     {
@@ -101,7 +101,7 @@ impl Span {
     }
 }
 
-/// Whether some of this came within these seconds.
+/// Whether an expected arrival came within these seconds.
 pub fn has_come(what: What, span: Span, came: &[Arrival]) -> bool
     ensures { result ≡ has_come what span came.now }
 {

@@ -1,7 +1,7 @@
 //! The expectations of a script.
 //!
-//! A line whose first word is `expect` says nothing of the stream. For whoever reads the stream it is made a comment, byte for
-//! byte in its place, so that every line keeps its number.
+//! A line whose first word is `expect` adds nothing to the stream. Before the stream is read, each such line becomes a comment of the
+//! same length, so that every line keeps its number.
 
 ghost use Rattle.std.specs.Prelude.{◌≡◌, ◌+◌, ◌++◌, ◌∷◌, ℕ, List, drop, map, option_map, Ok, Err, IfOk, IfErr, IsErr};
 ghost use Rattle.lc_model.specs.Host.ScheduleText.{words_of};
@@ -23,7 +23,7 @@ use thiserror::Error;
 /// Why the expectations of a script can't be read.
 #[derive(Clone, Copy, Debug, PartialEq, Eq, Error)]
 pub enum ReadError {
-    /// A line, counted from 1, says no expectation.
+    /// A line, counted from 1, is no valid expectation.
     #[error("line {n}: {fault}")]
     Line { n: usize, fault: ExpectationFault },
     /// Out of memory.
@@ -32,7 +32,7 @@ pub enum ReadError {
 }
 
 impl ReadError {
-    /// The error at the line of the scenario that says the plain script's line.
+    /// The same error, placed at the scenario's line from which the line of the plain script comes.
     pub fn at(self, plain: &Plain) -> ReadError
         ensures { result ≡ read_error_at plain.now.lines.items self }
     {
@@ -54,7 +54,7 @@ impl From<AllocError> for ReadError {
     }
 }
 
-/// An expectation, with the line that says it.
+/// An expectation, with its line in the script.
 #[derive(Clone, Copy)]
 pub struct Placed<'a> {
     /// The line's number, from 1.
@@ -64,7 +64,7 @@ pub struct Placed<'a> {
     pub expectation: Expectation<'a>,
 }
 
-/// Why a line adds nothing to the expectations.
+/// Why a line gives no expectation.
 #[derive(Clone, Copy)]
 pub(crate) enum LineFault {
     Says(ExpectationFault),
@@ -97,7 +97,7 @@ fn is_expectation(words: &[&[u8]]) -> bool
     }
 }
 
-/// What a line with these words expects, where its first word is `expect`.
+/// The expectation of a line with these words; `None` if its first word isn't `expect`.
 fn words_expected<'a>(words: &[&'a [u8]]) -> Result<Option<Expectation<'a>>, ExpectationFault>
     ensures said { IfOk result (λ found. line_expected (texts_of words.now) ≡
         Ok (option_map expected_of found)) }
@@ -115,7 +115,7 @@ fn words_expected<'a>(words: &[&'a [u8]]) -> Result<Option<Expectation<'a>>, Exp
     }
 }
 
-/// What a line expects, where its first word is `expect`.
+/// The expectation of a line; `None` if its first word isn't `expect`.
 fn line_expected<'a>(alloc: Global, line: &'a [u8]) -> Result<Option<Expectation<'a>>, LineFault>
     ensures said { IfOk result (λ found. line_expected (words_of line.now) ≡
         Ok (option_map expected_of found)) }
@@ -125,7 +125,7 @@ fn line_expected<'a>(alloc: Global, line: &'a [u8]) -> Result<Option<Expectation
     Ok(words_expected(words.as_slice())?)
 }
 
-/// Those so far, and that of a line with this number, where there is one.
+/// The expectations found so far and that of the line with this number, if it has one.
 fn with_expected<'a>(
     found: Vec<Placed<'a>>,
     n: usize,
@@ -148,7 +148,7 @@ fn with_expected<'a>(
     Ok(found)
 }
 
-/// Those so far with what a line adds, or its fault with the line's number.
+/// The expectations found so far and that of a line, or the line's fault with its number.
 fn read_line<'a>(
     alloc: Global,
     found: Vec<Placed<'a>>,
@@ -168,7 +168,7 @@ fn read_line<'a>(
     }
 }
 
-/// What all lines expect.
+/// The expectations of all lines.
 fn read_lines(alloc: Global, script: &[u8]) -> Result<Vec<Placed<'_>>, ReadError>
     ensures said { IfOk result
         (λ found. expectations_in script.now ≡ Ok (map placed_of found.items)) }
@@ -191,7 +191,7 @@ fn read_lines(alloc: Global, script: &[u8]) -> Result<Vec<Placed<'_>>, ReadError
 
 /// The expectations of a script, in order.
 ///
-/// Errors, of which the least line's is answered: `Line` with what is wrong; `Memory` only where they find no room.
+/// Errors: `Line` for the first line with a fault, and what is wrong; `Memory` if there is no room for the expectations.
 pub fn read_expectations<'a>(alloc: Global, script: &'a [u8]) -> Result<Vec<Placed<'a>>, ReadError>
     ensures said { IfOk result
         (λ found. expectations_in script.now ≡ Ok (map placed_of found.items)) }
@@ -207,7 +207,7 @@ pub fn read_expectations<'a>(alloc: Global, script: &'a [u8]) -> Result<Vec<Plac
     }
 }
 
-/// What stands behind the first byte.
+/// The bytes after the first one.
 fn behind_first(bytes: &[u8]) -> &[u8]
     ensures { result.now ≡ drop 1 bytes.now }
 {
@@ -217,7 +217,7 @@ fn behind_first(bytes: &[u8]) -> &[u8]
     }
 }
 
-/// A text with a line behind it, as a comment.
+/// The text with this line after it, as a comment.
 fn with_comment(text: Vec<u8>, line: &[u8]) -> Result<Vec<u8>, AllocError>
     ensures { IfOk result (λ after. after.items ≡ text.items ++ commented line.now) }
 {
@@ -229,7 +229,7 @@ fn with_comment(text: Vec<u8>, line: &[u8]) -> Result<Vec<u8>, AllocError>
     Ok(text)
 }
 
-/// A text with a line behind it, which is a comment where it is an expectation.
+/// The text with this line after it; an expectation becomes a comment.
 fn with_line(alloc: Global, text: Vec<u8>, line: &[u8]) -> Result<Vec<u8>, AllocError>
     ensures { IfOk result (λ after. after.items ≡ text.items ++ silenced_line line.now) }
 {
@@ -242,7 +242,7 @@ fn with_line(alloc: Global, text: Vec<u8>, line: &[u8]) -> Result<Vec<u8>, Alloc
     Ok(text)
 }
 
-/// A script whose expectations are comments: of each the first letter is `#`. All else stays. Out of memory is the only error.
+/// The script with each expectation made a comment: `#` replaces its first letter. Out of memory is the only error.
 pub fn silence(alloc: Global, script: &[u8]) -> Result<Vec<u8>, AllocError>
     ensures { IfOk result (λ quiet. quiet.items ≡ silenced_in script.now) }
 {

@@ -1,4 +1,4 @@
-//! Expectations from the words behind `expect`.
+//! Expectations from the words after `expect`.
 
 ghost use Rattle.std.specs.Prelude.{◌≡◌, bytes_eq, Ok, Err, IfOk, IfErr};
 ghost use Rattle.text_lines.specs.Lines.{texts_of};
@@ -15,7 +15,7 @@ const WHOLE_SPAN: Span = Span {
     last: u32::MAX,
 };
 
-/// The number that a word's decimal digits write, up to the most.
+/// The number in a word's decimal digits, up to the given most.
 fn number_in(most: u32, word: &[u8]) -> Option<u32>
     ensures { result ≡ number_in most word.now }
 {
@@ -42,7 +42,7 @@ fn is_numeral(word: &[u8]) -> bool
     }
 }
 
-/// The seconds before one, which isn't 0.
+/// The second before one that isn't 0.
 fn until(span: Span, second: u32) -> Result<Span, ExpectationFault>
     ensures { result ≡ until span second }
 {
@@ -55,7 +55,7 @@ fn until(span: Span, second: u32) -> Result<Span, ExpectationFault>
     })
 }
 
-/// Seconds that a word narrows.
+/// The range of seconds, narrowed by one word and its number.
 fn narrowed_to(span: Span, word: &[u8], second: u32) -> Result<Span, ExpectationFault>
     ensures { result ≡ narrowed_to span word.now second }
 {
@@ -83,7 +83,7 @@ fn narrowed_to(span: Span, word: &[u8], second: u32) -> Result<Span, Expectation
     Err(ExpectationFault::NoSpan)
 }
 
-/// Seconds with what two words more say of them.
+/// The range of seconds, narrowed by a word and a number in digits.
 fn narrow_by(span: Span, word: &[u8], second: &[u8]) -> Result<Span, ExpectationFault>
     ensures { result ≡ narrowed span word.now second.now }
 {
@@ -93,21 +93,21 @@ fn narrow_by(span: Span, word: &[u8], second: &[u8]) -> Result<Span, Expectation
     }
 }
 
-/// Whether a word tells where seconds end, and not where they begin.
+/// Whether a word gives the end of a range, and not its beginning.
 fn is_end(word: &[u8]) -> bool
     ensures { result ≡ is_end word.now }
 {
     is(word, b"by") || is(word, b"until")
 }
 
-/// Whether of two words one tells where seconds begin, and one where they end.
+/// Whether one of two words gives the beginning of a range and the other its end.
 fn go_together(word: &[u8], other: &[u8]) -> bool
     ensures { result ≡ go_together word.now other.now }
 {
     is(word, b"from") && is_end(other) || is_end(word) && is(other, b"from")
 }
 
-/// Seconds of which there is one.
+/// The range, if it has a second.
 fn some_span(span: Span) -> Result<Span, ExpectationFault>
     ensures { result ≡ some_span span }
 {
@@ -118,7 +118,7 @@ fn some_span(span: Span) -> Result<Span, ExpectationFault>
     }
 }
 
-/// The seconds between two that words tell.
+/// The range between two given ends.
 fn narrow_twice(
     word: &[u8],
     second: &[u8],
@@ -135,7 +135,7 @@ fn narrow_twice(
     some_span(twice)
 }
 
-/// The seconds that words tell.
+/// The range of seconds that some words give.
 fn span_in(words: &[&[u8]]) -> Result<Span, ExpectationFault>
     ensures set { IfOk result (λ span. span_in (texts_of words.now) ≡ Ok span) }
     ensures refused { IfErr result (λ fault. span_in (texts_of words.now) ≡ Err fault) }
@@ -155,7 +155,7 @@ fn span_in(words: &[&[u8]]) -> Result<Span, ExpectationFault>
     }
 }
 
-/// This, within the seconds that words tell.
+/// The expectation of this, in the seconds that some words give.
 fn within(what: What, words: &[&[u8]]) -> Result<Coming, ExpectationFault>
     ensures said { IfOk result (λ coming. within what (texts_of words.now) ≡ Ok coming) }
     ensures refused { IfErr result (λ fault. within what (texts_of words.now) ≡ Err fault) }
@@ -174,7 +174,7 @@ fn number_of(word: &[u8]) -> Result<u16, ExpectationFault>
     }
 }
 
-/// A request or an event of this number, within the seconds that words tell.
+/// A request or an event with this number, in the seconds that some words give.
 fn coming_numbered(
     kind: ArrivalKind,
     number: &[u8],
@@ -195,7 +195,7 @@ fn coming_numbered(
     )
 }
 
-/// The same, where a number may stand in front.
+/// The same; the number may be left out.
 fn coming_of(kind: ArrivalKind, words: &[&[u8]]) -> Result<Coming, ExpectationFault>
     ensures said { IfOk result
         (λ coming. coming_of kind (texts_of words.now) ≡ Ok coming) }
@@ -214,7 +214,7 @@ fn coming_of(kind: ArrivalKind, words: &[&[u8]]) -> Result<Coming, ExpectationFa
     }
 }
 
-/// An event of the Limit Checker, or of the host where `HOST` stands in front, and within which seconds.
+/// An event of the Limit Checker, or of the host after `HOST`, and its seconds.
 fn event_of(words: &[&[u8]]) -> Result<Coming, ExpectationFault>
     ensures said { IfOk result (λ coming. event_of (texts_of words.now) ≡ Ok coming) }
     ensures refused { IfErr result (λ fault. event_of (texts_of words.now) ≡ Err fault) }
@@ -230,7 +230,7 @@ fn event_of(words: &[&[u8]]) -> Result<Coming, ExpectationFault>
     }
 }
 
-/// What may come, and within which seconds.
+/// What may come, and its seconds.
 fn coming_in(words: &[&[u8]]) -> Result<Coming, ExpectationFault>
     ensures said { IfOk result (λ coming. coming_in (texts_of words.now) ≡ Ok coming) }
     ensures refused { IfErr result (λ fault. coming_in (texts_of words.now) ≡ Err fault) }
@@ -249,7 +249,7 @@ fn coming_in(words: &[&[u8]]) -> Result<Coming, ExpectationFault>
     }
 }
 
-/// The state that a word names: one that a rule may begin in, or off for good.
+/// The state that a word names: one in which a rule may begin, or off for good.
 fn state_named(word: &[u8]) -> Option<ApMode>
     ensures { result ≡ state_named word.now }
 {
@@ -259,7 +259,7 @@ fn state_named(word: &[u8]) -> Option<ApMode>
     ApMode::from_word(word)
 }
 
-/// The result that a word names: none before the first sample.
+/// The result that a word names; `none` is the one before the first sample.
 fn result_named(word: &[u8]) -> Option<Option<ApResult>>
     ensures { result ≡ result_named word.now }
 {
@@ -281,7 +281,7 @@ fn result_named(word: &[u8]) -> Option<Option<ApResult>>
     None
 }
 
-/// A rule's state.
+/// The expectation of a rule's state.
 fn state_in<'a>(words: &[&'a [u8]]) -> Result<Expectation<'a>, ExpectationFault>
     ensures said { IfOk result
         (λ expectation. state_in (texts_of words.now) ≡ Ok (expected_of expectation)) }
@@ -297,7 +297,7 @@ fn state_in<'a>(words: &[&'a [u8]]) -> Result<Expectation<'a>, ExpectationFault>
     }
 }
 
-/// A rule's last result.
+/// The expectation of a rule's last result.
 fn result_in<'a>(words: &[&'a [u8]]) -> Result<Expectation<'a>, ExpectationFault>
     ensures said { IfOk result
         (λ expectation. result_in (texts_of words.now) ≡ Ok (expected_of expectation)) }
@@ -313,7 +313,7 @@ fn result_in<'a>(words: &[&'a [u8]]) -> Result<Expectation<'a>, ExpectationFault
     }
 }
 
-/// What the words behind `expect` say.
+/// The expectation in the words after `expect`.
 pub(crate) fn expectation<'a>(words: &[&'a [u8]]) -> Result<Expectation<'a>, ExpectationFault>
     ensures said { IfOk result
         (λ expectation. expected_in (texts_of words.now) ≡ Ok (expected_of expectation)) }

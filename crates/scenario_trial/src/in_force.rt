@@ -1,5 +1,5 @@
-//! Which rule text is in force at the commands of a script that set states of rules: a run shows it, and the script is then said by
-//! what the run has shown.
+//! Which rule text is in force at each command of a script that sets a rule's state. A run of the script shows it; then the scenario is
+//! read again with the texts that the run has shown.
 
 ghost use Rattle.std.specs.Prelude.{◌≡◌, ◌++◌, ◌<◌, length, map, true, IfErr, IfOk};
 ghost use Rattle.std.specs.List.{AllByRecursion, list_any};
@@ -25,7 +25,7 @@ use scenarios::{DeclaredItems, ForceChange, Plain, plain_script};
 use std::alloc::{AllocError, Global};
 use text_lines::{first_line, words};
 
-/// How often a scenario is run at most until it is settled.
+/// The most runs of a scenario until it is settled.
 const MOST_ROUNDS: u32 = 1_000;
 
 /// Whether the code of a command of the Limit Checker sets the state of a rule.
@@ -35,7 +35,7 @@ fn is_state_code(code: &[u8]) -> bool
     is(code, b"3") || is(code, b"4")
 }
 
-/// Whether these are the first words of a command of the Limit Checker that sets the state of a rule, as `scenarios` writes it.
+/// Whether these are the first words of a command of the Limit Checker that sets the state of a rule.
 fn is_of_state(verb: &[u8], mid: &[u8], code: &[u8]) -> bool
     ensures { result ≡ is_of_state verb.now mid.now code.now }
 {
@@ -47,13 +47,12 @@ fn are_of_state(words: &[&[u8]]) -> bool
     ensures { result ≡ are_of_state (texts_of words.now) }
 {
     match words {
-        [verb, mid, code, _payload] => is_of_state(verb, mid, code),
-        [] | [_] | [_, _] | [_, _, _] => false,
-        [_, _, _, _, _, ..] => false,
+        [verb, mid, code, ..] => is_of_state(verb, mid, code),
+        [] | [_] | [_, _] => false,
     }
 }
 
-/// Whether a line of a plain script is one. Out of memory is the only error.
+/// Whether a line of a plain script is such a command. Out of memory is the only error.
 fn sets_state(alloc: Global, line: &[u8]) -> Result<bool, AllocError>
     ensures { IfOk result (λ found. found ≡ sets_state line.now) }
 {
@@ -61,7 +60,7 @@ fn sets_state(alloc: Global, line: &[u8]) -> Result<bool, AllocError>
     Ok(are_of_state(words.as_slice()))
 }
 
-/// Of each line of a plain script, whether it sets the state of a rule. Out of memory is the only error.
+/// For each line of a plain script, whether it sets the state of a rule. Out of memory is the only error.
 fn state_marks(alloc: Global, script: &[u8]) -> Result<Vec<bool>, AllocError>
     ensures { IfOk result (λ marks. marks.items ≡ map sets_state (lines_of script.now)) }
 {
@@ -75,7 +74,7 @@ fn state_marks(alloc: Global, script: &[u8]) -> Result<Vec<bool>, AllocError>
     Ok(marks)
 }
 
-/// Whether one of these is marked.
+/// Whether at least one line is marked.
 fn is_some_marked(marks: &[bool]) -> bool
     ensures { result ≡ list_any (λ mark. mark) marks.now }
 {
@@ -116,7 +115,7 @@ impl Trial<'_, '_> {
     }
 }
 
-/// The text in force at each line of a plain script that sets the state of a rule, as a run of it shows.
+/// The text in force at each line of a plain script that sets the state of a rule, found by running it.
 fn shown_forces(
     alloc: Global,
     inputs: RunInputs<'_>,
@@ -159,8 +158,8 @@ fn is_same(plain: &Plain, other: &Plain) -> bool
     plain.text == other.text && plain.lines == other.lines
 }
 
-/// The plain script of a scenario. Each command in it that sets the state of a rule by its name has the rule's number in the text in
-/// force at the command's line.
+/// The plain script of a scenario. A command that sets the state of a rule by its name has the rule's number in the text that is in
+/// force at its line.
 pub fn settle_script(
     alloc: Global,
     scenario: &[u8],

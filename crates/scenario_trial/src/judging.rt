@@ -1,4 +1,4 @@
-//! How the rules of expectations stand where they are asked for, in one run.
+//! The states and results of the rules that expectations name, found in one run.
 
 ghost use Rattle.std.specs.Prelude.{◌≡◌, ◌-◌, ◌<◌, ◌≤◌, length, map, option_map, slice_index, IfErr, IfOk};
 ghost use Rattle.std.specs.List.{AllByRecursion};
@@ -22,7 +22,7 @@ use scenarios::DeclaredItems;
 use std::alloc::Global;
 
 impl<'a> Expectation<'a> {
-    /// The rule that it names, where it names one.
+    /// The rule that it names, if it names one.
     pub fn rule(self) -> Option<&'a [u8]>
         ensures { option_map (λ name. name.now) result ≡ rule_in (expected_of self.entry) }
     {
@@ -35,7 +35,7 @@ impl<'a> Expectation<'a> {
 }
 
 /// A run of a script: the rule texts with their table files, the schedule, what the texts declare, the script without its expectations,
-/// the stream that it says, and where in that each of its lines begins.
+/// its stream, and the place in the stream at which each line begins.
 #[derive(Clone, Copy)]
 pub struct Trial<'a, 't> {
     pub alloc: Global,
@@ -48,7 +48,7 @@ pub struct Trial<'a, 't> {
 }
 
 impl Trial<'_, '_> {
-    /// How the rule stands that an expectation names, where the run is: `NoRule` where it names none, or none that there is.
+    /// The state and the last result of the rule that an expectation names, at this point of the run; `NoRule` if there is no such rule.
     fn standing(&self, walk: &Walk<'_>, expectation: Expectation<'_>) -> RuleStanding
         requires under_way { IsUnderWay walk.now }
         ensures { result ≡ standing_named self.now.declared.now
@@ -67,7 +67,7 @@ impl Trial<'_, '_> {
         }
     }
 
-    /// The expectations, each with how its rule stands behind what the script says before its line, in a run that has not begun.
+    /// Each expectation with the state of its rule after all lines before it. The run has not begun.
     pub fn judge_each<'p>(
         &self,
         walk: &mut Walk<'_>,

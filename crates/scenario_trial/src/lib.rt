@@ -1,4 +1,4 @@
-//! A run as a test: what a script expects to come, and whether it has.
+//! Trials: a run over the stream of a script, and whether what the script expects has come.
 #![tactic(auto)]
 
 mod error;

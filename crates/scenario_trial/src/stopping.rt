@@ -1,4 +1,4 @@
-//! Where a run stops that doesn't go to the end of its stream.
+//! The place at which a run stops before the end of its stream.
 
 ghost use Rattle.std.specs.Prelude.{◌≡◌};
 ghost use Rattle.scenario_trial.specs.Arrivals.{is_whole};
@@ -18,7 +18,7 @@ pub fn is_whole(ending: Ending) -> bool
     }
 }
 
-/// How many records of a stream were handled before the run stopped.
+/// The number of records that were handled before the run stopped.
 fn records_before(ending: Ending) -> u64 {
     match ending {
         Ending::Whole { records } => records,
@@ -28,7 +28,7 @@ fn records_before(ending: Ending) -> u64 {
     }
 }
 
-/// How many bytes the first records of a stream have, so many or all.
+/// The size in bytes of the first records of a stream, up to this number of them.
 fn size_of_records(stream: &[u8], count: u64) -> usize {
     let mut rest = stream;
     for _ in 0..count {
@@ -43,8 +43,8 @@ fn size_of_records(stream: &[u8], count: u64) -> usize {
     stream.len().saturating_sub(rest.len())
 }
 
-/// The line of a script, from 1, whose record stopped the run over its stream: the last that begins where the records end that were
-/// handled.
+/// The line of a script, from 1, whose record stopped the run: the last line that begins at the end of the handled records, or before
+/// it.
 pub fn stop_line(said: &ScriptStream, ending: Ending) -> usize {
     let size = size_of_records(said.stream.as_slice(), records_before(ending));
     said.starts.iter().filter(|start| **start <= size).count()

@@ -1,4 +1,4 @@
-//! Why an expectation isn't met: what came in its place.
+//! Unmet expectations in words, with what came instead.
 
 ghost use Rattle.std.specs.Prelude.{◌≡◌};
 ghost use Rattle.scenario_trial.specs.Telling as model;
@@ -8,10 +8,10 @@ use lc_model::ApResult;
 use run_stepper::RuleStanding;
 use std::fmt::{self, Display, Formatter, Write};
 
-/// Of what came so many are told, at most.
+/// The most arrivals that a message names.
 const TOLD: usize = 3;
 
-/// Why an expectation isn't met.
+/// An unmet expectation, by what is found instead.
 #[derive(Clone, Copy)]
 pub enum Unmet<'a> {
     /// Nothing of this came within these seconds, among all that came.
@@ -49,7 +49,7 @@ impl Display for Arrival {
     }
 }
 
-/// Which arrivals are reported: of this alone, or all of the same application; within these seconds, or outside of them.
+/// Which arrivals a message names: of this kind and number, or all of the same application; within these seconds, or outside.
 #[derive(Clone, Copy)]
 struct Selection {
     what: What,
@@ -58,13 +58,13 @@ struct Selection {
     is_within: bool,
 }
 
-/// Whether a kind is of the host itself.
+/// Whether a kind is an event of the host itself.
 fn is_of_host(kind: ArrivalKind) -> bool {
     matches!(kind, ArrivalKind::HostEvent)
 }
 
 impl Selection {
-    /// Whether this arrival is reported.
+    /// Whether a message names this arrival.
     fn takes(self, one: Arrival) -> bool {
         let is_asked = if self.is_alone {
             self.what.is(one)
@@ -75,7 +75,7 @@ impl Selection {
     }
 }
 
-/// Says the first few of these behind some words, and answers whether there is one.
+/// Writes the first few of these arrivals after some words. Returns whether there is one.
 fn say_those<W: Write>(
     words: &str,
     which: Selection,
@@ -97,7 +97,7 @@ fn say_those<W: Write>(
     Ok(count > 0)
 }
 
-/// Says what came in the place of something that didn't: the same at other times, or else what came at its time.
+/// Writes what came instead: the expected arrival at other times, or else other arrivals in its seconds.
 fn say_missing<W: Write>(
     what: What,
     span: Span,
@@ -138,7 +138,7 @@ fn result_word(last: Option<ApResult>) -> &'static str
     }
 }
 
-/// Says how a rule isn't found.
+/// Writes why a rule isn't found.
 fn say_not_found<W: Write>(found: RuleStanding, f: &mut Formatter<W>) -> fmt::Result {
     match found {
         RuleStanding::NoRule => write!(f, "the tables in force have no such rule"),

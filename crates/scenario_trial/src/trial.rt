@@ -1,4 +1,4 @@
-//! A run of a script, and whether what it expects has come.
+//! A run over the stream of a script, and which of its expectations are met.
 
 ghost use Rattle.std.specs.Prelude.{◌≡◌, filter_map, find, length, map, None, Ok, IfErr, IfOk};
 ghost use Rattle.std.specs.List.{AllByRecursion};
@@ -9,7 +9,7 @@ ghost use Rattle.scenario_trial.specs.Judged.{unmet_of};
 ghost use Rattle.scenario_trial.specs.Outcomes.{IsPlainTried, IsTried};
 ghost use Rattle.scenario_trial.specs.Reading.{expectations_in, placed_of};
 ghost use Rattle.scenario_trial.specs.Untried.{IsNotRun, IsOfNobody, IsOwn, IsPlainUntried, IsUnexpected, IsUnsaid, IsUntried, plain_script_of, script_error_at};
-ghost use Rattle.scenario_trial.specs.Warned.{warnings_of};
+ghost use Rattle.scenario_trial.specs.Warned.{IsWarnedBefore, warnings_of};
 ghost use Rattle.stream_script.specs.ByLines.{AreStarts};
 ghost use Rattle.stream_script.specs.Script.{script_in};
 
@@ -22,7 +22,7 @@ use crate::judging::Trial;
 use crate::stopping::{is_whole, stop_line};
 use crate::telling::Unmet;
 use crate::verdict::{Judged, unmet_of};
-use crate::warning::{TrialWarning, warnings_of};
+use crate::warning::{TrialWarning, state_warnings, warnings_of};
 use diagnostics::Many;
 use packet_listing::{PacketLine, Sent, read_packet};
 use run_stepper::{Came, RunInputs, Trace, Walk, compile_texts, read_texts};
@@ -31,21 +31,21 @@ use std::alloc::{AllocError, Global};
 use std::io::{self, Write};
 use stream_script::{ScriptError, ScriptStream, read_script_by_lines};
 
-/// What a trial came to: how many expectations there are, and how many weren't met.
+/// The result of a trial: the number of expectations, and how many of them aren't met.
 #[derive(Clone, Copy, Debug, PartialEq, Eq)]
 pub struct Tried {
     pub expected: u64,
     pub unmet: u64,
 }
 
-/// What a trial came to, and what is to be looked at in its script.
+/// The result of a trial, and warnings about its script.
 #[derive(Drop)]
 pub struct TrialOutcome {
     pub tried: Tried,
     pub warnings: Vec<TrialWarning>,
 }
 
-/// The kind of an event with this sender, where it can be expected.
+/// The kind of an event with this sender, if such events can be expected.
 fn event_kind(sender: &[u8]) -> Option<ArrivalKind>
     ensures { result ≡ event_kind sender.now }
 {
@@ -58,7 +58,7 @@ fn event_kind(sender: &[u8]) -> Option<ArrivalKind>
     None
 }
 
-/// A request or an event of the Limit Checker or of the host, by its number, in the second of its record.
+/// A request, or an event of the Limit Checker or the host: its number, and the second of its record.
 fn arrival(came: &Came<'_>) -> Option<Arrival>
     ensures { result ≡ arrival_of came.now }
 {
@@ -83,7 +83,7 @@ fn arrival(came: &Came<'_>) -> Option<Arrival>
     }
 }
 
-/// What of the packets that came may be expected, in order. Out of memory is the only error.
+/// The packets that came and can be expected, in order. Out of memory is the only error.
 fn arrivals_of(alloc: Global, came: &[Came<'_>]) -> Result<Vec<Arrival>, AllocError>
     ensures { IfOk result (λ arrivals. arrivals.items ≡ filter_map arrival_of came.now) }
 {
@@ -96,7 +96,7 @@ fn arrivals_of(alloc: Global, came: &[Came<'_>]) -> Result<Vec<Arrival>, AllocEr
     Ok(arrivals)
 }
 
-/// Lists the packets that came, a line each, counted from 1.
+/// Writes a line for each packet that came, counted from 1.
 fn list_all<W: Write>(came: &[Came<'_>], out: &mut W) -> io::Result<()> {
     let mut number = 0u64;
     for one in came {
@@ -110,7 +110,7 @@ fn list_all<W: Write>(came: &[Came<'_>], out: &mut W) -> io::Result<()> {
     Ok(())
 }
 
-/// Why an expectation isn't met that isn't.
+/// Why an unmet expectation was not met.
 fn why<'a>(arrivals: &'a [Arrival], judged: &Judged<'_>) -> Unmet<'a> {
     match judged.placed.expectation {
         Expectation::Comes(Coming { what, span }) => Unmet::Missing {
@@ -128,7 +128,7 @@ fn why<'a>(arrivals: &'a [Arrival], judged: &Judged<'_>) -> Unmet<'a> {
     }
 }
 
-/// Writes a line for each expectation that isn't met.
+/// Writes a line for each unmet expectation.
 fn tell<W: Write>(
     name: &str,
     plain: &Plain,
@@ -145,7 +145,7 @@ fn tell<W: Write>(
     Ok(())
 }
 
-/// An error of a plain script, at the line of the scenario that says it.
+/// The error of a plain script, placed at the scenario's line from which its line comes.
 pub fn script_error_at(plain: &Plain, error: ScriptError) -> ScriptError
     ensures { result ≡ script_error_at plain.now.lines.items error }
 {
@@ -158,7 +158,7 @@ pub fn script_error_at(plain: &Plain, error: ScriptError) -> ScriptError
     }
 }
 
-/// The stream of a plain script without its expectations, with where each of its lines begins.
+/// The stream of a plain script without its expectations, and the place in it at which each line begins.
 pub(crate) fn stream_of(
     alloc: Global,
     plain: &Plain,
@@ -190,7 +190,7 @@ pub(crate) fn expectations_of<'p>(
     }
 }
 
-/// Whether an expectation is about a rule that no text has.
+/// Whether an expectation names a rule that no text has.
 fn has_no_rule(declared: &DeclaredItems<'_>, placed: &Placed<'_>) -> bool
     ensures { result ≡ has_no_rule declared.now (placed_of placed.now) }
 {
@@ -200,7 +200,7 @@ fn has_no_rule(declared: &DeclaredItems<'_>, placed: &Placed<'_>) -> bool
     }
 }
 
-/// The first of these expectations that is about a rule that no text has is refused.
+/// Refuses the first expectation that names a rule that no text has.
 pub(crate) fn check_rules(
     plain: &Plain,
     declared: &DeclaredItems<'_>,
@@ -221,7 +221,7 @@ pub(crate) fn check_rules(
     Ok(())
 }
 
-/// What becomes of a run: each expectation with how its rule stands, and what each record led to.
+/// Runs the script: each expectation with the state of its rule, and the packets of each record.
 fn run<'p>(
     trial: &Trial<'_, '_>,
     expectations: &[Placed<'p>],
@@ -252,7 +252,7 @@ fn run<'p>(
     }
 }
 
-/// Writes a line for each expectation that isn't met, and a last one with how many there are.
+/// Writes a line for each unmet expectation, and a last one with their number.
 fn report<W: Write>(
     alloc: Global,
     script: (&str, &Plain),
@@ -278,8 +278,8 @@ fn report<W: Write>(
     Ok(tried)
 }
 
-/// What becomes of a run that went to its stream's end: its expectations are judged by what came, where it has some; where it has none,
-/// the packets that came are listed.
+/// The result of a run that reached the end of its stream: with expectations, they are judged; without, the packets that came are
+/// listed.
 fn judge<W: Write>(
     trial: &Trial<'_, '_>,
     script: (&str, &Plain),
@@ -319,8 +319,8 @@ fn judge<W: Write>(
     Ok(TrialOutcome { tried, warnings })
 }
 
-/// What becomes of a plain script: a run over the stream that it says without its expectations, which are judged. A run that stops
-/// before the stream's end is refused, and so is an expectation about a rule that no text has.
+/// Runs a plain script without its expectations, and judges them. A run that stops before the stream's end is an error, and so is an
+/// expectation that names a rule that no text has.
 fn try_plain<W: Write>(
     alloc: Global,
     name: &str,
@@ -364,12 +364,24 @@ fn try_plain<W: Write>(
     )
 }
 
-/// Runs rule texts over the stream that a scenario says in their words. Without expectations in it, the packets that came are listed. Else
-/// a line is written for each expectation that isn't met, with what came in its place, and a last one with how many there are.
+/// The outcome of a run, with these warnings before its own. Out of memory is the only error.
+fn with_warnings(first: Vec<TrialWarning>, run: TrialOutcome) -> Result<TrialOutcome, AllocError>
+    ensures { IfOk result (IsWarnedBefore first.items run) }
+{
+    let mut warnings = first;
+    warnings.extend_from_slice(run.warnings.as_slice())?;
+    Ok(TrialOutcome {
+        tried: run.tried,
+        warnings,
+    })
+}
+
+/// Runs rule texts over the stream of a scenario, which may use the texts' names. Without expectations, the packets that came are listed.
+/// With some, a line is written for each that isn't met, with what came instead, and a last one with their number.
 ///
-/// Errors: `Rules` with the first text that doesn't compile, and `Scenario`, `Expectation` and `Script` with the first line that
-/// can't be read, `NoRule` with the first expectation about a rule that no text has, and `Stopped` with the line whose record stopped the
-/// run, before anything is written; `Memory`; `Write`, where the writer fails.
+/// Errors: `Rules` for the first text that doesn't compile; `Scenario`, `Expectation` or `Script` for the first line that can't be read;
+/// `NoRule` for the first expectation that names a rule of no text; `Stopped` with the line whose record stopped the run; `Unsettled`;
+/// all before anything is written. `Memory`. `Write` if the output refuses bytes.
 pub fn try_scenario<W: Write>(
     alloc: Global,
     name: &str,
@@ -385,5 +397,9 @@ pub fn try_scenario<W: Write>(
     let texts = read_texts(alloc, plan.texts)?;
     let declared = declared_in(alloc, texts.as_slice())?;
     let plain = settle_script(alloc, scenario, plan, &declared)?;
-    try_plain(alloc, name, plan, &declared, &plain, out)
+    let first = state_warnings(alloc, &declared, scenario)?;
+    match try_plain(alloc, name, plan, &declared, &plain, out) {
+        Ok(run) => Ok(with_warnings(first, run)?),
+        Err(error) => Err(error),
+    }
 }

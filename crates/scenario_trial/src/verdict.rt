@@ -10,7 +10,7 @@ use lc_model::{ApMode, ApResult};
 use run_stepper::RuleStanding;
 use std::alloc::{AllocError, Global};
 
-/// An expectation, and how its rule stands: `NoRule` where it names none, or none that there is.
+/// An expectation, and the state of its rule: `NoRule` if it names none, or none that there is.
 #[derive(Clone, Copy)]
 pub struct Judged<'a> {
     pub placed: Placed<'a>,
@@ -43,7 +43,7 @@ fn has_result(last: Option<ApResult>, found: RuleStanding) -> bool
     }
 }
 
-/// Whether an expectation is met, by what came and what was found of its rule.
+/// Whether an expectation is met, by the arrivals and the state of its rule.
 fn is_met(came: &[Arrival], found: RuleStanding, expectation: Expectation<'_>) -> bool
     ensures { result ≡ is_met came.now found (expected_of expectation.entry) }
 {
@@ -62,7 +62,7 @@ fn is_unmet(came: &[Arrival], judged: &Judged<'_>) -> bool
     !is_met(came, judged.found, judged.placed.expectation)
 }
 
-/// The expectations that aren't met, in order. Out of memory is the only error.
+/// The unmet expectations, in order. Out of memory is the only error.
 pub fn unmet_of<'a>(
     alloc: Global,
     came: &[Arrival],

@@ -1,24 +1,28 @@
-//! What is to be looked at in a script that was tried.
+//! Warnings about a script that was tried.
 
 ghost use Rattle.std.specs.Prelude.{◌≡◌, List, filter_map, find, map, option_map, IfOk};
 ghost use Rattle.std.specs.List.{list_any};
 ghost use Rattle.run_stepper.specs.Trace.{Arrived};
+ghost use Rattle.lc_model.specs.Host.ScheduleText.{lines_of, words_of};
+ghost use Rattle.text_lines.specs.Lines.{texts_of};
 ghost use Rattle.scenario_trial.specs.Arrivals.{arrival_of};
 ghost use Rattle.scenario_trial.specs.Reading.{placed_of};
-ghost use Rattle.scenario_trial.specs.Warned.{asked_by, asks_checker, has_many_numbers, idle_warning, is_kind_of_checker, is_of_checker, numbers_warning, numbers_warnings, warnings_of};
+ghost use Rattle.scenario_trial.specs.Warned.{asked_by, asks_checker, has_many_numbers, idle_warning, is_kind_of_checker, is_of_checker, numbers_warning, numbers_warnings, state_rule, state_warning, state_warnings, warnings_of};
 
 use crate::expectation::{Arrival, ArrivalKind, Expectation};
 use crate::expectation_lines::Placed;
+use crate::expectation_words::is;
 use run_stepper::Came;
 use scenarios::{DeclaredItems, Plain};
 use std::alloc::{AllocError, Global};
+use text_lines::{first_line, words};
 
-/// What is to be looked at in a script that was tried. Lines are the scenario's, counted from 1.
+/// A warning about a script that was tried. Lines are the scenario's, counted from 1.
 #[derive(Clone, Copy, Debug, PartialEq, Eq)]
 pub enum TrialWarning {
     /// This line names a rule to which the texts give different numbers: the text in force decides.
     ManyNumbers { n: usize },
-    /// This line is the first to expect something, and nothing came of the Limit Checker.
+    /// This line has the first expectation about the Limit Checker, and nothing came of the Limit Checker.
     NothingRan { n: usize },
     /// Nothing is expected, and nothing came.
     NothingTried,
@@ -34,7 +38,7 @@ fn has_many_numbers(declared: &DeclaredItems<'_>, placed: &Placed<'_>) -> bool
     }
 }
 
-/// The warning of an expectation's rule, where there is one.
+/// The warning about the rule of an expectation, if there is one.
 fn numbers_warning(
     declared: &DeclaredItems<'_>,
     plain: &Plain,
@@ -50,7 +54,7 @@ fn numbers_warning(
     None
 }
 
-/// The warnings of the rules of expectations, in their order. Out of memory is the only error.
+/// The warnings about the rules of expectations, in order. Out of memory is the only error.
 fn numbers_warnings(
     alloc: Global,
     declared: &DeclaredItems<'_>,
@@ -69,14 +73,73 @@ fn numbers_warnings(
     Ok(found)
 }
 
-/// Whether a request or an event of this kind is of the Limit Checker, and not of the host itself.
+/// The rule whose state a line of a scenario with these words sets.
+fn state_rule<'a>(words: &[&'a [u8]]) -> Option<&'a [u8]>
+    ensures { option_map (λ name. name.now) result ≡ state_rule (texts_of words.now) }
+{
+    match words {
+        [verb, name, _state] => if is(verb, b"state") {
+            Some(*name)
+        } else {
+            None
+        },
+        [] | [_] | [_, _] => None,
+        [_, _, _, _, ..] => None,
+    }
+}
+
+/// The warning of a line of a scenario, if it sets the state of a rule to which the texts give different numbers. Out of memory is the
+/// only error.
+fn state_warning(
+    alloc: Global,
+    declared: &DeclaredItems<'_>,
+    n: usize,
+    line: &[u8],
+) -> Result<Option<TrialWarning>, AllocError>
+    ensures { IfOk result (λ found. found ≡ state_warning declared.now n line.now) }
+{
+    let words = words(alloc, line)?;
+    match state_rule(words.as_slice()) {
+        Some(name) => if declared.numbers_differ(name) {
+            Ok(Some(TrialWarning::ManyNumbers { n }))
+        } else {
+            Ok(None)
+        },
+        None => Ok(None),
+    }
+}
+
+/// The warnings of the lines of a scenario that set the state of a rule to which the texts give different numbers, in order. Out of memory
+/// is the only error.
+pub fn state_warnings(
+    alloc: Global,
+    declared: &DeclaredItems<'_>,
+    scenario: &[u8],
+) -> Result<Vec<TrialWarning>, AllocError>
+    ensures { IfOk result (λ found. found.items ≡ state_warnings declared.now scenario.now) }
+{
+    let mut found = Vec::new(alloc);
+    let mut left = Some(scenario);
+    let mut n = 0;
+    while let Some(text) = left {
+        let (line, rest) = first_line(text);
+        n += 1;
+        if let Some(warning) = state_warning(alloc, declared, n, line)? {
+            found.push(warning)?;
+        }
+        left = rest;
+    }
+    Ok(found)
+}
+
+/// Whether requests or events of this kind are of the Limit Checker, and not of the host itself.
 fn is_kind_of_checker(kind: ArrivalKind) -> bool
     ensures { result ≡ is_kind_of_checker kind }
 {
     kind.number() != 2
 }
 
-/// Whether something of what came is of the Limit Checker.
+/// Whether one of the arrivals is of the Limit Checker.
 fn has_run(arrivals: &[Arrival]) -> bool
     ensures { result ≡ list_any is_of_checker arrivals.now }
 {
@@ -108,7 +171,7 @@ fn first_of_checker<'e, 'a>(expectations: &'e [Placed<'a>]) -> Option<&'e Placed
     None
 }
 
-/// The warning of a run in which nothing came of the Limit Checker, if something is expected of it.
+/// The warning that nothing came of the Limit Checker, if something is expected of it.
 fn unrun_warning(
     plain: &Plain,
     expectations: &[Placed<'_>],
@@ -125,7 +188,7 @@ fn unrun_warning(
     }
 }
 
-/// The warning of a run in which nothing was tried, where that is so.
+/// The warning that nothing was tried, or that nothing came of the Limit Checker, if that is so.
 fn idle_warning(
     plain: &Plain,
     expectations: &[Placed<'_>],
@@ -142,8 +205,8 @@ fn idle_warning(
     }
 }
 
-/// What is to be looked at in a script: each rule of its expectations to which the texts give different numbers, and whether nothing was
-/// tried. Out of memory is the only error.
+/// The warnings about a script: each expectation of a rule to which the texts give different numbers, and whether nothing was tried.
+/// Out of memory is the only error.
 pub fn warnings_of(
     alloc: Global,
     declared: &DeclaredItems<'_>,

@@ -20,7 +20,7 @@ stopped run.Memory = 5
 abbrev pub status_of : Fault → ℕ
 status_of (Words error) = 2
 status_of NoText = 2
-status_of (Value option word) = 2
+status_of (Value option word advice) = 2
 status_of Table = 1
 status_of Early = 4
 status_of (Stream name error) = stopped error

@@ -19,8 +19,8 @@ pub enum Fault<'a> {
     Words(Error),
     /// A word of the command line is not UTF-8.
     NoText,
-    /// An option, and its word, which is not one of its values.
-    Value(&'a str, &'a str),
+    /// An option; its word, or the option that it does not go with; and what to write instead.
+    Value(&'a str, &'a str, &'a str),
     /// A table file has a fault. The listing reports it.
     Table,
     /// A stream, packets or an archive end early. The output reports it.
@@ -129,22 +129,12 @@ impl Fault<'_> {
     }
 }
 
-/// What to write for an option whose value is refused.
-fn value_advice(option: &str) -> &'static str {
-    match option {
-        "--epoch" => "write an instant, as 2000-01-01T12:00:00Z",
-        "--csv" => "one of the two, not both",
-        "--only" => "write message ids, as 0x0883,0x0884",
-        _ => "no such value",
-    }
-}
-
 impl Display for Fault<'_> {
     fn fmt<W: Write>(&self, f: &mut Formatter<W>) -> fmt::Result {
         match self {
             Fault::Words(error) => write!(f, "{error}"),
             Fault::NoText => writeln!(f, "a word of the command line is no text (UTF-8)"),
-            Fault::Value(option, word) => writeln!(f, "{option} {word}: {}", value_advice(option)),
+            Fault::Value(option, word, advice) => writeln!(f, "{option} {word}: {advice}"),
             Fault::Table | Fault::Early | Fault::Gone | Fault::Refused | Fault::Warned => Ok(()),
             Fault::Differs | Fault::Unmet => Ok(()),
             Fault::Lines(page) => write!(f, "{page}"),

@@ -1,7 +1,7 @@
 //! The lines of packets.
 
 use crate::claims::same;
-use packet_listing::{PacketLine, list_whole};
+use packet_listing::{PacketLine, list_named};
 use std::alloc::{AllocError, Global};
 use std::process::Abort;
 
@@ -145,7 +145,7 @@ fn are_listed<R: Abort + AllocGlobal>(rt: &R, rows: &[PacketRow]) {
     for &(size, parts, line) in rows {
         let bytes = packet(rt.alloc(), size, parts).expect(rt, "memory for a packet");
         let mut listing = Vec::new(rt.alloc());
-        let _listed = list_whole(bytes.as_slice(), 0, &mut listing).expect(
+        let _listed = list_named(bytes.as_slice(), 0, &[], &mut listing).expect(
             rt,
             "memory for a listing",
         );

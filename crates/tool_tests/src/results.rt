@@ -66,6 +66,10 @@ const TEN_RECORDS: ResultRow = (
             1,
         ),
         (r#""requests_left_out":null"#, 1),
+        (
+            r#""commands":[[1,0,"half wdt 0 /cf/lc_def_wdt.tbl"],[2,65536,"half adt 0 /cf/lc_def_adt.tbl"],[3,131072,"start LC"],[5,262144,"sample 65535 65535 keep"],[7,393216,"sample 65535 65535 keep"],[9,524288,"sample 65535 65535 keep"],[10,589824,"housekeeping"]],"commands_left_out":null}"#,
+            1,
+        ),
         (r#""status":0,"says":"10 records","whole":true"#, 1),
     ],
 );
@@ -108,6 +112,10 @@ const TURNED_OFF: ResultRow = (
         ),
         (
             r#""mode":[[1,0,"absent"],[3,131072,"active"],[6,327680,"passive"],[7,393216,"absent"]]"#,
+            1,
+        ),
+        (
+            r#",[4,196608,"state LOW disabled"],[5,262144,"state LOW off"],[6,327680,"mode passive"],[7,393216,"stop LC"]]"#,
             1,
         ),
     ],
@@ -178,7 +186,8 @@ fn each_result_stands_behind_its_records(rt: HostRuntime) {
 }
 
 /// Records 1 to 5: the first text, and a failing sample. 6 to 11: the second text's files are loaded and judged. 12 to 14: the
-/// verdicts, and both halves wait. 15: a tick. 16: they are adopted. 17 and 18: a passing sample.
+/// verdicts, and both halves wait. 15: a tick. 16: they are adopted. 17 and 18: a passing sample. 19: a command, with the name of the
+/// second text's rule.
 const SWAPPED: ResultRow = (
     &[
         LOW,
@@ -198,12 +207,18 @@ const SWAPPED: ResultRow = (
         TICK,
         ASK,
         PASS,
+        b"after 1\ncommand 18a4 3 00000001\n",
     ],
     &[
         (
             r#""lanes":[[[1,0,1,0],[3,131072,2,1],[5,262144,32,1],[16,983040,2,1],[18,1114112,4,1]]]"#,
             1,
         ),
+        (
+            r#",[6,327680,"half wdt 1 /cf/wdt.tbl"],[7,393216,"half adt 1 /cf/adt.tbl"],[8,458752,"load /cf/wdt.tbl"],"#,
+            1,
+        ),
+        (r#",[19,1179648,"state LOWER active"]],"#, 1),
         (
             r#""tables":[[1,0,null,"none"],[3,131072,0,"started"],[16,983040,1,"adopted"]]"#,
             1,
@@ -391,6 +406,7 @@ const LANES: &[(&str, usize)] = &[
         r#""values":[[4,196608,2400],[10004,655556608,2399],[10024,656867328,2400]]"#,
         1,
     ),
+    (r#""commands_left_out":[9404,599,19405]"#, 1),
 ];
 
 #[test]

@@ -46,10 +46,21 @@ def expect_bands(look):
     names = look.ask("[...document.querySelectorAll('.cell.band')].map(each => each.getAttribute('aria-label'))")
     look.expect(sum("text 0 (rules_0.txt)" in name for name in names) == 2 and sum("text 1" in name for name in names) == 1, f"bands: {names}")
     look.do("openLane(lanes[0], true)")
+    expect_commands(look)
     limits = look.ask("[...document.querySelectorAll('.limit_text')].map(each => each.textContent)")
     look.expect({"> 6000", "> 4500"} <= {limit.split(",")[0] for limit in limits}, f"limits of both texts: {limits}")
     why = look.ask("whyOf(run.requests[0]).innerText || whyOf(run.requests[0]).textContent")
     look.expect(why.count("CURRENT_3 > 800") >= 4 and "Sample 3 of 3" in why, "a request doesn't say why")
+
+
+def expect_commands(look):
+    """Each command is a mark that says its first word, and its words where it is opened; a rule has its name in the text in force."""
+    says = look.ask("run.commands.map(([, , says]) => says)")
+    look.expect({"start LC", "mode passive", "state FAST_1 disabled", "half wdt 1 /cf/w.tbl"} <= set(says), f"commands: {says}")
+    marks = look.ask("[...document.querySelectorAll('.mark.command')].map(each => each.textContent)")
+    look.expect("◆ state" in marks, f"marks of commands: {marks}")
+    look.do("[...document.querySelectorAll('.mark.command')].find(each => each.textContent === '◆ state').click()")
+    look.expect("command state FAST_1 disabled" in look.ask("byId('panel').textContent"), "a command's mark doesn't say its words")
 
 
 def expect_hex(look):
@@ -83,6 +94,7 @@ def expect_bounds_told(look):
     """What isn't in the page is told, with how much it is."""
     look.show()
     look.expect(look.ask("run.events_left_out !== null && byId('rows_shown').textContent.includes(run.events_left_out[0] + ' events')"), "events are left out in silence")
+    look.expect(look.ask("run.commands_left_out !== null && byId('rows_shown').textContent.includes(run.commands_left_out[0] + ' commands')"), "commands are left out in silence")
     look.expect(look.ask("run.tables.at(-1)[3] === 'untold'") and look.ask("document.body.textContent.includes('not told any more')"), "tables are untold in silence")
 
 

@@ -11,7 +11,7 @@ from kept import Changes, Ends, Pool, joined_bits, joined_values
 TICK = 65_536
 RESULT = {"absent": 1, "none": 2, "pass": 4, "stale": 8, "error": 16, "fail": 32}
 STATE = {None: 0, "active": 1, "passive": 2, "disabled": 4, "off": 8}
-MOST = {"entries": 22_528, "bands": 500, "requests": 600, "events": 2_000, "parts": 3_072}
+MOST = {"entries": 22_528, "bands": 500, "requests": 600, "events": 2_000, "parts": 3_072, "commands": 600}
 
 
 class Rule:
@@ -46,7 +46,7 @@ class Course:
         self.met = {}  # field: record, time, value, agings, since the tables are in force
         self.text, self.standings, self.mode = None, [], "absent"
         self.tables, self.modes = [], []
-        self.requests, self.events = Ends(MOST["requests"]), Ends(MOST["events"])
+        self.requests, self.events, self.commands = Ends(MOST["requests"]), Ends(MOST["events"]), Ends(MOST["commands"])
         self.counts, self.parts, self.ordered, self.full = 0, 0, True, False
 
     # What comes.
@@ -55,13 +55,16 @@ class Course:
         self.time += round(seconds * TICK)
         self.ordered = self.ordered and seconds >= 0
 
-    def record(self, kind):
+    def record(self, kind, says=None):
+        """A record of this kind; `says` is what a command, a file or a half says."""
         self.figures["records"] += 1
         self.figures[kind] += 1
         if self.figures["records"] == 1:
             self.first = self.time
             self.tables.append([1, 0, None, "none"])
             self.modes.append([1, 0, "absent"])
+        if says is not None:
+            self.commands.add([*self.here, says], self.figures["records"])
         self.keep()
         return self.figures["records"]
 
@@ -92,22 +95,23 @@ class Course:
         self.keep()
 
     def started(self, text):
-        self.record("files")
-        self.record("commands")
+        self.record("files", f"half wdt {text} /cf/lc_def_wdt.tbl")
+        self.record("commands", "start LC")
         self.mode = "active"
         self.band(self.modes, ["active"])
         self.put_in_force(text, "started")
         self.event("LC", 1, "info", "started with tables")
 
     def adopted(self, text):
-        self.record("files")
-        self.record("commands")
+        self.record("files", "file /cf/w.tbl 1316 bytes" if text is None else f"half wdt {text} /cf/w.tbl")
+        self.record("commands", "housekeeping")
         self.put_in_force(text, "adopted")
         self.event("LC", 2, "info", "tables adopted")
 
     def command(self, what, *values):
         """A command that sets the mode, or the state of a rule."""
-        self.record("commands")
+        named = values if what == "mode" else (self.texts[self.text][values[0]].name, *values[1:])
+        self.record("commands", " ".join((what, *named)))
         if what == "mode":
             self.mode = values[0]
             self.band(self.modes, [self.mode])
@@ -209,6 +213,7 @@ class Course:
             "lanes": [lane.written() for lane in self.lanes], "tables": self.tables, "mode": self.modes,
             "requests": self.requests.items(), "requests_left_out": self.requests.left_out(),
             "events": self.events.items(), "events_left_out": self.events.left_out(),
+            "commands": self.commands.items(), "commands_left_out": self.commands.left_out(),
         }  # fmt: skip
 
     def field_of(self, name):

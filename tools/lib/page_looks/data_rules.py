@@ -3,13 +3,13 @@
 import json
 import re
 
-MOST_ENTRIES, MOST_BAND, MOST_REQUESTS, MOST_EVENTS, MOST_PARTS = 22_528, 500, 600, 2_000, 3_072
-MOST_BYTES = 1_950_000  # of 100,000 records, without texts and files
+MOST_ENTRIES, MOST_BAND, MOST_REQUESTS, MOST_EVENTS, MOST_PARTS, MOST_COMMANDS = 22_528, 500, 600, 2_000, 3_072, 600
+MOST_BYTES = 2_050_000  # of 100,000 records, without texts and files
 RESULT_BITS = {1, 2, 4, 8, 16, 32}
 STATE_BITS = {0, 1, 2, 4, 8}
 MEMBERS = {
     "object": "format program ended files figures start end ordered epoch texts fields lanes tables mode requests requests_left_out events "
-    "events_left_out",
+    "events_left_out commands commands_left_out",
     "ended": "status says whole",
     "file": "role name bytes sha256",
     "figures": "records telemetry commands ticks files packets requests housekeeping critical error info debug other",
@@ -123,10 +123,14 @@ class Data:
         self.expect(parts <= MOST_PARTS, f"{parts} parts")
         self.places([[each["record"], each["time"]] for each in run["requests"]], "requests")
         self.places([event[1:3] for event in run["events"]], "events")
+        self.places(run["commands"], "commands")
+        self.expect(all(len(entry) == 3 and entry[2] for entry in run["commands"]), "a command without words")
         packets = [each["packet"] for each in run["requests"]] + [event[0] for event in run["events"]]
         self.expect(len(packets) == len(set(packets)), "two with one packet")
         events = sum(run["figures"][level] for level in ["critical", "error", "info", "debug"])
-        for name, all_, most in [("requests", run["figures"]["requests"], MOST_REQUESTS), ("events", events, MOST_EVENTS)]:
+        commands = run["figures"]["commands"] + run["figures"]["files"]
+        bounds = [("requests", run["figures"]["requests"], MOST_REQUESTS), ("events", events, MOST_EVENTS), ("commands", commands, MOST_COMMANDS)]
+        for name, all_, most in bounds:
             left = run[f"{name}_left_out"]
             self.expect(len(run[name]) <= most, f"{len(run[name])} {name}")
             self.expect(len(run[name]) + (left[0] if left else 0) == all_, f"{name} and those left out aren't all")

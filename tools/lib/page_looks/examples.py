@@ -126,7 +126,7 @@ def full():
     run = Course(fields, [rules], 2_000_000_000.5)
     run.started(0)
     packets = [[name for name in fields if fields[name]["packet"] == f"P{packet}"] for packet in range(4)]
-    for second in range(23_800):
+    for second in range(23_300):
         run.after(60.7)
         for packet, names in enumerate(packets):
             values = {name: -1_999_999_999 + (second * 7_919 + place * 104_729) % 1_500_000_007 for place, name in enumerate(names)}
@@ -135,6 +135,8 @@ def full():
             run.tick()
         if second % 45 == 0:
             run.adopted(0)
+        if second % 40 == 0:
+            run.command("state", second % 176, "active")
     return run.data()
 
 

@@ -238,6 +238,7 @@ ROWS = [
         after={"stream": recorded(TOO_LONG + TEN[1][:1], 100, 0x8000)},
     ),
     Row("an id that is none", [*IMPORT, "--only", "0x0883,volts", "raw", "stream"], {"raw": PLAIN}, status=2, error=b"--only 0x0883,volts: write message ids, as 0x0883,0x0884\n"),
+    Row("an epoch of an import that is no number", [*IMPORT, "--epoch", "noon", "raw", "stream"], {"raw": PLAIN}, status=2, error=b"--epoch noon: no such value\n"),
     Row("a step that is none", [*IMPORT, "--step", "1.", "raw", "stream"], {"raw": PLAIN}, status=2, error=b"--step 1.: no such value\n"),
     Row("a stream in the place of an archive", [*IMPORT, "raw", "raw"], {"raw": PLAIN}, status=3, error=b"cannot use raw: the same call reads it, or writes it twice\n"),
     Row("no archive of that name", [*IMPORT, "raw", "stream"], {"stream": b"old"}, status=3, error=b"cannot use raw: %s\n" % NOT_THERE),

@@ -27,6 +27,7 @@ returns c sources are = record {
     before = c.in_ok-before.ensures i;
     bands = c.new.ensures i;
     sending = c.new-2.ensures i;
-    figures = c.new-3.ensures i;
+    uplinks = c.new-3.ensures i;
+    figures = c.new-4.ensures i;
   };
 }
