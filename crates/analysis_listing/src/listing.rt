@@ -9,7 +9,9 @@ use crate::lines::{NameSource, ShownTerm, Title, Values};
 use crate::said::{RuleFindings, said_of};
 use lc_model::{Rule, Term};
 use rpn_compiler::RuleText;
-use rule_analysis::{ComparisonJudgement, Constancy, Finding, RuleJudgement, UnknownReason, judge};
+use rule_analysis::{
+    ComparisonJudgement, Constancy, Finding, RuleJudgement, UnknownReason, bits_read, field_of, judge,
+};
 use rule_parser::Item;
 use std::alloc::{AllocError, Global};
 use std::io::Write;
@@ -35,41 +37,15 @@ pub fn terms_in(
     Ok(terms)
 }
 
-/// The byte of a mask with this number; 0 is the lowest.
-fn mask_byte(mask: u32, number: u32) -> u32 {
-    match number {
-        0 => mask & 0xFF,
-        1 => (mask >> 8) & 0xFF,
-        2 => (mask >> 16) & 0xFF,
-        _ => mask >> 24,
-    }
-}
-
-/// The bits that a comparison reads of its packet's byte at this place.
-fn bits_read(term: &Term, place: u32) -> u32 {
-    let Some(after) = place.checked_sub(term.offset) else {
-        return 0;
-    };
-    let last = (term.kind.width() as u32).saturating_sub(1);
-    if after > last {
-        return 0;
-    }
-    let number = if term.kind.is_little() {
-        after
-    } else {
-        last - after
-    };
-    mask_byte(term.mask, number)
-}
-
 /// The words for the part of its packet's header that a comparison reads, if a stream's packets have fixed bits there (CCSDS 133.0-B,
 /// primary header).
 fn header_part(term: &Term) -> Option<&'static str> {
-    if bits_read(term, 0) != 0 || bits_read(term, 1) != 0 {
+    let field = field_of(term);
+    if bits_read(&field, 0) != 0 || bits_read(&field, 1) != 0 {
         Some("a field shares bits with its packet's message id")
-    } else if bits_read(term, 2) & 0xC0 != 0 {
+    } else if bits_read(&field, 2) & 0xC0 != 0 {
         Some("a field shares bits with its packet's sequence flags")
-    } else if bits_read(term, 4) != 0 || bits_read(term, 5) != 0 {
+    } else if bits_read(&field, 4) != 0 || bits_read(&field, 5) != 0 {
         Some("a field shares bits with its packet's length")
     } else {
         None

@@ -46,8 +46,9 @@ pub(crate) fn byte_there(field: &Field, number: u32, place: usize) -> u8
     }
 }
 
-/// The bits that the field reads of the packet's byte at this place.
-pub(crate) fn bits_read(field: &Field, place: usize) -> u8
+/// The bits that the field reads of the packet's byte at this place, counted from the first byte of the packet's header; 0 beside
+/// the field.
+pub fn bits_read(field: &Field, place: usize) -> u8
     ensures { result ≡ bits_read field.now place }
 {
     byte_there(field, field.mask, place)

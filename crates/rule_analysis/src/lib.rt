@@ -19,6 +19,7 @@ mod spare;
 mod thresholds;
 mod walk;
 
+pub use bits::bits_read;
 pub use fields::{Field, field_of};
 pub use finding::{
     ComparisonJudgement, Constancy, Finding, Judgement, PairJudgement, Relation, RuleJudgement,

@@ -1,4 +1,4 @@
-//! Common mistakes of grammar: words and signs of other languages, clauses in another order, a parenthesis too many.
+//! Common mistakes of grammar: words and signs of other languages, clauses in another order or twice, a parenthesis too many.
 
 use crate::source::{NameKind, Source};
 use crate::wanted::OPERAND_WORDS;
@@ -21,6 +21,23 @@ fn is_floating(word: &[u8]) -> bool {
 /// Whether a token follows another with nothing between them.
 fn touches(before: Token<'_>, token: Token<'_>) -> bool {
     before.at.saturating_add(before.text.len()) == token.at
+}
+
+/// Whether a word of this kind begins a clause of a declaration.
+fn begins_clause(kind: TokenKind) -> bool {
+    match kind {
+        TokenKind::Mid
+        | TokenKind::Length
+        | TokenKind::At
+        | TokenKind::Mask
+        | TokenKind::Stale
+        | TokenKind::Fails
+        | TokenKind::Sequence
+        | TokenKind::Event
+        | TokenKind::Report
+        | TokenKind::When => true,
+        _ => false,
+    }
 }
 
 /// A place at which the grammar expects something, and what is there.
@@ -88,8 +105,23 @@ impl<'s, 'a> Mistake<'s, 'a> {
         }
     }
 
+    /// Whether the token begins a clause that its item has already.
+    fn is_repeated(self) -> bool {
+        if !begins_clause(self.token.kind) {
+            return false;
+        }
+        let part = self.source.part_of(self.number);
+        match self.source.first_of(part, self.token.kind) {
+            Some(first) => first.at < self.token.at,
+            None => false,
+        }
+    }
+
     /// What to do, in words that need nothing of the text.
     fn plain_label(self) -> Option<&'static str> {
+        if self.is_repeated() {
+            return Some("this clause stands twice: leave one out");
+        }
         match self.sign_label() {
             Some(label) => return Some(label),
             None => {}
@@ -100,11 +132,14 @@ impl<'s, 'a> Mistake<'s, 'a> {
         }
     }
 
-    /// The word that has to stand before this one in its item, and stands after it.
+    /// The word that has to stand before this one, the beginning of another clause, in its item, and stands after it.
     fn later_word(self) -> Option<Token<'a>> {
         let What::Word(word) = self.what else {
             return None;
         };
+        if !begins_clause(self.token.kind) {
+            return None;
+        }
         let part = self.source.part_of(self.number);
         let later = self.source.first_of(part, word.kind())?;
         if self.token.at < later.at {

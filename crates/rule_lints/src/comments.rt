@@ -320,7 +320,7 @@ fn is_known(
 }
 
 /// The warnings of comments that are known to keep nothing quiet.
-pub(crate) fn known_ones(
+pub(crate) fn keep_known(
     alloc: Global,
     has_plan: bool,
     text: &[u8],

@@ -7,7 +7,7 @@ ghost use Rattle.rpn_compiler.specs.TextParts.{IsRuleText};
 ghost use Rattle.rule_parser.specs.Syntax.{items_of};
 ghost use Rattle.rule_lints.specs.Warned.{AreWarned, found, named, seen, told};
 
-use crate::comments::{known_ones, spare_quiets, without_quiet};
+use crate::comments::{keep_known, spare_quiets, without_quiet};
 use crate::declarations::declaration_warnings;
 use crate::judged_rules::judge_all;
 use crate::judging::{Judged, add_judged};
@@ -48,7 +48,7 @@ fn reported_warnings(
     let mut told = without_quiet(alloc, text, &found)?;
     let mut spare = Vec::new(alloc);
     spare_quiets(alloc, text, &found, &mut spare)?;
-    let known = known_ones(alloc, has_plan, text, &spare)?;
+    let known = keep_known(alloc, has_plan, text, &spare)?;
     told.extend_from_slice(known.as_slice())?;
     Ok(told)
 }

@@ -77,7 +77,7 @@ brought_by (Half name text) place a = record a { bands = stored name (Some text)
 abbrev pub come_by : Brings → Place → Account → Account
 come_by brings place a = brought_by brings place (record a { figures = with_record brings a.figures })
 
--- a ground command, a file or a half is kept with the text in force in front of it
+-- a ground command, a file or a half is kept with the text in force before it
 abbrev pub come : List ℕ → Place → Account → Account
 come bytes place a =
     record (come_by (brings bytes) place a) { uplinks = with_uplink (brings bytes) (uplink_of place a.bands.text bytes) a.uplinks }
