@@ -10,7 +10,8 @@ use crate::said::{RuleFindings, said_of};
 use lc_model::{Rule, Term};
 use rpn_compiler::RuleText;
 use rule_analysis::{
-    ComparisonJudgement, Constancy, Finding, RuleJudgement, UnknownReason, bits_read, field_of, judge,
+    ComparisonJudgement, Constancy, Finding, RuleJudgement, UnknownReason, bits_read, field_of,
+    judge,
 };
 use rule_parser::Item;
 use std::alloc::{AllocError, Global};

@@ -177,7 +177,7 @@ impl Counts {
         free: bool,
     ) -> Result<(), AllocError> {
         let judgement = judge(alloc, rules)?;
-        let pairs = judge_pairs(alloc, rules)?;
+        let pairs = judge_pairs(alloc, rules)?.related;
         if let [first, second] = rules.as_slice() {
             let tried = try_all(&first.cond, &second.cond, bits);
             if let [one, other] = judgement.rules.as_slice() {

@@ -42,7 +42,7 @@ fn show(rt: &HostRuntime, name: &str) -> anyhow::Result<()> {
     let source = fs::read(rt, name)?;
     let text = RuleText::read_valid(rt.alloc(), source.as_slice())?;
     list_outcomes(rt.alloc(), &text, &mut rt.stdout())?;
-    for message in &warnings(rt.alloc(), &text, None)? {
+    for message in &warnings(rt.alloc(), &text, None)?.messages {
         show_warning(rt, message)?;
     }
     Ok(())
@@ -73,7 +73,7 @@ fn show_unsampled(rt: &HostRuntime, name: &str, schedule: &str) -> anyhow::Resul
     let text = RuleText::read_valid(rt.alloc(), source.as_slice())?;
     let schedule = fs::read(rt, schedule)?;
     let schedule = parse_schedule(rt.alloc(), &schedule)?;
-    for message in &warnings(rt.alloc(), &text, Some(&schedule))? {
+    for message in &warnings(rt.alloc(), &text, Some(&schedule))?.messages {
         if message.warning == Some("never-sampled") {
             show_warning(rt, message)?;
         }

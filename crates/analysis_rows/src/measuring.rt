@@ -30,10 +30,10 @@ fn measure_table(rt: &HostRuntime, count: u16) -> anyhow::Result<()> {
     let _judgement = judge(alloc, &rules)?;
     let judged = start.elapsed(rt)?.as_micros();
     let start = Instant::now(rt)?;
-    let pairs = judge_pairs(alloc, &rules)?.len();
+    let pairs = judge_pairs(alloc, &rules)?.related.len();
     let paired = start.elapsed(rt)?.as_micros();
     let start = Instant::now(rt)?;
-    let spare = spare_comparisons(alloc, &rules)?.len();
+    let spare = spare_comparisons(alloc, &rules)?.spare.len();
     let spared = start.elapsed(rt)?.as_micros();
     println!(rt;
         "176 rules of 16 comparisons over {count} fields, in microseconds: rules {judged}"
@@ -49,7 +49,7 @@ fn measure_pairs(rt: &HostRuntime, count: u16) -> anyhow::Result<()> {
     let fields = fields(alloc, count)?;
     let rules = full_table(alloc, &fields, false, &mut Random::from_seed(50))?;
     let start = Instant::now(rt)?;
-    let pairs = judge_pairs(alloc, &rules)?.len();
+    let pairs = judge_pairs(alloc, &rules)?.related.len();
     let paired = start.elapsed(rt)?.as_micros();
     println!(rt; "  pairs of a common field among {count} fields {paired} ({pairs} told)")?;
     Ok(())

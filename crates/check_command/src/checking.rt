@@ -5,15 +5,15 @@ ghost use Rattle.lc_model.specs.Tables.Compiling.{limit_refusal};
 ghost use Rattle.lc_model.specs.Tables.InForce.{limits};
 ghost use Rattle.rpn_compiler.specs.TextParts.{IsRuleText};
 
-use crate::outcomes::write_outcomes;
+use crate::outcomes::{write_line, write_outcomes};
 use crate::totals::{CheckOptions, CheckResult, Totals};
 use diagnostics::Many;
 use rpn_compiler::{CompileError, RuleText};
 use rule_errors::messages;
-use rule_lints::warnings;
+use rule_lints::{Warnings, warnings};
 use schedules::Schedule;
 use script_errors::{Refusal, read_schedule};
-use std::alloc::Global;
+use std::alloc::{AllocError, Global};
 use std::fs::Files;
 use std::io::Write;
 use tool_faults::{
@@ -37,6 +37,37 @@ fn write_counts<'a, W: Write>(
     listing_result(writeln!(out, "{name}: {rules}, {told}{shown}"))
 }
 
+/// The parts of a text's rules that were not looked at to the end; `None` if there are none.
+fn unsettled_words(alloc: Global, told: &Warnings) -> Result<Option<String>, AllocError> {
+    let pairs = Many(told.unsettled_pairs, "pair");
+    let comparisons = Many(told.unsettled_comparisons, "comparison");
+    match (told.unsettled_pairs, told.unsettled_comparisons) {
+        (0, 0) => Ok(None),
+        (_, 0) => Ok(Some(format!(in alloc; "{pairs} of rules")?)),
+        (0, _) => Ok(Some(format!(in alloc; "{comparisons}")?)),
+        _ => Ok(Some(format!(in alloc; "{pairs} of rules and {comparisons}")?)),
+    }
+}
+
+/// Writes what was not looked at to the end, if there is any.
+fn write_unsettled<'a, W: Write>(
+    alloc: Global,
+    name: &'a str,
+    told: &Warnings,
+    is_json: bool,
+    out: &mut W,
+) -> Result<(), Fault<'a>> {
+    let Some(parts) = unsettled_words(alloc, told)? else {
+        return Ok(());
+    };
+    let count = told
+        .unsettled_pairs
+        .saturating_add(told.unsettled_comparisons);
+    let verb = if count == 1 { "was" } else { "were" };
+    let line = format!(in alloc; "{parts} {verb} not looked at to the end")?;
+    write_line(alloc, name, line.as_bytes(), is_json, out)
+}
+
 /// Writes the warnings of a valid rule text, and returns their number.
 fn judge<'a, W: Write>(
     alloc: Global,
@@ -50,15 +81,17 @@ fn judge<'a, W: Write>(
     requires within { limit_refusal limits text.now.rules.rules ≡ None }
 {
     let told = warnings(alloc, text, plan.as_ref())?;
-    write_warnings(alloc, name, text.bytes, told.as_slice(), asked.is_json, out)?;
+    let messages = told.messages.as_slice();
+    write_warnings(alloc, name, text.bytes, messages, asked.is_json, out)?;
     if asked.is_all {
         write_outcomes(alloc, name, text, asked.is_json, out)?;
     }
     if !asked.is_json {
-        write_counts(name, text.rules.rules.as_slice().len(), told.len(), out)?;
+        write_counts(name, text.rules.rules.as_slice().len(), messages.len(), out)?;
     }
+    write_unsettled(alloc, name, &told, asked.is_json, out)?;
     listing_result(out.flush())?;
-    Ok(told.len())
+    Ok(messages.len())
 }
 
 /// Writes the faults or warnings of the rule text in a file, and returns the result.

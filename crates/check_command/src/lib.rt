@@ -1,11 +1,14 @@
-//! The command `check`: reports the faults and warnings of rule texts before any packet comes.
+//! The command `check`: reports the faults and warnings of rule texts before any packet comes, and explains them.
 #![tactic(auto)]
 
 mod checking;
+mod explaining;
+mod explanations;
 mod outcomes;
 mod refused;
 mod totals;
 
 pub use crate::checking::check;
+pub use crate::explaining::explain;
 pub use crate::refused::told;
 pub use crate::totals::CheckOptions;

@@ -26,6 +26,21 @@ fn write_named<'a, W: Write>(name: &'a str, line: &[u8], out: &mut W) -> Result<
     listing_result(out.write_all(b"\n"))
 }
 
+/// Writes a line, after the name of its file or as a JSON object.
+pub(crate) fn write_line<'a, W: Write>(
+    alloc: Global,
+    name: &'a str,
+    line: &[u8],
+    is_json: bool,
+    out: &mut W,
+) -> Result<(), Fault<'a>> {
+    if is_json {
+        write_note(alloc, name, line, out)
+    } else {
+        write_named(name, line, out)
+    }
+}
+
 /// Writes lines, each after the name of its file or as a JSON object.
 fn write_lines<'a, W: Write>(
     alloc: Global,
@@ -35,13 +50,8 @@ fn write_lines<'a, W: Write>(
     out: &mut W,
 ) -> Result<(), Fault<'a>> {
     for line in lines.split(|byte| *byte == b'\n') {
-        if line.is_empty() {
-            continue;
-        }
-        if is_json {
-            write_note(alloc, name, line, out)?;
-        } else {
-            write_named(name, line, out)?;
+        if !line.is_empty() {
+            write_line(alloc, name, line, is_json, out)?;
         }
     }
     Ok(())

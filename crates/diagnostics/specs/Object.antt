@@ -7,6 +7,7 @@ use Rattle.serde_json.specs.Written.{compact_text}
 use Rattle.diagnostics.specs.Line.{line_number}
 use Rattle.diagnostics.specs.Character.{characters, column}
 use Rattle.diagnostics.specs.Window as window
+use Rattle.diagnostics.specs.declared.message.Edit.{Edit}
 use Rattle.diagnostics.specs.declared.message.Mark.{Mark}
 use Rattle.diagnostics.specs.declared.message.Message.{Message}
 use Rattle.diagnostics.specs.declared.object.Notice.{Notice}
@@ -43,19 +44,21 @@ abbrev pub number_or_null : Option ℕ → Data
 number_or_null None = null
 number_or_null (Some n) = number_of n
 
--- a notice, with its place or null, its other places and its warning's name or null
-abbrev members : (at code : Data) → (file level message : List ℕ) → Items → Data → Data
-members at code file level message others warning =
+-- a notice, with its place or null, its edit or null, its other places and its warning's name or null
+abbrev members : (at code edit : Data) → (file level message : List ℕ) → Items → Data → Data
+members at code edit file level message others warning =
     object (member (codes "at") at
     (member (codes "code") code
+    (member (codes "edit") edit
     (member (codes "file") (string file)
     (member (codes "level") (string level)
     (member (codes "message") (string message)
     (member (codes "others") (array others)
-    (member (codes "warning") warning no_members)))))))
+    (member (codes "warning") warning no_members))))))))
 
-abbrev pub told_object : Notice → Data → Items → Data → Data
-told_object told at others warning = members at (number_or_null told.code) told.file.now told.level.now told.message.now others warning
+abbrev pub told_object : Notice → Data → Data → Items → Data → Data
+told_object told at edit others warning =
+    members at (number_or_null told.code) edit told.file.now told.level.now told.message.now others warning
 
 -- the name of a warning, or null where there is none
 abbrev pub name_object : Option (Bor (List ℕ)) → Data
@@ -79,6 +82,14 @@ place_object text (Some mark) = mark_object text mark
 abbrev pub mark_objects : List ℕ → List Mark → Items
 mark_objects text marks = items_of (map (mark_object text) marks)
 
+-- an edit, or null where there is none
+abbrev pub edit_object : Option Edit → Data
+edit_object None = null
+edit_object (Some edit) =
+    object (member (codes "from") (number_of edit.from)
+    (member (codes "text") (string (string_bytes edit.text))
+    (member (codes "to") (number_of edit.to) no_members)))
+
 -- an error, or a warning, which has a name
 abbrev pub kind_of : Option (Bor (List ℕ)) → List ℕ
 kind_of None = codes "error"
@@ -92,7 +103,7 @@ code_of (Some name) code = None
 -- a message of a text in a file of this name
 abbrev pub message_object : (file text : List ℕ) → Message → Data
 message_object file text message =
-    members (place_object text message.first) (number_or_null (code_of message.warning message.code)) file (kind_of message.warning)
+    members (place_object text message.first) (number_or_null (code_of message.warning message.code)) (edit_object message.edit) file (kind_of message.warning)
     (string_bytes message.head) (mark_objects text message.others.items) (name_object message.warning)
 
 -- ---- lines
@@ -107,4 +118,4 @@ level_of is_warning = if is_warning then codes "warning" else codes "note"
 
 -- a notice about a file as a whole
 abbrev pub note_text : List ℕ → Bool → List ℕ → List ℕ
-note_text file is_warning note = compact_text (members null null file (level_of is_warning) note no_items null) ++ 10 ∷ []
+note_text file is_warning note = compact_text (members null null null file (level_of is_warning) note no_items null) ++ 10 ∷ []

@@ -22,7 +22,7 @@ pub use character::front_character;
 pub use grouped::{Grouped, Many, Signed};
 pub use likeness::nearest;
 pub use line::{line_of, line_start, written_line};
-pub use message::{Mark, Message};
+pub use message::{Edit, Mark, Message};
 pub use object_line::{message_line, note_line};
 pub use page::{MOST_TOLD, page_of, warnings_page_of};
 pub use parts::{behind, front};

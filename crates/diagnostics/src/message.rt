@@ -1,7 +1,7 @@
 //! A message for the author of a text.
 
-ghost use Rattle.std.specs.Prelude.{◌≡◌, ℕ, List, IfOk};
-ghost use Rattle.diagnostics.specs.Message.{IsAt, IsWarning};
+ghost use Rattle.std.specs.Prelude.{◌≡◌, ℕ, List, length, IfOk};
+ghost use Rattle.diagnostics.specs.Message.{IsAt, IsWarning, edited, is_inside, within};
 
 use std::alloc::{AllocError, Global};
 
@@ -14,6 +14,17 @@ pub struct Mark {
     pub size: usize,
     /// What the message says about them.
     pub label: String,
+}
+
+/// A change of a text: the bytes from one place to another are replaced.
+#[derive(Drop)]
+pub struct Edit {
+    /// Bytes of the text before the first that is replaced.
+    pub from: usize,
+    /// Bytes of the text up to the last that is replaced; the same as `from` where only something is added.
+    pub to: usize,
+    /// What is written in their place.
+    pub text: String,
 }
 
 /// A refusal of a text, or a warning about it.
@@ -29,6 +40,18 @@ pub struct Message {
     pub first: Option<Mark>,
     /// At most two other places that matter, with what stands there.
     pub others: Vec<Mark>,
+    /// The change of the text that does what the first mark says, if one change does it.
+    pub edit: Option<Edit>,
+}
+
+/// Whether an edit is one of a text of this many bytes, if there is one.
+fn is_inside(edit: &Option<Edit>, size: usize) -> bool
+    ensures { result ≡ is_inside size edit.now }
+{
+    match edit {
+        Some(edit) => edit.from <= edit.to && edit.to <= size,
+        None => true,
+    }
 }
 
 impl Message {
@@ -42,6 +65,7 @@ impl Message {
             head,
             first: Some(first),
             others: Vec::new(alloc),
+            edit: None,
         }
     }
 
@@ -55,6 +79,24 @@ impl Message {
             head,
             first: Some(first),
             others: Vec::new(alloc),
+            edit: None,
+        }
+    }
+
+    /// The message with this edit in the place of its own; `None` takes it away.
+    pub fn with_edit(mut self, edit: Option<Edit>) -> Message
+        ensures { result ≡ edited edit self }
+    {
+        self.edit = edit;
+        self
+    }
+
+    /// Takes away an edit that isn't inside the text.
+    pub fn keep_inside(&mut self, text: &[u8])
+        ensures { self.new ≡ within text.now self.old }
+    {
+        if !is_inside(&self.edit, text.len()) {
+            self.edit = None;
         }
     }
 

@@ -2,9 +2,9 @@
 
 ghost use Rattle.std.specs.Prelude.{◌≡◌, map, IfOk};
 ghost use Rattle.serde_json.specs.View.{view, items_view};
-ghost use Rattle.diagnostics.specs.Object.{mark_object, name_object, place_object, told_object};
+ghost use Rattle.diagnostics.specs.Object.{edit_object, mark_object, name_object, place_object, told_object};
 
-use crate::message::Mark;
+use crate::message::{Edit, Mark};
 use crate::spot::spot_of;
 use serde_json::{Value, json};
 use std::alloc::{AllocError, Global};
@@ -22,20 +22,22 @@ pub struct Notice<'a> {
     pub message: &'a str,
 }
 
-/// The object of a notice, with its place or null, its other places and its warning's name or null.
+/// The object of a notice, with its place or null, its edit or null, its other places and its warning's name or null.
 pub fn told_object(
     alloc: Global,
     told: Notice<'_>,
     at: Value,
+    edit: Value,
     others: Vec<Value>,
     warning: Value,
 ) -> Result<Value, AllocError>
-    ensures { IfOk result (λ value.
-        view value ≡ told_object told.entry (view at) (items_view others.items) (view warning)) }
+    ensures { IfOk result (λ value. view value ≡
+        told_object told.entry (view at) (view edit) (items_view others.items) (view warning)) }
 {
     json!(in alloc; {
         "at": at,
         "code": told.code,
+        "edit": edit,
         "file": told.file,
         "level": told.level,
         "message": told.message,
@@ -86,4 +88,18 @@ pub fn mark_objects(alloc: Global, text: &[u8], marks: &[Mark]) -> Result<Vec<Va
         values.push(mark_object(alloc, text, mark)?)?;
     }
     Ok(values)
+}
+
+/// An edit, or null where there is none.
+pub fn edit_object(alloc: Global, edit: &Option<Edit>) -> Result<Value, AllocError>
+    ensures { IfOk result (λ value. view value ≡ edit_object edit.now) }
+{
+    match edit {
+        Some(edit) => json!(in alloc; {
+            "from": edit.from,
+            "text": edit.text.as_str(),
+            "to": edit.to
+        }),
+        None => Ok(Value::Null),
+    }
 }

@@ -6,7 +6,7 @@ ghost use Rattle.serde_json.specs.Written.{compact_text, has_float};
 ghost use Rattle.diagnostics.specs.Object.{code_of, kind_of, level_of, message_object, message_text, note_text};
 
 use crate::message::Message;
-use crate::object::{Notice, mark_objects, name_object, place_object, told_object};
+use crate::object::{Notice, edit_object, mark_objects, name_object, place_object, told_object};
 use serde_json::Value;
 use std::alloc::{AllocError, Global};
 
@@ -56,9 +56,10 @@ fn message_object(
         message: message.head.as_str(),
     };
     let at = place_object(alloc, text, &message.first)?;
+    let edit = edit_object(alloc, &message.edit)?;
     let others = mark_objects(alloc, text, message.others.as_slice())?;
     let warning = name_object(alloc, message.warning)?;
-    told_object(alloc, told, at, others, warning)
+    told_object(alloc, told, at, edit, others, warning)
 }
 
 /// A message of a text in a file of this name, as a line.
@@ -97,6 +98,13 @@ pub fn note_line(
         code: None,
         message: note,
     };
-    let object = told_object(alloc, told, Value::Null, Vec::new(alloc), Value::Null)?;
+    let object = told_object(
+        alloc,
+        told,
+        Value::Null,
+        Value::Null,
+        Vec::new(alloc),
+        Value::Null,
+    )?;
     line_of(alloc, &object)
 }

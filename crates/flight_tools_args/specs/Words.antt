@@ -10,7 +10,7 @@ use Rattle.flight_tools_args.specs.declared.error.WordsError.TheVariants as word
 use Rattle.flight_tools_args.specs.declared.kind.CommandKind.{CommandKind}
 use Rattle.flight_tools_args.specs.declared.kind.CommandKind.TheVariants as command
 use Rattle.flight_tools_args.specs.declared.plan.CommandPlan.{CommandPlan}
-use Rattle.flight_tools_args.specs.declared.plan.CommandPlan.TheVariants.{Said, Table, Stream, Packets, Scenario, Import, Export, Report, Check, Compare, Try, Live}
+use Rattle.flight_tools_args.specs.declared.plan.CommandPlan.TheVariants.{Said, Table, Stream, Packets, Scenario, Import, Export, Report, Check, Explain, Compare, Try, Live}
 use Rattle.flight_tools_args.specs.declared.plan.ImportWords.{ImportWords}
 use Rattle.flight_tools_args.specs.declared.plan.RowWords.{RowWords}
 
@@ -86,6 +86,8 @@ HoldsRows found (Report schedule stream page rules epoch) = (found.0 ≡ codes "
 HoldsRows found (Check schedule rules all strict json) = (found.0 ≡ codes "check")
     × (first_of (codes "schedule") found.1 ≡ option_map (λ word. word.now) schedule) × (all_of (codes "RULES") found.1 ≡ Some (map (λ rule. rule.now) rules.items))
     × IsFlag (codes "all") found.1 all × IsFlag (codes "strict") found.1 strict × IsFlag (codes "json") found.1 json
+    × (first_of (codes "explain") found.1 ≡ None)
+HoldsRows found (Explain name) = (found.0 ≡ codes "check") × (first_of (codes "explain") found.1 ≡ Some name.now)
 HoldsRows found (Compare schedule stream old new further) = (found.0 ≡ codes "compare")
     × (first_of (codes "SCHEDULE") found.1 ≡ Some schedule.now) × (first_of (codes "STREAM") found.1 ≡ Some stream.now)
     × (first_of (codes "OLD") found.1 ≡ Some old.now) × (first_of (codes "NEW") found.1 ≡ Some new.now)

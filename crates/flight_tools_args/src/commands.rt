@@ -251,6 +251,17 @@ fn strict_word<'a>(alloc: Global) -> Arg<'a> {
     )
 }
 
+/// The warning or the refusal that is explained, in the place of all other words.
+fn explained_word<'a>(alloc: Global) -> Arg<'a> {
+    option_word(
+        alloc,
+        "explain",
+        "Says what the error of this number or the warning of this name means, and nothing else",
+    )
+    .value_name("NAME")
+    .exclusive(true)
+}
+
 /// A check with its options.
 fn with_checks<'a>(alloc: Global, command: Command<'a>) -> Result<Command<'a>, AllocError> {
     command
@@ -266,6 +277,7 @@ fn with_checks<'a>(alloc: Global, command: Command<'a>) -> Result<Command<'a>, A
         ))?
         .arg(strict_word(alloc))?
         .arg(flag_word(alloc, "json", "Says all of it in JSON, an object a line"))?
+        .arg(explained_word(alloc))?
         .arg(rule_words(alloc))
 }
 

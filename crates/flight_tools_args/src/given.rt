@@ -1,6 +1,6 @@
 //! The plan of a command that was found.
 
-ghost use Rattle.std.specs.Prelude.{◌≡◌, codes, map, option_map, IfOk, IfSome, IsSomeAnd, Some};
+ghost use Rattle.std.specs.Prelude.{◌≡◌, codes, map, option_map, IfOk, IfSome, IsSomeAnd, None, Some};
 ghost use Rattle.clap.specs.Words.{all_of, first_of, found_of, rows_of, subcommand_rows_of};
 ghost use Rattle.flight_tools_args.specs.Words.{HoldsForm, HoldsImport, HoldsRows, HoldsWords, IsFlag, word_of};
 
@@ -260,8 +260,9 @@ fn report_plan<'a>(
 
 /// The plan of a check of these rule texts.
 fn check_of<'a>(found: &ArgMatches<'a>, rules: Vec<&'a str>) -> CommandPlan<'a>
-    requires { all_of (codes "RULES") (rows_of (found_of found.now)) ≡
+    requires rules { all_of (codes "RULES") (rows_of (found_of found.now)) ≡
         Some (map (λ word. word.now) rules.items) }
+    requires explain { first_of (codes "explain") (rows_of (found_of found.now)) ≡ None }
     ensures { HoldsRows (codes "check", rows_of (found_of found.now)) result }
 {
     CommandPlan::Check {
@@ -280,6 +281,9 @@ fn check_plan<'a>(
     ensures { IfOk result (λ plan. IfSome plan
         (HoldsRows (codes "check", rows_of (found_of found.now)))) }
 {
+    if let Some(name) = option_value(found, "explain") {
+        return Ok(Some(CommandPlan::Explain { name }));
+    }
     match rules_of(alloc, found)? {
         Some(rules) => Ok(Some(check_of(found, rules))),
         None => Ok(None),

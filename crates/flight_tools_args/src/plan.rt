@@ -58,6 +58,10 @@ pub enum CommandPlan<'a> {
         strict: bool,
         json: bool,
     },
+    /// `check --explain NAME`: prints what the warning of this name or the refusal of this number means.
+    Explain {
+        name: &'a str,
+    },
     /// `compare SCHEDULE STREAM OLD NEW [--with TEXTS..]`: lists what only one of two rule texts leads to, over a stream that may bring
     /// further texts.
     Compare {

@@ -1,43 +1,72 @@
 -- What a walk from the start says of a condition.
-use Rattle.std.proofs.Common.{◌≡◌, ℕ, List, [], ◌∷◌, ◌≤◌, length, slice_get, refl, ap, sym, ◌∙◌, subst, arith, Option, Some, None, Vec}
+use Rattle.std.proofs.Common.{◌≡◌, ℕ, List, [], ◌∷◌, ◌≤◌, length, slice_get, refl, ap, ap₂, sym, ◌∙◌, subst, arith, Option, Some, None, Vec}
 use Rattle.std.specs.Global.{Global}
+use Rattle.std.specs.Prelude.{Contains}
 use Rattle.std.specs.List.{AllByRecursion}
 use Rattle.lc_model.specs.declared.field.FieldType.TheVariants.{U8}
 use Rattle.lc_model.specs.declared.field.Term.{Term}
-use Rattle.lc_model.specs.Condition.{Condition}
+use Rattle.lc_model.specs.Truth.{truth_not}
+use Rattle.lc_model.specs.Condition.{And, Condition, Join, Not}
 use Rattle.lc_model.specs.Tables.Equation.{mentions}
 use Rattle.rule_analysis.specs.declared.fields.Field.{Field}
 use Rattle.rule_analysis.specs.Fields.{AreFieldsOf, HasField, field_number}
 use Rattle.lc_model.specs.declared.truth.Truth.TheVariants.{True}
-use Rattle.lc_model.specs.LimitChecker.Watch.{judgement, truth_by}
+use Rattle.lc_model.specs.LimitChecker.Watch.{combined, judgement, truth_by}
 use Rattle.rule_analysis.specs.Judgement.{Place, place_of, value_by, found_by, NeverFails, HoldsForSome}
-use Rattle.rule_analysis.specs.Search.{found_so_far, found_everywhere, GoesOnFrom, IsExcluded, AreRepresented}
-use Rattle.rule_analysis.specs.Findings.{HoldsWith}
+use Rattle.rule_analysis.specs.declared.open.Open.{Open}
+use Rattle.rule_analysis.specs.declared.walk.Outcome.{Outcome}
+use Rattle.rule_analysis.specs.declared.walk.Outcome.TheVariants.{Found, Excluded, Spent}
+use Rattle.rule_analysis.specs.Open.{Has, left_of, truth_with, AreShownApart, IsShownTrue}
+use Rattle.rule_analysis.specs.Search.{found_so_far, found_everywhere, GoesOnFrom, IsNever, IsWalked, AreReady, AreRepresented}
+use Rattle.rule_analysis.specs.Steps.{IsWithin}
+use Rattle.rule_analysis.specs.Findings.{HoldsWith, IsFoundBits, IsSought}
 use Rattle.rule_analysis.proofs.Each.{each}
 use Rattle.rule_analysis.proofs.FieldLaws.{place_numbered, named, at_place, number_of_place}
 use Rattle.rule_analysis.proofs.Known.{never_holds_never_fails}
-use Rattle.rule_analysis.proofs.WalkLaws.{by_mentions, true_stays, excluded_never_holds}
+use Rattle.rule_analysis.proofs.OpenLaws.{by_numbers, of_one, is_mentioned}
+use Rattle.rule_analysis.proofs.StepLaws.{few_for}
+use Rattle.rule_analysis.proofs.WalkLaws.{by_mentions, true_stays, never_holds}
 
 abbrev nowhere : Place
 nowhere = record { kind = U8; mid = 0; offset = 0; mask = 0 }
 
-pub never_of : (fields : List Field) (c : Condition) (chosen : List ℕ) → AllByRecursion (λ t. HasField fields t) (mentions c) → chosen ≡ [] →
-    IsExcluded (field_number fields) c chosen → NeverFails c
-never_of fields c chosen has start excluded =
-    never_holds_never_fails c (excluded_never_holds (field_number fields) (place_numbered fields nowhere) c (each (mentions c) (named fields nowhere) has)
-    (subst (IsExcluded (field_number fields) c) start excluded))
+pub never_of : (fields : List Field) (c : Condition) → AllByRecursion (λ t. HasField fields t) (mentions c) → IsNever (field_number fields) c → NeverFails c
+never_of fields c has never =
+    never_holds_never_fails c (never_holds (field_number fields) (place_numbered fields nowhere) c (each (mentions c) (named fields nowhere) has) never)
 
 -- what holds of the terms, the fields and the rows that were made holds of those that are handed on
-pub handed_on : (c : Condition) (terms : List Term) (fields again : List Field) (rows seen : List (Vec ℕ Global)) → terms ≡ mentions c → fields ≡ again → rows ≡ seen →
-    AreRepresented (field_number fields) terms rows → AreRepresented (field_number again) (mentions c) seen
-handed_on c terms fields again rows seen are same so represented =
-    subst (AreRepresented (field_number again) (mentions c)) so
-    (subst (λ fs. AreRepresented (field_number fs) (mentions c) rows) same (subst (λ ts. AreRepresented (field_number fields) ts rows) are represented))
+pub handed_on : (terms others : List Term) (fields again : List Field) (rows seen : List (Vec ℕ Global)) → terms ≡ others → fields ≡ again → rows ≡ seen →
+    AreRepresented (field_number fields) terms rows → AreRepresented (field_number again) others seen
+handed_on terms others fields again rows seen are same so represented =
+    subst (AreRepresented (field_number again) others) so
+    (subst (λ fs. AreRepresented (field_number fs) others rows) same (subst (λ ts. AreRepresented (field_number fields) ts rows) are represented))
 
-pub all_have : (c : Condition) (terms : List Term) (fields again : List Field) → terms ≡ mentions c → fields ≡ again →
-    AllByRecursion (λ t. HasField fields t) terms → AllByRecursion (λ t. HasField again t) (mentions c)
-all_have c terms fields again are same has =
-    subst (λ fs. AllByRecursion (λ t. HasField fs t) (mentions c)) same (subst (AllByRecursion (λ t. HasField fields t)) are has)
+-- at the start each comparison is left
+pub ready_first : (fields : List Field) (terms : List Term) (c : Condition) (o : Open) (start count : ℕ) → left_of o ≡ c → terms ≡ mentions c → start ≡ 0 →
+    count ≡ length fields → ((at : ℕ) (t : Term) → Has o at t → field_number fields t ≡ at) → AllByRecursion (λ t. HasField fields t) terms →
+    AreReady (field_number fields) terms start count o
+ready_first fields terms c o start count same are none size numbered has at t is = record {
+  numbered = numbered at t is;
+  later = omega (arith, none);
+  inside = omega (arith, of_one (λ u. HasField fields u) terms t has named_there, numbered at t is, size);
+  named = named_there;
+}
+  where
+    named_there : Contains terms t
+    named_there = subst (λ ts. Contains ts t) (sym are) (subst (λ d. Contains (mentions d) t) same (is_mentioned o at t is))
+
+-- what a walk from the start says
+pub sought : (fields : List Field) (terms : List Term) (c : Condition) (o : Open) (start new : List ℕ) (before after count : ℕ) (outcome : Outcome) → left_of o ≡ c → terms ≡ mentions c →
+    start ≡ [] → count ≡ length fields → AllByRecursion (λ t. HasField fields t) terms → length new ≤ count → (outcome ≡ Spent → after ≡ 0) →
+    IsWithin (field_number fields) terms (length start) before after → IsWalked (field_number fields) (left_of o) new outcome → IsSought c fields before outcome new
+sought fields terms c o start new before after count Found same are none size has few spent within walked = record {
+  few = omega (arith, few, size);
+  holds = subst (λ d. truth_by (found_so_far (field_number fields) new) d ≡ True) same walked;
+}
+sought fields terms c o start new before after count Excluded same are none size has few spent within walked =
+    never_of fields c (subst (AllByRecursion (λ t. HasField fields t)) are has) (subst (IsNever (field_number fields)) same walked)
+sought fields terms c o start new before after count Spent same are none size has few spent within walked =
+    few_for (field_number fields) c start before after none (spent refl) (subst (λ ts. IsWithin (field_number fields) ts (length start) before after) are within)
 
 -- ---- some numbers
 
@@ -63,13 +92,32 @@ some_of fields c chosen holds = (
     each_term [] = tt
     each_term (t ∷ ts) = (ap (λ n. judgement t (Some (value_by (place_of t) (bits_at chosen n)))) (number_of_place fields t), each_term ts)
 
--- what a walk found, of the fields and the rows that were handed on
-pub held : (c : Condition) (fields sized again : List Field) (terms : List Term) (rows seen : List (Vec ℕ Global)) (bits : List ℕ) → fields ≡ again → sized ≡ fields →
-    terms ≡ mentions c → rows ≡ seen → AreFieldsOf terms fields → length rows ≡ length sized → length bits ≤ length seen →
-    truth_by (found_so_far (field_number again) bits) c ≡ True → HoldsWith c fields bits
-held c fields sized again terms rows seen bits same whole are so exact each few holds = record {
-  some = some_of again c bits holds;
+-- bits that were found, of the fields that were handed on
+pub held : (c : Condition) (fields again : List Field) (terms : List Term) (bits : List ℕ) → again ≡ fields → terms ≡ mentions c → AreFieldsOf terms fields →
+    IsFoundBits c again bits → HoldsWith c fields bits
+held c fields again terms bits same are exact found = record {
+  some = some_of fields c bits (subst (λ fs. truth_by (found_so_far (field_number fs) bits) c ≡ True) same found.holds);
   read = subst (λ ts. AreFieldsOf ts fields) are exact;
-  few = omega (arith, few, each, ap length so, ap length whole);
-  holds = subst (λ fs. truth_by (found_so_far (field_number fs) bits) c ≡ True) (sym same) holds;
+  few = subst (λ fs. length bits ≤ length fs) same found.few;
+  holds = subst (λ fs. truth_by (found_so_far (field_number fs) bits) c ≡ True) same found.holds;
 }
+
+-- ---- bits that were tried
+
+-- a condition, with the numbers of its fields
+abbrev pub IsNumbered : List Field → Open → Type 0
+IsNumbered fields o = (at : ℕ) (t : Term) → Has o at t → field_number fields t ≡ at
+
+with_numbers : (fields : List Field) (c : Condition) (o : Open) (bits : List ℕ) → left_of o ≡ c → IsNumbered fields o →
+    truth_by (found_so_far (field_number fields) bits) c ≡ truth_with bits o
+with_numbers fields c o bits same numbered =
+    sym (by_numbers (field_number fields) bits o numbered ∙ ap (truth_by (found_so_far (field_number fields) bits)) same)
+
+pub shown_true : (fields : List Field) (c : Condition) (o : Open) → left_of o ≡ c → IsNumbered fields o → IsShownTrue o → HoldsForSome c
+shown_true fields c o same numbered shown = some_of fields c shown.0 (with_numbers fields c o shown.0 same numbered ∙ shown.1)
+
+pub shown_apart : (fields : List Field) (a b : Condition) (one other : Open) → left_of one ≡ a → IsNumbered fields one → left_of other ≡ b → IsNumbered fields other →
+    AreShownApart one other → HoldsForSome (Join And a (Not b))
+shown_apart fields a b one other same numbered same_other numbered_other shown =
+    some_of fields (Join And a (Not b)) shown.0 (ap₂ (λ x y. combined And x (truth_not y))
+    (with_numbers fields a one shown.0 same numbered ∙ shown.1.0) (with_numbers fields b other shown.0 same_other numbered_other ∙ shown.1.1))

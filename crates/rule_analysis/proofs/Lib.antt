@@ -3,6 +3,7 @@ pub mod QuietLaws
 pub mod QuietSteps
 pub mod Halves
 pub mod WalkLaws
+pub mod OpenLaws
 pub mod Tried
 pub mod Reaching
 pub mod Judged

@@ -15,10 +15,7 @@ use Rattle.lc_model.specs.Condition.{Condition}
 use Rattle.lc_model.specs.Tables.Equation.{mentions, distinct, same_term}
 use Rattle.lc_model.proofs.LimitChecker.ResultLaws.{one_term}
 use Rattle.lc_model.proofs.Tables.SensibleLaws.{all_among}
-use Rattle.rule_analysis.specs.declared.walk.Outcome.{Outcome}
-use Rattle.rule_analysis.specs.declared.walk.Outcome.TheVariants.{Found, Excluded, Spent}
 use Rattle.rule_analysis.specs.Classes.{SaysTheSame}
-use Rattle.rule_analysis.specs.Search.{IsWalked}
 use Rattle.rule_analysis.specs.Steps.{NamesAll, holds_of, says_alike, AreApart, AreFewFor, AreFewByNames, IsWithin, with_number, numbered_from, AreNotMany}
 use Rattle.rule_analysis.specs.Findings.{rule_steps}
 use Rattle.rule_analysis.proofs.Each.{both, each}
@@ -47,6 +44,17 @@ alike_says_same [] one other e = tt
 alike_says_same (t ∷ terms) one other e =
     let parts = and_parts (beq (holds_of t one) (holds_of t other)) (says_alike terms one other) e in
     (ap (λ holds. if holds then True else False) (one_bool _ _ parts.0), alike_says_same terms one other parts.1)
+
+pub alike_equal : (terms : List Term) (one other : ℕ) → one ≡ other → true ≡ says_alike terms one other
+alike_equal [] one other same = refl
+alike_equal (t ∷ terms) one other same = alike_equal terms one other same ∙ ap (λ b. b && says_alike terms one other) (sym itself)
+  where
+    of_one_bool : (b : Bool) → beq b b ≡ true
+    of_one_bool true = refl
+    of_one_bool false = refl
+
+    itself : beq (holds_of t one) (holds_of t other) ≡ true
+    itself = subst (λ n. beq (holds_of t one) (holds_of t n) ≡ true) same (of_one_bool (holds_of t one))
 
 pub apart_more : (terms : List Term) (kept : List ℕ) (bits : ℕ) → AreApart terms kept →
     AllByRecursion (λ candidate. IsFalse (says_alike terms candidate bits)) kept → AreApart terms (kept ++ bits ∷ [])
@@ -219,7 +227,7 @@ one_less number (t ∷ named) from = by_tests (one_less number named from) (nat_
 
 -- ---- steps
 
-some_ways : (number : Term → ℕ) (named : List Term) (from now : ℕ) → now < now + 2 ^ length (numbered_from number named from)
+pub some_ways : (number : Term → ℕ) (named : List Term) (from now : ℕ) → now < now + 2 ^ length (numbered_from number named from)
 some_ways number named from now = omega (arith, pow_pos (length (numbered_from number named from)))
 
 -- one candidate more was tried
@@ -243,7 +251,7 @@ within number named from s old new few took =
     omega (arith, took, more, powers, size)
 
 -- what is pushed behind the fields so far is the next one
-next_size : (chosen now pushed : List ℕ) (x : ℕ) → now ≡ chosen → pushed ≡ now ++ x ∷ [] → length pushed ≡ suc (length chosen)
+pub next_size : (chosen now pushed : List ℕ) (x : ℕ) → now ≡ chosen → pushed ≡ now ++ x ∷ [] → length pushed ≡ suc (length chosen)
 next_size chosen now pushed x same pushes = ap length pushes ∙ longer now x ∙ ap (λ xs. suc (length xs)) same
   where
     longer : (xs : List ℕ) (y : ℕ) → length (xs ++ y ∷ []) ≡ suc (length xs)
@@ -310,10 +318,12 @@ all_stepped number named rows chosen items row at k old now few is inside found 
         within number named (length chosen) (length items) old now (row_bound number named rows chosen items row at few is inside found same)
         (subst (λ n. old < now + n * B) all (omega (arith, some, all)))
 
-pub ended_as : (number : Term → ℕ) (c : Condition) (pushed chosen new : List ℕ) (o : Outcome) → (o ≡ Excluded → ⊥) → IsWalked number c pushed new o → IsWalked number c chosen new o
-ended_as number c pushed chosen new Found other walked = walked
-ended_as number c pushed chosen new Excluded other walked = absurd (other refl)
-ended_as number c pushed chosen new Spent other walked = tt
+-- no step was taken
+pub not_stepped : (number : Term → ℕ) (named : List Term) (from k s old now : ℕ) →
+    old + k < now + k * 2 ^ length (numbered_from number named from) + s →
+    old + (k + 1) < now + (k + 1) * 2 ^ length (numbered_from number named from) + s
+not_stepped number named from k s old now so_far =
+    one_further old now now k s (2 ^ length (numbered_from number named from)) so_far (some_ways number named from now)
 
 -- ---- candidates
 
@@ -328,7 +338,7 @@ none_is_apart terms kept none = subst (AreApart terms) (sym none) tt
 
 -- ---- decisions
 
-pub few_for : (number : Term → ℕ) (c : Condition) (chosen : List ℕ) (before after : ℕ) → chosen ≡ [] → after ≡ 0 → IsWithin number c (length chosen) before after →
+pub few_for : (number : Term → ℕ) (c : Condition) (chosen : List ℕ) (before after : ℕ) → chosen ≡ [] → after ≡ 0 → IsWithin number (mentions c) (length chosen) before after →
     AreFewByNames c before
 few_for number c chosen before after start none took named names =
     let left = ap length (all_are_left number named) in

@@ -4,12 +4,14 @@ use Rattle.std.specs.Global.{Global}
 use Rattle.std.specs.Prelude.{◌≢◌, slice_index, slice_get, Some}
 use Rattle.lc_model.specs.declared.field.Term.{Term}
 use Rattle.lc_model.specs.Condition.{Condition}
-use Rattle.rule_analysis.specs.Search.{IsExcluded, Represent, AreRepresented, HasTried}
+use Rattle.rule_analysis.specs.declared.open.Open.{Open}
+use Rattle.rule_analysis.specs.Open.{left_of}
+use Rattle.rule_analysis.specs.Search.{IsNever, IsNeverWith, Represent, AreRepresented, AreReady, HasTried}
 use Rattle.rule_analysis.specs.Fields.{field_number, is_field_of}
-use Rattle.lc_model.specs.Tables.Equation.{mentions}
 use Rattle.rule_analysis.specs.declared.fields.Field.{Field}
 use Rattle.std.proofs.lemmas.List.{drop_all}
-use Rattle.rule_analysis.proofs.WalkLaws.{decided, candidates_exclude}
+use Rattle.rule_analysis.proofs.OpenLaws.{never_of_candidates}
+use Rattle.rule_analysis.proofs.WalkLaws.{decided}
 
 taken_back : (xs : List ℕ) (x : ℕ) → take (length xs) (xs ++ x ∷ []) ≡ xs
 taken_back [] x = refl
@@ -24,13 +26,13 @@ popped_is now after popped x n pushed long pops =
     let size : n - 1 ≡ length now = omega (arith, ap length pushed, longer now x) in
     pops ∙ (λ i. take (size i) (pushed i)) ∙ taken_back now x
 
-pub tried_more : (number : Term → ℕ) (c : Condition) (chosen now items : List ℕ) (count : ℕ) (pushed popped : List ℕ) →
-    HasTried number c chosen now items count → pushed ≡ now ++ slice_index items count ∷ [] → IsExcluded number c pushed → popped ≡ now →
+pub tried_more : (number : Term → ℕ) (c : Condition) (chosen now items : List ℕ) (count : ℕ) (popped : List ℕ) →
+    HasTried number c chosen now items count → IsNeverWith number c (length chosen) (slice_index items count) → popped ≡ now →
     HasTried number c chosen popped items (count + 1)
-tried_more number c chosen now items count pushed popped so_far pushes excluded pops = record {
+tried_more number c chosen now items count popped so_far never pops = record {
   same = pops ∙ so_far.same;
   none = λ k below. decided k count
-      (λ e. subst (IsExcluded number c) (pushes ∙ (λ i. so_far.same i ++ slice_index items (sym e i) ∷ [])) excluded)
+      (λ e. subst (λ n. IsNeverWith number c (length chosen) (slice_index items n)) (sym e) never)
       (λ other. so_far.none k (below_then k below other));
 }
   where
@@ -47,17 +49,17 @@ there [] k d below = absurd (omega arith)
 there (x ∷ xs) zero d below = refl
 there (x ∷ xs) (suc k) d below = there xs k d (omega arith)
 
-pub all_tried : (number : Term → ℕ) (c : Condition) (rows : List (Vec ℕ Global)) (chosen now items : List ℕ) (row : Vec ℕ Global) (at count : ℕ) →
-    AreRepresented number (mentions c) rows → at ≡ length chosen → at < length rows → row ≡ get_or rows at row → items ≡ row.items →
-    length items ≡ count → HasTried number c chosen now items count → IsExcluded number c chosen
-all_tried number c rows chosen now items row at count represented is inside found same all tried =
-    candidates_exclude number c chosen items represent
-    (λ candidate here. subst (λ n. IsExcluded number c (chosen ++ n ∷ [])) (same_default items here.0 0 candidate here.1 ∙ here.2)
+pub all_tried : (number : Term → ℕ) (terms : List Term) (size : ℕ) (o : Open) (rows : List (Vec ℕ Global)) (chosen now items : List ℕ) (row : Vec ℕ Global) (at count : ℕ) →
+    AreReady number terms (length chosen) size o → AreRepresented number terms rows → at ≡ length chosen → at < length rows → row ≡ get_or rows at row →
+    items ≡ row.items → length items ≡ count → HasTried number (left_of o) chosen now items count → IsNever number (left_of o)
+all_tried number terms size o rows chosen now items row at count ready represented is inside found same all tried =
+    never_of_candidates number terms (length chosen) size o ready items represent
+    (λ candidate here. subst (IsNeverWith number (left_of o) (length chosen)) (same_default items here.0 0 candidate here.1 ∙ here.2)
     (tried.none here.0 (subst (λ n. here.0 < n) all here.1)))
   where
-    represent : Represent number (mentions c) (length chosen) items
-    represent = subst (λ field. Represent number (mentions c) field items) is
-        (subst (λ list. Represent number (mentions c) at list) (sym same) (represented at row (there rows at row inside ∙ ap Some (sym found))))
+    represent : Represent number terms (length chosen) items
+    represent = subst (λ field. Represent number terms field items) is
+        (subst (λ list. Represent number terms at list) (sym same) (represented at row (there rows at row inside ∙ ap Some (sym found))))
 
 -- ---- which field
 

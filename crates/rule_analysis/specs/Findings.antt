@@ -14,6 +14,8 @@ use Rattle.lc_model.specs.Tables.Equation.{mentions}
 use Rattle.lc_model.specs.LimitChecker.Watch.{truth_by, truth_of}
 use Rattle.rule_analysis.specs.declared.deciding.Decision.{Decision}
 use Rattle.rule_analysis.specs.declared.deciding.Decision.TheVariants as decision
+use Rattle.rule_analysis.specs.declared.walk.Outcome.{Outcome}
+use Rattle.rule_analysis.specs.declared.walk.Outcome.TheVariants as outcome
 use Rattle.rule_analysis.specs.declared.finding.Finding.{Finding}
 use Rattle.rule_analysis.specs.declared.finding.Finding.TheVariants as finding
 use Rattle.rule_analysis.specs.declared.finding.UnknownReason.TheVariants as reason
@@ -41,6 +43,17 @@ pub record HoldsWith (c : Condition) (fields : List Field) (bits : List ℕ) : T
   pub read : AreFieldsOf (mentions c) fields
   pub few : length bits ≤ length fields
   pub holds : truth_by (found_so_far (field_number fields) bits) c ≡ True
+
+-- these bits of the first of the fields make the condition true
+pub record IsFoundBits (c : Condition) (fields : List Field) (bits : List ℕ) : Type 0 where
+  pub few : length bits ≤ length fields
+  pub holds : truth_by (found_so_far (field_number fields) bits) c ≡ True
+
+-- what is found of them: these bits, or none make it true, or this number of steps may be too few
+abbrev pub IsSought : Condition → List Field → ℕ → Outcome → List ℕ → Type 0
+IsSought c fields steps outcome.Found bits = IsFoundBits c fields bits
+IsSought c fields steps outcome.Excluded bits = NeverFails c
+IsSought c fields steps outcome.Spent bits = AreFewByNames c steps
 
 -- no values of its fields make the condition true, or some do, or this number of steps may be too few
 abbrev pub IsDecided : Condition → ℕ → Decision → Type 0
@@ -137,10 +150,10 @@ are_near first second =
 abbrev pub least_pair_steps : ℕ
 least_pair_steps = 2 ^ 8
 
--- numbers of the fields make the first condition true and the second one false; or the two have so many comparisons that it may
--- not be known
-abbrev pub MayDiffer : Condition → Condition → Type 0
-MayDiffer a b = HoldsForSome (Join And a (Not b)) ⊎ AreFewFor (Join And a (Not b)) least_pair_steps
+-- numbers of the fields make the first condition true and the second one false; or it is not known, which is counted, and then the
+-- two have too many comparisons
+abbrev pub MayDiffer : (unsettled : ℕ) → Condition → Condition → Type 0
+MayDiffer unsettled a b = HoldsForSome (Join And a (Not b)) ⊎ (AreFewFor (Join And a (Not b)) least_pair_steps × (0 < unsettled))
 
 -- the second rule is said to fail wherever the first one does
 abbrev pub says_second : Relation → Bool
@@ -155,9 +168,9 @@ says_first relation.FirstFollows = true
 says_first relation.SecondFollows = false
 
 -- in both orders: the relation that is found has it, or the conditions may differ
-pub record IsRelationSettled (a b : Condition) (found : Option Relation) : Type 0 where
-  pub second : IsTrue (option_map_or says_second found false) ⊎ MayDiffer a b
-  pub first : IsTrue (option_map_or says_first found false) ⊎ MayDiffer b a
+pub record IsRelationSettled (unsettled : ℕ) (a b : Condition) (found : Option Relation) : Type 0 where
+  pub second : IsTrue (option_map_or says_second found false) ⊎ MayDiffer unsettled a b
+  pub first : IsTrue (option_map_or says_first found false) ⊎ MayDiffer unsettled b a
 
 -- some pair has this relation of the rules with these numbers
 abbrev pub IsSaid : (Relation → Bool) → List PairJudgement → (first second : ℕ) → Type 0
@@ -165,18 +178,18 @@ IsSaid says pairs first second =
     (p : PairJudgement) × Contains pairs p × (p.first ≡ first) × (p.second ≡ second) × IsTrue (says p.relation)
 
 -- in both orders: some pair has it, or the conditions of the two rules may differ
-pub record IsPairSettled (pairs : List PairJudgement) (i j : ℕ) (a b : Condition) : Type 0 where
-  pub second : IsSaid says_second pairs i j ⊎ MayDiffer a b
-  pub first : IsSaid says_first pairs i j ⊎ MayDiffer b a
+pub record IsPairSettled (unsettled : ℕ) (pairs : List PairJudgement) (i j : ℕ) (a b : Condition) : Type 0 where
+  pub second : IsSaid says_second pairs i j ⊎ MayDiffer unsettled a b
+  pub first : IsSaid says_first pairs i j ⊎ MayDiffer unsettled b a
 
 -- the same for the rules with these numbers, if they are near
-abbrev pub IsSettledAt : List NamedRule → List PairJudgement → (i j : ℕ) → Type 0
-IsSettledAt rules pairs i j = (first second : NamedRule) → slice_get rules i ≡ Some first → slice_get rules j ≡ Some second →
-    IsTrue (are_near first second) → IsPairSettled pairs i j first.action.condition second.action.condition
+abbrev pub IsSettledAt : (unsettled : ℕ) → List NamedRule → List PairJudgement → (i j : ℕ) → Type 0
+IsSettledAt unsettled rules pairs i j = (first second : NamedRule) → slice_get rules i ≡ Some first → slice_get rules j ≡ Some second →
+    IsTrue (are_near first second) → IsPairSettled unsettled pairs i j first.action.condition second.action.condition
 
--- the same for all pairs of rules that are near
-abbrev pub AreSettled : List NamedRule → List PairJudgement → Type 0
-AreSettled rules pairs = (i j : ℕ) → i < j → IsSettledAt rules pairs i j
+-- the same for all pairs of rules that are near; none is left open where none is counted
+abbrev pub AreSettled : (unsettled : ℕ) → List NamedRule → List PairJudgement → Type 0
+AreSettled unsettled rules pairs = (i j : ℕ) → i < j → IsSettledAt unsettled rules pairs i j
 
 -- ---- each pair once
 

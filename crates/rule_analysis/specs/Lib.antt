@@ -4,6 +4,7 @@ pub mod Quiet
 pub mod Numbers
 pub mod Fields
 pub mod Classes
+pub mod Open
 pub mod Search
 pub mod Steps
 pub mod Came

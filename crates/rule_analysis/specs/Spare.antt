@@ -36,14 +36,15 @@ pub record IsSpare (rules : List NamedRule) (s : SpareComparison) : Type 0 where
 abbrev pub least_spare_steps : ℕ
 least_spare_steps = 2 ^ 8
 
--- for numbers of the fields the condition says something else with the comparison taken so; or it has so many comparisons that it
--- may not be known
-abbrev pub MayMatter : Condition → Term → Bool → Type 0
-MayMatter c t value = HoldsForSome (Join Xor c (replaced t (constant value t) c)) ⊎ AreFewFor c least_spare_steps
+-- for numbers of the fields the condition says something else with the comparison taken so; or it is not known, which is counted, and
+-- then it has too many comparisons
+abbrev pub MayMatter : (unsettled : ℕ) → Condition → Term → Bool → Type 0
+MayMatter unsettled c t value =
+    HoldsForSome (Join Xor c (replaced t (constant value t) c)) ⊎ (AreFewFor c least_spare_steps × (0 < unsettled))
 
 -- with either value
-abbrev pub MayBeNeeded : Condition → Term → Type 0
-MayBeNeeded c t = MayMatter c t true × MayMatter c t false
+abbrev pub MayBeNeeded : (unsettled : ℕ) → Condition → Term → Type 0
+MayBeNeeded unsettled c t = MayMatter unsettled c t true × MayMatter unsettled c t false
 
 -- the comparison stands in the rule of this number
 abbrev pub IsOf : List NamedRule → ℕ → Term → Type 0
@@ -54,17 +55,19 @@ abbrev pub IsTold : List SpareComparison → ℕ → Term → Type 0
 IsTold spare i t = (s : SpareComparison) × Contains spare s × (s.rule ≡ i) × (s.term ≡ t)
 
 -- the list has it, or it may be needed
-abbrev pub IsToldOrNeeded : List NamedRule → List SpareComparison → ℕ → Term → Type 0
-IsToldOrNeeded rules spare i t = (rule : NamedRule) → slice_get rules i ≡ Some rule → IsTold spare i t ⊎ MayBeNeeded rule.action.condition t
+abbrev pub IsToldOrNeeded : (unsettled : ℕ) → List NamedRule → List SpareComparison → ℕ → Term → Type 0
+IsToldOrNeeded unsettled rules spare i t =
+    (rule : NamedRule) → slice_get rules i ≡ Some rule → IsTold spare i t ⊎ MayBeNeeded unsettled rule.action.condition t
 
 -- the same for the first of some terms
-abbrev pub AreToldUpTo : List NamedRule → List SpareComparison → ℕ → List Term → ℕ → Type 0
-AreToldUpTo rules spare i terms count = (k : ℕ) (t : Term) → k < count → slice_get terms k ≡ Some t → IsToldOrNeeded rules spare i t
+abbrev pub AreToldUpTo : (unsettled : ℕ) → List NamedRule → List SpareComparison → ℕ → List Term → ℕ → Type 0
+AreToldUpTo unsettled rules spare i terms count =
+    (k : ℕ) (t : Term) → k < count → slice_get terms k ≡ Some t → IsToldOrNeeded unsettled rules spare i t
 
--- the same for each comparison of each rule
-abbrev pub AreToldOrNeeded : List NamedRule → List SpareComparison → Type 0
-AreToldOrNeeded rules spare = (i : ℕ) (rule : NamedRule) → slice_get rules i ≡ Some rule →
-    AllByRecursion (λ t. IsTold spare i t ⊎ MayBeNeeded rule.action.condition t) (mentions rule.action.condition)
+-- the same for each comparison of each rule; none is left open where none is counted
+abbrev pub AreToldOrNeeded : (unsettled : ℕ) → List NamedRule → List SpareComparison → Type 0
+AreToldOrNeeded unsettled rules spare = (i : ℕ) (rule : NamedRule) → slice_get rules i ≡ Some rule →
+    AllByRecursion (λ t. IsTold spare i t ⊎ MayBeNeeded unsettled rule.action.condition t) (mentions rule.action.condition)
 
 -- ---- each comparison once
 

@@ -53,6 +53,6 @@ AreNotMany number terms rows = (named : List Term) → NamesAll named terms → 
     length row.items ≤ 2 ^ length (with_number number named field)
 
 -- a walk from this field on takes fewer steps than the comparisons of its fields have ways to come out
-abbrev pub IsWithin : (Term → ℕ) → Condition → (from before after : ℕ) → Type 0
-IsWithin number c from before after = (named : List Term) → NamesAll named (mentions c) →
+abbrev pub IsWithin : (Term → ℕ) → List Term → (from before after : ℕ) → Type 0
+IsWithin number terms from before after = (named : List Term) → NamesAll named terms →
     before < after + 2 ^ length (numbered_from number named from)

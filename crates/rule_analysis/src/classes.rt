@@ -63,7 +63,7 @@ fn candidates(alloc: Global, terms: &[Term], mask: u32) -> Result<Vec<u32>, Allo
 }
 
 /// The terms that read the field of this number.
-fn readers(
+pub(crate) fn readers(
     alloc: Global,
     terms: &[Term],
     fields: &[Field],

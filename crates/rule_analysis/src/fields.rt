@@ -41,10 +41,11 @@ pub fn field_of(term: &Term) -> Field
 pub(crate) fn reads(term: &Term, field: &Field) -> bool
     ensures { result ≡ is_field_of term.now field.now }
 {
-    term.kind.code() == field.kind.code()
+    // The offset tells most fields apart.
+    term.offset == field.offset
         && term.mid == field.mid
-        && term.offset == field.offset
         && term.mask == field.mask
+        && term.kind.code() == field.kind.code()
 }
 
 /// Whether one of the terms reads the field.

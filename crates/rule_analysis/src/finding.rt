@@ -83,6 +83,16 @@ pub struct PairJudgement {
     pub relation: Relation,
 }
 
+/// The judgements of the pairs of a text's rules.
+#[derive(Debug, Drop)]
+pub struct PairJudgements {
+    /// The related pairs.
+    pub related: Vec<PairJudgement>,
+    /// The number of pairs of which it isn't known how they are related; one that is listed may be among them, if only one direction is
+    /// known.
+    pub unsettled: usize,
+}
+
 /// A comparison that a rule can do without: the rule has the same result with a fixed value in its place.
 #[derive(Clone, Copy, Debug)]
 pub struct SpareComparison {
@@ -92,4 +102,13 @@ pub struct SpareComparison {
     pub term: Term,
     /// The fixed value.
     pub taken_as: bool,
+}
+
+/// The judgements of the comparisons of a text's rules.
+#[derive(Debug, Drop)]
+pub struct SpareJudgements {
+    /// The comparisons that their rules can do without.
+    pub spare: Vec<SpareComparison>,
+    /// The number of comparisons of which it isn't known whether their rules can do without them.
+    pub unsettled: usize,
 }

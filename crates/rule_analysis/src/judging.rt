@@ -8,6 +8,7 @@ ghost use Rattle.lc_model.specs.Tables.Equation.{mentions};
 ghost use Rattle.rule_analysis.specs.Judgement.{HoldsForSome, NeverFails};
 ghost use Rattle.rule_analysis.specs.Findings.{AreComparisons, AreJudged, IsConstancy, IsFound, IsRuleJudged, rule_steps};
 
+use crate::boundary::at_boundary;
 use crate::conditions::negation;
 use crate::deciding::{Decision, decide, holds_for_some};
 use crate::fields::collect;
@@ -118,21 +119,15 @@ pub(crate) fn comparisons_of(alloc: Global, cond: &Cond) -> Result<Vec<Term>, Al
     Ok(terms)
 }
 
-/// Whether the condition can be false.
-fn can_be_false(alloc: Global, cond: &Cond) -> Result<Finding, AllocError>
-    ensures { IfOk result (λ finding. IsFound (Not (condition_of cond.now)) rule_steps finding) }
-{
-    let other = negation(alloc, cond)?;
-    can_be_true(alloc, &other, RULE_STEPS)
-}
-
 /// Judges a condition: whether it can be true, whether it can be false, and its comparisons, with at most `RULE_STEPS` steps for
-/// each question. The only error is a lack of memory.
+/// each question. Packets with which it is true and false differ in one field where such are found. The only error is a lack of memory.
 pub fn judge_condition(alloc: Global, cond: &Cond) -> Result<RuleJudgement, AllocError>
     ensures { IfOk result (λ judged. IsRuleJudged (condition_of cond.now) judged) }
 {
+    let other = negation(alloc, cond)?;
     let fails = can_be_true(alloc, cond, RULE_STEPS)?;
-    let passes = can_be_false(alloc, cond)?;
+    let passes = can_be_true(alloc, &other, RULE_STEPS)?;
+    let (fails, passes) = at_boundary(alloc, cond, &other, fails, passes)?;
     let terms = comparisons_of(alloc, cond)?;
     let comparisons = comparisons(alloc, &terms)?;
     Ok(RuleJudgement {

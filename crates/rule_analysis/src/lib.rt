@@ -2,14 +2,18 @@
 #![tactic(auto)]
 
 mod bits;
+mod boundary;
+mod chance;
 mod classes;
 mod conditions;
+mod counting;
 mod deciding;
 mod fields;
 mod finding;
 mod judging;
 pub mod laws;
 mod numbers;
+mod open;
 mod outcomes;
 mod packets;
 mod pairs;
@@ -22,8 +26,8 @@ mod walk;
 pub use bits::bits_read;
 pub use fields::{Field, field_of};
 pub use finding::{
-    ComparisonJudgement, Constancy, Finding, Judgement, PairJudgement, Relation, RuleJudgement,
-    SpareComparison, UnknownReason,
+    ComparisonJudgement, Constancy, Finding, Judgement, PairJudgement, PairJudgements, Relation,
+    RuleJudgement, SpareComparison, SpareJudgements, UnknownReason,
 };
 pub use judging::{RULE_STEPS, can_be_true, judge, judge_condition};
 pub use pairs::{TEXT_STEPS, judge_pairs};

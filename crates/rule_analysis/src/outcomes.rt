@@ -19,7 +19,7 @@ pub(crate) fn outcome(term: &Term, bits: u32) -> Truth
 }
 
 /// Whether the term's comparison is true for these bits.
-fn holds(term: &Term, bits: u32) -> bool
+pub(crate) fn holds(term: &Term, bits: u32) -> bool
     ensures { result ≡ holds_of term.now bits }
 {
     let value = term.kind.signed_value(bits & term.mask);
@@ -30,6 +30,9 @@ fn holds(term: &Term, bits: u32) -> bool
 pub(crate) fn says_the_same(terms: &[Term], one: u32, other: u32) -> bool
     ensures { result ≡ says_alike terms.now one other }
 {
+    if one == other {
+        return true;
+    }
     for term in terms {
         if holds(term, one) != holds(term, other) {
             return false;

@@ -1,8 +1,8 @@
 //! Judges pairs of rules.
 
-ghost use Rattle.std.specs.Prelude.{◌≡◌, ◌+◌, ◌<◌, ℕ, Contains, IfOk, IfSome, IsFalse, IsTrue, None, OnOk, Some, false, length, true};
+ghost use Rattle.std.specs.Prelude.{◌≡◌, ◌⊎◌, ◌+◌, ◌≤◌, ◌<◌, ℕ, Contains, IfOk, IfSome, IsFalse, IsTrue, None, OnOk, Some, false, length, true};
 ghost use Rattle.std.specs.List.{AllByRecursion};
-ghost use Rattle.lc_model.specs.Condition.{And, Join, Not, condition_of};
+ghost use Rattle.lc_model.specs.Condition.{And, Join, Not, Xor, condition_of};
 ghost use Rattle.lc_model.specs.Rule.{rule_of, rules_of};
 ghost use Rattle.rule_analysis.specs.declared.finding.PairJudgement.{PairJudgement as Pair};
 ghost use Rattle.rule_analysis.specs.Fields.{read_one_field};
@@ -10,10 +10,12 @@ ghost use Rattle.rule_analysis.specs.Findings.{AreBefore, AreInOrder, AreSettled
 ghost use Rattle.rule_analysis.specs.Judgement.{FailsWherever, HoldsForSome, NeverFails};
 ghost use Rattle.rule_analysis.specs.Steps.{AreFewByNames};
 
-use crate::conditions::but_not;
+use crate::chance::are_shown_apart;
+use crate::conditions::{are_equal, but_not, copy_condition};
+use crate::counting::{count_one, count_some};
 use crate::deciding::holds_for_some;
 use crate::fields::{field_of, is_read};
-use crate::finding::{PairJudgement, Relation};
+use crate::finding::{PairJudgement, PairJudgements, Relation};
 use crate::judging::comparisons_of;
 use lc_model::{Cond, Rule, Rules, Term};
 use std::alloc::{AllocError, Global};
@@ -66,33 +68,77 @@ fn are_apart(
     ask(alloc, &apart, LEAST_PAIR_STEPS, steps)
 }
 
-/// Whether the second condition is known to be true whenever the first one is true and all fields are known.
-fn follows(alloc: Global, first: &Cond, second: &Cond, steps: &mut u32) -> Result<bool, AllocError>
-    ensures follows { IfOk result (λ follows. IsTrue follows →
-        FailsWherever (condition_of first.now) (condition_of second.now)) }
-    ensures differ { IfOk result (λ follows. IsFalse follows →
-        MayDiffer (condition_of first.now) (condition_of second.now)) }
+/// Whether it is known that no values make one of the conditions true and the other one false.
+fn never_differ(
+    alloc: Global,
+    first: &Cond,
+    second: &Cond,
+    steps: &mut u32,
+) -> Result<bool, AllocError>
+    ensures { IfOk result (λ never. IsTrue never →
+        NeverFails (Join Xor (condition_of first.now) (condition_of second.now))) }
 {
-    match are_apart(alloc, first, second, steps)? {
-        Some(apart) => Ok(!apart),
+    let one = copy_condition(alloc, first)?;
+    let other = copy_condition(alloc, second)?;
+    let differ = Cond::Xor(Box::new(alloc, (one, other))?);
+    match ask(alloc, &differ, 0, steps)? {
+        Some(some) => Ok(!some),
         None => Ok(false),
     }
 }
 
-/// How the conditions are related; `None` if they aren't, or if it isn't known.
+/// Whether the second condition is known to be true whenever the first one is true and all fields are known; `apart` if it is known
+/// that it isn't. Counts in `unsettled` if it isn't known whether it is.
+fn follows(
+    alloc: Global,
+    first: &Cond,
+    second: &Cond,
+    apart: bool,
+    steps: &mut u32,
+    unsettled: &mut usize,
+) -> Result<bool, AllocError>
+    requires { IsTrue apart →
+        HoldsForSome (Join And (condition_of first.now) (Not (condition_of second.now))) }
+    ensures follows { IfOk result (λ follows. IsTrue follows →
+        FailsWherever (condition_of first.now) (condition_of second.now)) }
+    ensures differ { IfOk result (λ follows. IsFalse follows →
+        MayDiffer unsettled.new (condition_of first.now) (condition_of second.now)) }
+    ensures grows { unsettled.old ≤ unsettled.new }
+{
+    if apart {
+        return Ok(false);
+    }
+    match are_apart(alloc, first, second, steps)? {
+        Some(apart) => Ok(!apart),
+        None => {
+            count_one(unsettled);
+            Ok(false)
+        }
+    }
+}
+
+/// How the conditions are related; `None` if they aren't, or if it isn't known. Counts in `unsettled` what isn't known.
 fn relation(
     alloc: Global,
     first: &Cond,
     second: &Cond,
     steps: &mut u32,
+    unsettled: &mut usize,
 ) -> Result<Option<Relation>, AllocError>
     ensures related { IfOk result (λ found. IfSome found (λ relation.
         IsRelated (condition_of first.now) (condition_of second.now) relation)) }
     ensures settled { IfOk result (λ found.
-        IsRelationSettled (condition_of first.now) (condition_of second.now) found) }
+        IsRelationSettled unsettled.new (condition_of first.now) (condition_of second.now) found) }
 {
-    let second_follows = follows(alloc, first, second, steps)?;
-    let first_follows = follows(alloc, second, first, steps)?;
+    if are_equal(first, second) {
+        return Ok(Some(Relation::Same));
+    }
+    let (apart, apart_back) = are_shown_apart(alloc, first, second)?;
+    if !apart && !apart_back && never_differ(alloc, first, second, steps)? {
+        return Ok(Some(Relation::Same));
+    }
+    let second_follows = follows(alloc, first, second, apart, steps, unsettled)?;
+    let first_follows = follows(alloc, second, first, apart_back, steps, unsettled)?;
     match (first_follows, second_follows) {
         (true, true) => Ok(Some(Relation::Same)),
         (true, false) => Ok(Some(Relation::FirstFollows)),
@@ -122,13 +168,14 @@ fn are_near(alloc: Global, first: &Rule, second: &Rule) -> Result<bool, AllocErr
     Ok(first.sequence == second.sequence || read_one_field(&own, &other))
 }
 
-/// Appends the two rules to the pairs, if they are near and known to be related.
+/// Appends the two rules to the pairs, if they are near and known to be related. Counts the pair in `unsettled` if it isn't known how.
 fn judge_pair(
     alloc: Global,
     rules: &[Rule],
     first: usize,
     second: usize,
     steps: &mut u32,
+    unsettled: &mut usize,
     pairs: &mut Vec<PairJudgement>,
 ) -> Result<(), AllocError>
     requires order { first < second }
@@ -137,14 +184,25 @@ fn judge_pair(
         AllByRecursion (IsPair (rules_of rules.now)) pairs.new.items) }
     ensures kept { OnOk result ((p : Pair) → Contains pairs.old.items p →
         Contains pairs.new.items p) }
-    ensures settled { OnOk result (IsSettledAt (rules_of rules.now) pairs.new.items first second) }
+    ensures settled { OnOk result (
+        IsSettledAt unsettled.new (rules_of rules.now) pairs.new.items first second) }
+    ensures grows { unsettled.old ≤ unsettled.new }
     ensures order { OnOk result (AreBefore pairs.old.items first second →
         AreBefore pairs.new.items (first + 1) second) }
 {
     if !are_near(alloc, &rules[first], &rules[second])? {
         return Ok(());
     }
-    match relation(alloc, &rules[first].cond, &rules[second].cond, steps)? {
+    let mut unknown = 0;
+    let found = relation(
+        alloc,
+        &rules[first].cond,
+        &rules[second].cond,
+        steps,
+        &mut unknown,
+    )?;
+    count_some(unsettled, unknown);
+    match found {
         Some(relation) => Ok(pairs.push(PairJudgement {
             first,
             second,
@@ -154,12 +212,13 @@ fn judge_pair(
     }
 }
 
-/// Appends a rule's pairs with the rules before it.
+/// Appends a rule's pairs with the rules before it, and counts those of which it isn't known how they are related.
 fn judge_with_earlier(
     alloc: Global,
     rules: &[Rule],
     second: usize,
     steps: &mut u32,
+    unsettled: &mut usize,
     pairs: &mut Vec<PairJudgement>,
 ) -> Result<(), AllocError>
     requires { second < length rules.now }
@@ -168,29 +227,36 @@ fn judge_with_earlier(
     ensures kept { OnOk result ((p : Pair) → Contains pairs.old.items p →
         Contains pairs.new.items p) }
     ensures settled { OnOk result ((first : ℕ) → first < second →
-        IsSettledAt (rules_of rules.now) pairs.new.items first second) }
+        IsSettledAt unsettled.new (rules_of rules.now) pairs.new.items first second) }
+    ensures grows { unsettled.old ≤ unsettled.new }
     ensures order { OnOk result (AreBefore pairs.old.items 0 second →
         AreBefore pairs.new.items 0 (second + 1)) }
 {
     for first in 0..second {
-        judge_pair(alloc, rules, first, second, steps, pairs)?;
+        judge_pair(alloc, rules, first, second, steps, unsettled, pairs)?;
     }
     Ok(())
 }
 
 /// The pairs of rules where one fails whenever the other does, among those that request the same sequence or share a field. A pair with
-/// at most eight different comparisons is always found; others only within `TEXT_STEPS` steps for all. Each pair is listed once, by
-/// the second rule and then by the first. The only error is a lack of memory.
-pub fn judge_pairs(alloc: Global, rules: &Rules) -> Result<Vec<PairJudgement>, AllocError>
-    ensures sound { IfOk result (λ pairs. AllByRecursion (IsPair rules.now) pairs.items) }
-    ensures settled { IfOk result (λ pairs. AreSettled rules.now pairs.items) }
-    ensures once { IfOk result (λ pairs. AreInOrder pairs.items) }
+/// at most eight different comparisons is always found; others only within `TEXT_STEPS` steps for all, and those of which it isn't known
+/// how they are related are counted. Each pair is listed once, by the second rule and then by the first. The only error is a lack of
+/// memory.
+pub fn judge_pairs(alloc: Global, rules: &Rules) -> Result<PairJudgements, AllocError>
+    ensures sound { IfOk result (λ found. AllByRecursion (IsPair rules.now) found.related.items) }
+    ensures settled { IfOk result (λ found.
+        AreSettled found.unsettled rules.now found.related.items) }
+    ensures once { IfOk result (λ found. AreInOrder found.related.items) }
 {
     let rules = rules.as_slice();
     let mut steps = TEXT_STEPS;
+    let mut unsettled = 0;
     let mut pairs = Vec::new(alloc);
     for second in 0..rules.len() {
-        judge_with_earlier(alloc, rules, second, &mut steps, &mut pairs)?;
+        judge_with_earlier(alloc, rules, second, &mut steps, &mut unsettled, &mut pairs)?;
     }
-    Ok(pairs)
+    Ok(PairJudgements {
+        related: pairs,
+        unsettled,
+    })
 }

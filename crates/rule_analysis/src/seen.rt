@@ -48,6 +48,15 @@ pub fn value_with(term: &Term, packets: &[Vec<u8>]) -> Option<i64>
     }
 }
 
+/// The bits of the term's field in the latest packet of its message id; packets are listed latest first. `None` if there is no such
+/// packet, or if it ends before the field does.
+pub(crate) fn bits_with(term: &Term, packets: &[Vec<u8>]) -> Option<u32> {
+    let packet = last_of(packets, term.mid)?;
+    let start = term.offset as usize;
+    let bytes = packet.get(start..start + term.kind.width())?;
+    Some(term.kind.bits_in(bytes) & term.mask)
+}
+
 /// The truth of the term after these packets.
 fn term_with(term: &Term, packets: &[Vec<u8>]) -> Truth
     ensures { result ≡ truth_of_term term.now (history_of packets.now) }

@@ -1,18 +1,20 @@
 //! Comparisons that a rule can do without.
 
-ghost use Rattle.std.specs.Prelude.{◌≡◌, ◌≢◌, ◌⊎◌, ◌+◌, ◌<◌, ℕ, Contains, IfOk, IfSome, IsFalse, IsTrue, None, OnOk, Some, length, slice_get};
+ghost use Rattle.std.specs.Prelude.{◌≡◌, ◌≢◌, ◌⊎◌, ◌+◌, ◌≤◌, ◌<◌, ℕ, Contains, IfOk, IfSome, IsFalse, IsTrue, None, OnOk, Some, length, slice_get};
 ghost use Rattle.std.specs.List.{AllByRecursion};
 ghost use Rattle.lc_model.specs.declared.field.Term.{Term as Comparison};
 ghost use Rattle.lc_model.specs.Condition.{Join, Xor, condition_of};
 ghost use Rattle.lc_model.specs.Rule.{rules_of};
-ghost use Rattle.lc_model.specs.Tables.Equation.{mentions, same_term};
+ghost use Rattle.lc_model.specs.Tables.Equation.{mentions};
 ghost use Rattle.rule_analysis.specs.declared.finding.SpareComparison.{SpareComparison as Spare};
 ghost use Rattle.rule_analysis.specs.Spare.{AreOfRulesBefore, AreOfTermsBefore, AreOnce, AreToldOrNeeded, AreToldUpTo, CanDoWithout, IsOf, IsSpare, IsToldAtMost, IsToldOrNeeded, MayBeNeeded, MayMatter, constant, least_spare_steps, replaced};
 ghost use Rattle.rule_analysis.specs.Judgement.{HoldsForSome, NeverFails};
 ghost use Rattle.rule_analysis.specs.Steps.{AreFewByNames};
 
-use crate::conditions::copy_condition;
-use crate::finding::SpareComparison;
+use crate::chance::is_shown_true;
+use crate::conditions::{are_one, copy_condition};
+use crate::counting::{count_one, count_some};
+use crate::finding::{SpareComparison, SpareJudgements};
 use crate::judging::comparisons_of;
 use crate::pairs::{TEXT_STEPS, ask};
 use lc_model::{Cond, Rule, Rules, Term};
@@ -20,19 +22,6 @@ use std::alloc::{AllocError, Global};
 
 /// The steps that each question has even after `TEXT_STEPS` is used up: enough for eight different comparisons.
 const LEAST_SPARE_STEPS: u32 = 1 << 8;
-
-/// Whether the terms are equal.
-fn are_one(one: &Term, other: &Term) -> bool
-    ensures { result ≡ same_term one.now other.now }
-{
-    one.kind.code() == other.kind.code()
-        && one.mid == other.mid
-        && one.offset == other.offset
-        && one.mask == other.mask
-        && one.stale == other.stale
-        && one.op.code() == other.op.code()
-        && one.value == other.value
-}
 
 /// A condition that has this value whenever the term is known.
 fn constant(alloc: Global, term: &Term, value: bool) -> Result<Cond, AllocError>
@@ -90,16 +79,28 @@ fn difference(alloc: Global, cond: &Cond, term: &Term, value: bool) -> Result<Co
     Ok(Cond::Xor(Box::new(alloc, (first, second))?))
 }
 
-/// Whether it is known that no values make the condition true.
-fn is_never_true(alloc: Global, cond: &Cond, steps: &mut u32) -> Result<bool, AllocError>
+/// Whether it is known that no values make the condition true. Counts in `unsettled` if it isn't known whether some do.
+fn is_never_true(
+    alloc: Global,
+    cond: &Cond,
+    steps: &mut u32,
+    unsettled: &mut usize,
+) -> Result<bool, AllocError>
     ensures never { IfOk result (λ never. IsTrue never → NeverFails (condition_of cond.now)) }
     ensures other { IfOk result (λ never. IsFalse never →
         HoldsForSome (condition_of cond.now) ⊎
-        AreFewByNames (condition_of cond.now) least_spare_steps) }
+        (AreFewByNames (condition_of cond.now) least_spare_steps × (0 < unsettled.new))) }
+    ensures grows { unsettled.old ≤ unsettled.new }
 {
+    if is_shown_true(alloc, cond)? {
+        return Ok(false);
+    }
     match ask(alloc, cond, LEAST_SPARE_STEPS, steps)? {
         Some(some) => Ok(!some),
-        None => Ok(false),
+        None => {
+            count_one(unsettled);
+            Ok(false)
+        }
     }
 }
 
@@ -110,46 +111,50 @@ fn does_without(
     term: &Term,
     value: bool,
     steps: &mut u32,
+    unsettled: &mut usize,
 ) -> Result<bool, AllocError>
     requires { Contains (mentions (condition_of cond.now)) term.now }
     ensures without { IfOk result (λ spare. IsTrue spare →
         CanDoWithout (condition_of cond.now) term.now value) }
     ensures matters { IfOk result (λ spare. IsFalse spare →
-        MayMatter (condition_of cond.now) term.now value) }
+        MayMatter unsettled.new (condition_of cond.now) term.now value) }
+    ensures grows { unsettled.old ≤ unsettled.new }
 {
     let both = difference(alloc, cond, term, value)?;
-    is_never_true(alloc, &both, steps)
+    is_never_true(alloc, &both, steps, unsettled)
 }
 
-/// The value that can stand in the place of the term; `None` if none is known.
+/// The value that can stand in the place of the term; `None` if none is known. Counts in `unsettled` what isn't known.
 fn taken_as(
     alloc: Global,
     cond: &Cond,
     term: &Term,
     steps: &mut u32,
+    unsettled: &mut usize,
 ) -> Result<Option<bool>, AllocError>
     requires { Contains (mentions (condition_of cond.now)) term.now }
     ensures without { IfOk result (λ found. IfSome found (λ value.
         CanDoWithout (condition_of cond.now) term.now value)) }
     ensures needed { IfOk result (λ found. found ≡ None →
-        MayBeNeeded (condition_of cond.now) term.now) }
+        MayBeNeeded unsettled.new (condition_of cond.now) term.now) }
 {
-    if does_without(alloc, cond, term, true, steps)? {
+    if does_without(alloc, cond, term, true, steps, unsettled)? {
         return Ok(Some(true));
     }
-    if does_without(alloc, cond, term, false, steps)? {
+    if does_without(alloc, cond, term, false, steps, unsettled)? {
         return Ok(Some(false));
     }
     Ok(None)
 }
 
-/// Appends the term if it is known that the rule can do without it.
+/// Appends the term if it is known that the rule can do without it. Counts it in `unsettled` if that isn't known.
 fn judge_term(
     alloc: Global,
     rules: &[Rule],
     rule: usize,
     term: &Term,
     steps: &mut u32,
+    unsettled: &mut usize,
     spare: &mut Vec<SpareComparison>,
 ) -> Result<(), AllocError>
     requires inside { rule < length rules.now }
@@ -158,16 +163,22 @@ fn judge_term(
         AllByRecursion (IsSpare (rules_of rules.now)) spare.new.items) }
     ensures kept { OnOk result ((s : Spare) → Contains spare.old.items s →
         Contains spare.new.items s) }
-    ensures told { OnOk result (IsToldOrNeeded (rules_of rules.now) spare.new.items rule term.now) }
+    ensures told { OnOk result (
+        IsToldOrNeeded unsettled.new (rules_of rules.now) spare.new.items rule term.now) }
+    ensures grows { unsettled.old ≤ unsettled.new }
     ensures once { OnOk result (IsToldAtMost spare.old.items spare.new.items rule term.now) }
 {
-    match taken_as(alloc, &rules[rule].cond, term, steps)? {
+    let mut unknown = 0;
+    match taken_as(alloc, &rules[rule].cond, term, steps, &mut unknown)? {
         Some(taken_as) => Ok(spare.push(SpareComparison {
             rule,
             term: *term,
             taken_as,
         })?),
-        None => Ok(()),
+        None => {
+            count_some(unsettled, unknown);
+            Ok(())
+        }
     }
 }
 
@@ -195,6 +206,7 @@ fn judge_at(
     terms: &[Term],
     at: usize,
     steps: &mut u32,
+    unsettled: &mut usize,
     spare: &mut Vec<SpareComparison>,
 ) -> Result<(), AllocError>
     requires rule { rule < length rules.now }
@@ -205,15 +217,17 @@ fn judge_at(
         AllByRecursion (IsSpare (rules_of rules.now)) spare.new.items) }
     ensures kept { OnOk result ((s : Spare) → Contains spare.old.items s →
         Contains spare.new.items s) }
-    ensures told { OnOk result (AreToldUpTo (rules_of rules.now) spare.old.items rule terms.now at →
-        AreToldUpTo (rules_of rules.now) spare.new.items rule terms.now (at + 1)) }
+    ensures told { OnOk result (
+        AreToldUpTo unsettled.old (rules_of rules.now) spare.old.items rule terms.now at →
+        AreToldUpTo unsettled.new (rules_of rules.now) spare.new.items rule terms.now (at + 1)) }
+    ensures grows { unsettled.old ≤ unsettled.new }
     ensures once { OnOk result (AreOfTermsBefore spare.old.items rule terms.now at →
         AreOfTermsBefore spare.new.items rule terms.now (at + 1)) }
 {
     if is_again(terms, at) {
         return Ok(());
     }
-    judge_term(alloc, rules, rule, &terms[at], steps, spare)?;
+    judge_term(alloc, rules, rule, &terms[at], steps, unsettled, spare)?;
     Ok(())
 }
 
@@ -223,6 +237,7 @@ fn judge_terms(
     rules: &[Rule],
     rule: usize,
     steps: &mut u32,
+    unsettled: &mut usize,
     spare: &mut Vec<SpareComparison>,
 ) -> Result<(), AllocError>
     requires { rule < length rules.now }
@@ -231,29 +246,33 @@ fn judge_terms(
     ensures kept { OnOk result ((s : Spare) → Contains spare.old.items s →
         Contains spare.new.items s) }
     ensures told { OnOk result ((t : Comparison) → IsOf (rules_of rules.now) rule t →
-        IsToldOrNeeded (rules_of rules.now) spare.new.items rule t) }
+        IsToldOrNeeded unsettled.new (rules_of rules.now) spare.new.items rule t) }
+    ensures grows { unsettled.old ≤ unsettled.new }
     ensures once { OnOk result (AreOfRulesBefore spare.old.items rule →
         AreOfRulesBefore spare.new.items (rule + 1)) }
 {
     let terms = comparisons_of(alloc, &rules[rule].cond)?;
     for at in 0..terms.len() {
-        judge_at(alloc, rules, rule, &terms, at, steps, spare)?;
+        judge_at(alloc, rules, rule, &terms, at, steps, unsettled, spare)?;
     }
     Ok(())
 }
 
 /// The comparisons that their rules can do without, rule by rule, each once. In a rule with at most eight different comparisons each is
-/// found; in others only within `TEXT_STEPS` steps for all. The only error is a lack of memory.
-pub fn spare_comparisons(alloc: Global, rules: &Rules) -> Result<Vec<SpareComparison>, AllocError>
-    ensures sound { IfOk result (λ spare. AllByRecursion (IsSpare rules.now) spare.items) }
-    ensures told { IfOk result (λ spare. AreToldOrNeeded rules.now spare.items) }
-    ensures once { IfOk result (λ spare. AreOnce spare.items) }
+/// found; in others only within `TEXT_STEPS` steps for all, and those of which it isn't known are counted. The only error is a lack of
+/// memory.
+pub fn spare_comparisons(alloc: Global, rules: &Rules) -> Result<SpareJudgements, AllocError>
+    ensures sound { IfOk result (λ found. AllByRecursion (IsSpare rules.now) found.spare.items) }
+    ensures told { IfOk result (λ found.
+        AreToldOrNeeded found.unsettled rules.now found.spare.items) }
+    ensures once { IfOk result (λ found. AreOnce found.spare.items) }
 {
     let rules = rules.as_slice();
     let mut steps = TEXT_STEPS;
+    let mut unsettled = 0;
     let mut spare = Vec::new(alloc);
     for rule in 0..rules.len() {
-        judge_terms(alloc, rules, rule, &mut steps, &mut spare)?;
+        judge_terms(alloc, rules, rule, &mut steps, &mut unsettled, &mut spare)?;
     }
-    Ok(spare)
+    Ok(SpareJudgements { spare, unsettled })
 }

@@ -1,6 +1,6 @@
 -- What is told first is told of the refusal.
 use Rattle.std.proofs.Common.{◌≡◌, sym, ◌∙◌, ap, subst, inl, inr, List, ℕ, ◌∷◌, Vec, Global}
-use Rattle.std.specs.Prelude.{Option, Some, None, Result, Ok, Err, IfOk}
+use Rattle.std.specs.Prelude.{Option, Some, Result, Ok, Err, IfOk}
 use Rattle.lc_model.specs.Rule.{NamedRule}
 use Rattle.lc_model.specs.Text.Reading.{TextRefusal, Reads, IsUnreadable}
 use Rattle.lc_model.specs.Tables.Compiling.{IsRefused, unreadable, beyond_limits, limit_refusal}

@@ -2,3 +2,4 @@
 mod Different
 mod Reasons
 mod Begins
+mod Inside

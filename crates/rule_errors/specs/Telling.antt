@@ -13,7 +13,7 @@ use Rattle.rule_lexer.specs.declared.error.LexError.TheVariants as lexer
 use Rattle.field_checker.specs.declared.error.CheckError.{CheckError}
 use Rattle.field_checker.specs.declared.error.CheckError.TheVariants as checker
 use Rattle.rpn_compiler.specs.Fault.{code_of}
-use Rattle.diagnostics.specs.Message.{IsAt, first_place}
+use Rattle.diagnostics.specs.Message.{IsAt, IsInside, first_place}
 use Rattle.diagnostics.specs.declared.message.Message.{Message}
 use Rattle.rule_errors.specs.Places.{IsComparisonBeyond, IsRule}
 
@@ -74,6 +74,11 @@ TellsOf text (Some refusal) message = Tells text refusal message
 abbrev pub BeginsWith : List ℕ → TextRefusal → List Message → Type 0
 BeginsWith text refusal [] = ⊥
 BeginsWith text refusal (message ∷ messages) = Tells text refusal message
+
+-- each edit changes bytes of the text
+abbrev pub AreInside : List ℕ → List Message → Type 0
+AreInside text [] = ⊤
+AreInside text (message ∷ messages) = IsInside text message.edit × AreInside text messages
 
 -- the message for a token that begins at a place, by its fault
 abbrev pub TellsReason : List ℕ → LexReason → ℕ → Message → Type 0

@@ -1,13 +1,14 @@
 //! All faults of a text: the compiler's first, and others that don't follow from it.
 
-ghost use Rattle.std.specs.Prelude.{◌≡◌, ◌++◌, List, [], ◌∷◌, None, Some, IfOk};
+ghost use Rattle.std.specs.Prelude.{◌≡◌, ◌++◌, List, [], ◌∷◌, map, None, Some, IfOk};
 ghost use Rattle.lc_model.specs.Rule.{NamedRule};
 ghost use Rattle.lc_model.specs.Text.Reading.{TextRefusal};
 ghost use Rattle.lc_model.specs.Tables.Compiling.{Compiles, IsRefused, limit_refusal};
 ghost use Rattle.lc_model.specs.Tables.InForce.{limits};
 ghost use Rattle.rpn_compiler.specs.Fault.{refusal_of};
 ghost use Rattle.rpn_compiler.specs.TextParts.{IsRuleText};
-ghost use Rattle.rule_errors.specs.Telling.{BeginsWith, TellsOf};
+ghost use Rattle.diagnostics.specs.Message.{within};
+ghost use Rattle.rule_errors.specs.Telling.{AreInside, BeginsWith, TellsOf};
 ghost use Rattle.diagnostics.specs.declared.message.Message.{Message};
 
 use crate::checks::check_place;
@@ -261,12 +262,8 @@ fn told_of(alloc: Global, text: &[u8], first: CompileError) -> Result<Vec<Messag
     }
 }
 
-/// The messages for a text that doesn't compile: first the compiler's refusal with its number and place, then faults that don't follow
-/// from it or from one another, in the order of the compiler's parts. Empty for a text that compiles.
-///
-/// A fault of a quoted text is placed at the forbidden character, or else at the quote. A refusal without a place is placed at the first
-/// comparison or rule too many. The only error is a lack of memory.
-pub fn messages(alloc: Global, text: &[u8]) -> Result<Vec<Message>, AllocError>
+/// The messages for a text; none for a text that compiles.
+fn told_of_text(alloc: Global, text: &[u8]) -> Result<Vec<Message>, AllocError>
     ensures quiet { (rules : List NamedRule) → Compiles limits text.now rules →
         IfOk result (λ told. told.items ≡ []) }
     ensures first { (refusal : TextRefusal) → IsRefused limits text.now refusal →
@@ -277,4 +274,30 @@ pub fn messages(alloc: Global, text: &[u8]) -> Result<Vec<Message>, AllocError>
         Err(CompileError::Memory) => Err(AllocError),
         Err(error) => told_of(alloc, text, error),
     }
+}
+
+/// Takes away each edit that isn't inside the text.
+fn keep_inside(text: &[u8], told: &mut [Message])
+    ensures { told.new ≡ map (within text.now) told.old }
+{
+    for message in told.iter_mut() {
+        message.keep_inside(text);
+    }
+}
+
+/// The messages for a text that doesn't compile: first the compiler's refusal with its number and place, then faults that don't follow
+/// from it or from one another, in the order of the compiler's parts. Empty for a text that compiles.
+///
+/// A fault of a quoted text is placed at the forbidden character, or else at the quote. A refusal without a place is placed at the first
+/// comparison or rule too many. Each edit is inside the text. The only error is a lack of memory.
+pub fn messages(alloc: Global, text: &[u8]) -> Result<Vec<Message>, AllocError>
+    ensures quiet { (rules : List NamedRule) → Compiles limits text.now rules →
+        IfOk result (λ told. told.items ≡ []) }
+    ensures first { (refusal : TextRefusal) → IsRefused limits text.now refusal →
+        IfOk result (λ told. BeginsWith text.now refusal told.items) }
+    ensures inside { IfOk result (λ told. AreInside text.now told.items) }
+{
+    let mut told = told_of_text(alloc, text)?;
+    keep_inside(text, told.as_mut_slice());
+    Ok(told)
 }

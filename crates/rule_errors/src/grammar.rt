@@ -3,11 +3,12 @@
 ghost use Rattle.std.specs.Prelude.{◌≡◌, IfOk};
 ghost use Rattle.diagnostics.specs.Message.{IsAt};
 
-use crate::marks::{declared_mark, text_of, token_mark};
-use crate::mistakes::mistake_label;
+use crate::advice::{Advice, ByteSpan};
+use crate::marks::{declared_mark, span, text_of, token_mark};
+use crate::mistakes::mistake_advice;
 use crate::source::{Declaration, NameKind, Source, TokenRange, begins_item};
 use crate::wanted::{describe_found, describe_wanted, is_reserved, words_for};
-use diagnostics::{Mark, Message, around, choice_of, nearest, printable};
+use diagnostics::{Edit, Mark, Message, choice_of, nearest};
 use lc_model::{CmpOp, TYPE_WORDS};
 use rule_lexer::{Token, TokenKind};
 use rule_parser::{Sign, What};
@@ -34,30 +35,42 @@ fn mirrored_sign(op: CmpOp) -> &'static str {
     }
 }
 
-/// A comparison as it was meant.
+/// A comparison whose number stands on the left, with the sign for its sides exchanged.
 #[derive(Clone, Copy)]
 struct Exchanged<'a> {
-    name: &'a [u8],
+    name: Token<'a>,
     op: &'static str,
-    value: &'a [u8],
+    value: Token<'a>,
 }
 
 /// What to do about a number on the left.
-fn exchanged_label(alloc: Global, meant: Exchanged<'_>) -> Result<String, AllocError> {
-    let name = printable(alloc, meant.name)?;
-    let value = printable(alloc, meant.value)?;
-    let op = meant.op;
-    format!(in alloc; "the field comes first: did you mean `{name} {op} {value}`?")
+fn exchanged_advice(alloc: Global, found: Exchanged<'_>) -> Result<Advice, AllocError> {
+    let mut meant = Vec::from_slice(alloc, found.name.text)?;
+    meant.push(b' ')?;
+    meant.extend_from_slice(found.op.as_bytes())?;
+    meant.push(b' ')?;
+    meant.extend_from_slice(found.value.text)?;
+    let old = ByteSpan {
+        from: found.value.at,
+        to: span(found.name).to,
+    };
+    let before = "the field comes first: did you mean ";
+    Advice::instead(alloc, old, before, meant.as_slice(), "?")
 }
 
-/// A mark after a token, where something has to be written.
-fn behind_token(alloc: Global, token: Token<'_>, what: What) -> Result<Mark, AllocError> {
-    let wanted = describe_wanted(alloc, what)?;
-    Ok(Mark {
-        at: token.at.saturating_add(token.text.len()),
-        size: 0,
-        label: format!(in alloc; "write {wanted} here")?,
-    })
+/// A place where something is missing, and the edit that writes it, if one does.
+#[derive(Drop)]
+struct Missing {
+    mark: Mark,
+    edit: Option<Edit>,
+}
+
+/// One of two edits, the first if there are both.
+fn first_edit(first: Option<Edit>, second: Option<Edit>) -> Option<Edit> {
+    match first {
+        Some(edit) => Some(edit),
+        None => second,
+    }
 }
 
 impl<'a> Stop<'_, 'a> {
@@ -118,9 +131,9 @@ impl<'a> Stop<'_, 'a> {
         let name = self.source.token(self.number.saturating_add(2))?;
         match (value.kind, op.kind, name.kind) {
             (TokenKind::Number(_), TokenKind::Compare(op), TokenKind::Name) => Some(Exchanged {
-                name: name.text,
+                name,
                 op: mirrored_sign(op),
-                value: value.text,
+                value,
             }),
             _ => None,
         }
@@ -158,14 +171,61 @@ impl<'a> Stop<'_, 'a> {
         }
     }
 
-    /// What to do, if nothing more specific applies.
-    fn plain_label(&self, alloc: Global) -> Result<String, AllocError> {
-        let wanted = describe_wanted(alloc, self.what)?;
-        let place = match self.what {
-            What::Word(_) | What::Sign(_) => "before this",
-            _ => "here",
+    /// The place at which something missing is written: the end of the token before.
+    fn end_before(&self) -> ByteSpan {
+        match self.before() {
+            Some(before) => ByteSpan::new(span(before).to, 0),
+            None => ByteSpan::new(0, 0),
+        }
+    }
+
+    /// The place at which a missing word is written: before the token at that place, unless another item begins with it.
+    fn word_place(&self) -> ByteSpan {
+        match self.token() {
+            Some(token) if !self.is_early() => ByteSpan::new(token.at, 0),
+            _ => self.end_before(),
+        }
+    }
+
+    /// To write the word or the sign that is expected, with the words for the place; `None` if no single one is.
+    fn missing_word(&self, alloc: Global, place: &str) -> Result<Option<Advice>, AllocError> {
+        let write = "write ";
+        let text = self.source.text;
+        let advice = match self.what {
+            What::Word(word) => {
+                let word = format!(in alloc; "{word}")?;
+                let old = self.word_place();
+                Advice::word_instead(alloc, text, old, write, word.as_bytes(), place)?
+            }
+            What::Sign(Sign::Equals) => {
+                Advice::word_instead(alloc, text, self.word_place(), write, b"=", place)?
+            }
+            What::Sign(sign) => {
+                let sign = format!(in alloc; "{sign}")?;
+                Advice::instead(alloc, self.end_before(), write, sign.as_bytes(), place)?
+            }
+            _ => return Ok(None),
         };
-        format!(in alloc; "write {wanted} {place}")
+        Ok(Some(advice))
+    }
+
+    /// To write what is expected at that place.
+    fn missing_advice(&self, alloc: Global) -> Result<Advice, AllocError> {
+        match self.missing_word(alloc, " here")? {
+            Some(advice) => Ok(advice),
+            None => {
+                let wanted = describe_wanted(alloc, self.what)?;
+                Ok(Advice::words(format!(in alloc; "write {wanted} here")?))
+            }
+        }
+    }
+
+    /// What to do, if nothing more specific applies.
+    fn plain_advice(&self, alloc: Global) -> Result<Advice, AllocError> {
+        match self.missing_word(alloc, " before this")? {
+            Some(advice) => Ok(advice),
+            None => self.missing_advice(alloc),
+        }
     }
 
     /// What to do, by the kind of the token at that place.
@@ -194,57 +254,89 @@ impl<'a> Stop<'_, 'a> {
         matches!(self.token(), Some(token) if token.kind == TokenKind::Equals)
     }
 
-    /// What to do about a sign or a field at that place.
+    /// What to do about a field at that place.
     fn own_label(&self) -> Option<&'static str> {
-        if self.what == What::Compare && self.is_equals() {
-            Some("did you mean `==`?")
-        } else if self.what == What::Number && self.compared_field().is_some() {
+        if self.what == What::Number && self.compared_field().is_some() {
             Some("a field is compared with a number, not with a field")
         } else {
             self.class_label()
         }
     }
 
-    /// What to do if no similar word is known.
-    fn other_label(&self, alloc: Global) -> Result<String, AllocError> {
+    /// What to do if no similar word is known, in words only.
+    fn other_label(&self, alloc: Global) -> Result<Option<String>, AllocError> {
         if self.what == What::FieldKind {
             let types = choice_of(alloc, TYPE_WORDS)?;
-            return format!(in alloc; "a type is {types}");
+            return Ok(Some(format!(in alloc; "a type is {types}")?));
         }
         match self.own_label() {
-            Some(label) => String::from_str(alloc, label),
-            None => self.plain_label(alloc),
+            Some(label) => Ok(Some(String::from_str(alloc, label)?)),
+            None => Ok(None),
         }
     }
 
-    /// What to do if an operand is expected and no similar word is known.
-    fn operand_label(&self, alloc: Global) -> Result<String, AllocError> {
-        match self.exchanged_sides() {
-            Some(meant) if self.what == What::Operand => exchanged_label(alloc, meant),
-            _ => self.other_label(alloc),
+    /// Whether the text goes on as expected without the token at that place.
+    fn is_too_many(&self) -> bool {
+        let next = self.source.token(self.number.saturating_add(1));
+        match (self.what, self.token(), next) {
+            (_, Some(token), _) if begins_item(token.kind) => false,
+            (What::Item, Some(token), _) if token.kind == TokenKind::Semicolon => true,
+            (What::Item, Some(_), Some(next)) => begins_item(next.kind),
+            (What::Word(word), Some(_), Some(next)) => next.kind == word.kind(),
+            (What::Sign(sign), Some(_), Some(next)) => next.kind == sign.kind(),
+            _ => false,
+        }
+    }
+
+    /// What to do if no similar word is known.
+    fn other_advice(&self, alloc: Global) -> Result<Advice, AllocError> {
+        if self.is_too_many() {
+            let text = self.source.text;
+            return Advice::leave_out(alloc, text, self.span(), "leave it out");
+        }
+        match self.other_label(alloc)? {
+            Some(label) => Ok(Advice::words(label)),
+            None => self.plain_advice(alloc),
+        }
+    }
+
+    /// What to do about signs at that place.
+    fn sign_advice(&self, alloc: Global) -> Result<Advice, AllocError> {
+        match (self.what, self.exchanged_sides()) {
+            (What::Operand, Some(found)) => exchanged_advice(alloc, found),
+            (What::Compare, _) if self.is_equals() => Advice::meant(alloc, self.span(), b"=="),
+            _ => self.other_advice(alloc),
+        }
+    }
+
+    /// The bytes of the token at that place.
+    fn span(&self) -> ByteSpan {
+        match self.token() {
+            Some(token) => span(token),
+            None => ByteSpan::new(self.source.text.len(), 0),
         }
     }
 
     /// What to do.
-    fn label(&self, alloc: Global) -> Result<String, AllocError> {
-        if let Some(label) = mistake_label(alloc, self.source, self.number, self.what)? {
-            return Ok(label);
+    fn advice(&self, alloc: Global) -> Result<Advice, AllocError> {
+        if let Some(advice) = mistake_advice(alloc, self.source, self.number, self.what)? {
+            return Ok(advice);
         }
         match self.suggestion(alloc)? {
-            Some(word) => around(alloc, "did you mean ", word, "?"),
-            None => self.operand_label(alloc),
+            Some(word) => Advice::meant(alloc, self.span(), word),
+            None => self.sign_advice(alloc),
         }
     }
 
-    /// A mark where something is missing, if the next item begins too early or the text ends.
-    fn missing(&self, alloc: Global) -> Result<Option<Mark>, AllocError> {
-        if !self.is_early() {
+    /// What is missing, if the next item begins too early or the text ends.
+    fn missing(&self, alloc: Global) -> Result<Option<Missing>, AllocError> {
+        if !self.is_early() || self.before().is_none() {
             return Ok(None);
         }
-        match self.before() {
-            Some(before) => Ok(Some(behind_token(alloc, before, self.what)?)),
-            None => Ok(None),
-        }
+        let Advice { label, edit } = self.missing_advice(alloc)?;
+        let at = self.end_before().from;
+        let mark = Mark { at, size: 0, label };
+        Ok(Some(Missing { mark, edit }))
     }
 
     /// A mark at the open parenthesis, or at the declaration of the field in the place of a number.
@@ -264,6 +356,25 @@ impl<'a> Stop<'_, 'a> {
     }
 }
 
+/// The message for a mark where something else was expected, with what is missing.
+fn stop_message(
+    alloc: Global,
+    head: String,
+    mark: Mark,
+    edit: Option<Edit>,
+    missing: Option<Missing>,
+) -> Result<Message, AllocError>
+    ensures { IfOk result (IsAt 11 mark.at) }
+{
+    let message = Message::at(alloc, 11, head, mark);
+    match missing {
+        Some(Missing { mark, edit: other }) => {
+            message.with_edit(first_edit(edit, other)).with(Some(mark))
+        }
+        None => Ok(message.with_edit(edit)),
+    }
+}
+
 /// The message for a place at which something else was expected.
 pub fn expected_message(
     alloc: Global,
@@ -279,11 +390,11 @@ pub fn expected_message(
         what,
     };
     let head = stop.head(alloc)?;
-    let label = stop.label(alloc)?;
+    let Advice { label, edit } = stop.advice(alloc)?;
     let size = text_of(stop.token()).len();
-    Message::at(alloc, 11, head, Mark { at, size, label })
-        .with(stop.missing(alloc)?)?
-        .with(stop.other(alloc)?)
+    let mark = Mark { at, size, label };
+    let message = stop_message(alloc, head, mark, edit, stop.missing(alloc)?)?;
+    message.with(stop.other(alloc)?)
 }
 
 /// The message for the 65th nested token of a condition.

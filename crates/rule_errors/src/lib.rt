@@ -2,6 +2,7 @@
 //! further faults that don't follow from it.
 #![tactic(auto)]
 
+mod advice;
 mod bytes;
 mod checks;
 mod explaining;
@@ -18,6 +19,7 @@ mod numbers;
 mod packets;
 mod rules;
 mod source;
+mod strays;
 mod tables;
 mod token_faults;
 mod tokens;

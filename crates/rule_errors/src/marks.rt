@@ -2,10 +2,16 @@
 
 ghost use Rattle.std.specs.Prelude.{◌≡◌};
 
+use crate::advice::ByteSpan;
 use crate::source::Declaration;
 use diagnostics::Mark;
 use rule_lexer::{Token, TokenKind};
 use std::alloc::{AllocError, Global};
+
+/// The bytes of a token.
+pub fn span(token: Token<'_>) -> ByteSpan {
+    ByteSpan::new(token.at, token.text.len())
+}
 
 /// A mark under a token.
 pub fn mark(token: Token<'_>, label: String) -> Mark

@@ -3,7 +3,8 @@
 ghost use Rattle.std.specs.Prelude.{◌≡◌, IfOk};
 ghost use Rattle.diagnostics.specs.Message.{IsAt};
 
-use crate::marks::{declared_mark, mark};
+use crate::advice::Advice;
+use crate::marks::{declared_mark, mark, span};
 use crate::nearest::nearest_name;
 use crate::source::{Declaration, NameKind, Source};
 use diagnostics::{Many, Message, around, printable};
@@ -107,12 +108,14 @@ fn advice(
     alloc: Global,
     near: Option<Declaration<'_>>,
     wanted: NameKind,
-    text: &[u8],
-) -> Result<String, AllocError> {
+    token: Token<'_>,
+) -> Result<Advice, AllocError> {
     match near {
-        Some(near) if near.text == text => String::from_str(alloc, other_kind(wanted, near.kind)),
-        Some(near) => around(alloc, "did you mean ", near.text, "?"),
-        None => declaration(alloc, wanted, text),
+        Some(near) if near.text == token.text => {
+            Advice::plain(alloc, other_kind(wanted, near.kind))
+        }
+        Some(near) => Advice::meant(alloc, span(token), near.text),
+        None => Ok(Advice::words(declaration(alloc, wanted, token.text)?)),
     }
 }
 
@@ -190,7 +193,10 @@ pub fn unknown(
     let near = near_name(alloc, source, wanted, token.text)?;
     let others = other_uses(source, token, wanted);
     let head = unknown_head(alloc, wanted, token.text)?;
-    let label = with_uses(alloc, advice(alloc, near, wanted, token.text)?, others)?;
+    let Advice { label, edit } = advice(alloc, near, wanted, token)?;
+    let label = with_uses(alloc, label, others)?;
     let other = declared_mark(alloc, near, "declared here")?;
-    Message::at(alloc, 22, head, mark(token, label)).with(other)
+    Message::at(alloc, 22, head, mark(token, label))
+        .with_edit(edit)
+        .with(other)
 }

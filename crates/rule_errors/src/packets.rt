@@ -3,8 +3,10 @@
 ghost use Rattle.std.specs.Prelude.{◌≡◌, IfOk};
 ghost use Rattle.diagnostics.specs.Message.{IsAt};
 
-use crate::marks::{mark, value_of};
-use diagnostics::{Message, around, printable};
+use crate::advice::Advice;
+use crate::marks::{mark, span, value_of};
+use crate::token_faults::hexadecimal;
+use diagnostics::{Message, around};
 use lc_model::mids;
 use rule_lexer::Token;
 use std::alloc::{AllocError, Global};
@@ -36,12 +38,12 @@ fn is_telemetry_in_hex(digits: &[u8]) -> bool {
 }
 
 /// What to do about the message id in a token.
-fn mid_label(alloc: Global, token: Token<'_>) -> Result<String, AllocError> {
+fn mid_advice(alloc: Global, token: Token<'_>) -> Result<Advice, AllocError> {
     if is_telemetry_in_hex(token.text) {
-        let digits = printable(alloc, token.text)?;
-        return format!(in alloc; "did you mean `0x{digits}`?");
+        let number = hexadecimal(alloc, token.text)?;
+        return Advice::meant(alloc, span(token), number.as_slice());
     }
-    String::from_str(alloc, telemetry_label(value_of(token)))
+    Advice::plain(alloc, telemetry_label(value_of(token)))
 }
 
 /// The message for a message id that isn't one of telemetry.
@@ -54,8 +56,8 @@ pub fn no_telemetry(alloc: Global, token: Token<'_>) -> Result<Message, AllocErr
         token.text,
         " is not one of telemetry",
     )?;
-    let label = mid_label(alloc, token)?;
-    Ok(Message::at(alloc, 23, head, mark(token, label)))
+    let Advice { label, edit } = mid_advice(alloc, token)?;
+    Ok(Message::at(alloc, 23, head, mark(token, label)).with_edit(edit))
 }
 
 /// What to do about a message id of the host's own.

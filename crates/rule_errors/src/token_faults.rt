@@ -7,7 +7,9 @@ ghost use Rattle.rpn_compiler.specs.Fault.{refusal_of};
 ghost use Rattle.diagnostics.specs.Message.{IsAt, first_place};
 ghost use Rattle.rule_errors.specs.Telling.{TellsOf, TellsReason, ends_line, place_of};
 
+use crate::advice::{Advice, ByteSpan};
 use crate::bytes::{character, last_word, word_size};
+use crate::strays::{bad_byte, run_size};
 use diagnostics::{Grouped, Many, Mark, Message, around, behind, front, nearest};
 use lc_model::TYPE_WORDS;
 use rule_lexer::{LexError, LexReason, TokenKind, lex};
@@ -19,117 +21,6 @@ const LONGEST_NAME: usize = 32;
 const LONGEST_STRING: usize = 31;
 
 const LARGEST_NUMBER: u64 = 0xFFFF_FFFF;
-
-/// Whether a token begins here that ends a run of one character: `!=`, or a negative number.
-fn begins_token(rest: &[u8]) -> bool {
-    match rest {
-        [b'!', b'=', ..] => true,
-        [b'-', digit, ..] => digit.is_ascii_digit(),
-        _ => false,
-    }
-}
-
-/// The size in bytes of the run of one character in front.
-fn run_size(rest: &[u8]) -> usize {
-    let (_, size) = character(rest);
-    let one = front(rest, size);
-    let mut run = size;
-    for _ in 0..rest.len() {
-        let next = behind(rest, run);
-        if !next.starts_with(one) || begins_token(next) {
-            break;
-        }
-        run = run.saturating_add(size);
-    }
-    run.min(rest.len())
-}
-
-/// Blanks that aren't ASCII, byte order marks, and other invisible characters: the first and the last of each range.
-const UNSEEN: &[(u32, u32)] = &[
-    (0xA0, 0xA0),
-    (0xAD, 0xAD),
-    (0x1680, 0x1680),
-    (0x2000, 0x200D),
-    (0x2028, 0x2029),
-    (0x202F, 0x202F),
-    (0x205F, 0x2060),
-    (0x3000, 0x3000),
-    (0xFEFF, 0xFEFF),
-];
-
-/// Single quotes, slanted quotes and angle quotes: the first and the last of each range.
-const OTHER_QUOTES: &[(u32, u32)] = &[
-    (0x27, 0x27),
-    (0x60, 0x60),
-    (0xAB, 0xAB),
-    (0xB4, 0xB4),
-    (0xBB, 0xBB),
-    (0x2018, 0x201F),
-    (0x2039, 0x203A),
-];
-
-/// Whether one of the ranges has the character.
-fn is_among(character: char, rows: &[(u32, u32)]) -> bool {
-    let code = character as u32;
-    rows.iter().any(|row| row.0 <= code && code <= row.1)
-}
-
-/// What to do about characters that other languages have.
-const ADVICE: &[(char, &str)] = &[
-    ('&', "did you mean `and`?"),
-    ('|', "did you mean `or`?"),
-    ('!', "did you mean `not`?"),
-    ('^', "did you mean `xor`?"),
-    ('-', "`-` stands directly before a number"),
-    ('/', "a comment begins with `#`"),
-    ('[', "did you mean `(`?"),
-    ('{', "did you mean `(`?"),
-    (']', "did you mean `)`?"),
-    ('}', "did you mean `)`?"),
-];
-
-/// What to do about a character that begins no token, wherever it stands.
-fn plain_advice(character: char) -> &'static str {
-    if let Some(row) = ADVICE.iter().find(|row| row.0 == character) {
-        row.1
-    } else if is_among(character, OTHER_QUOTES) {
-        "write `\"` around a quoted text"
-    } else if is_among(character, UNSEEN) {
-        "this can't be seen: leave it out"
-    } else {
-        "leave it out"
-    }
-}
-
-/// What to do about a character that begins no token.
-fn advice(text: &[u8], at: usize, character: char) -> &'static str {
-    if character != '.' {
-        return plain_advice(character);
-    }
-    match last_word(front(text, at)) {
-        [first, ..] if first.is_ascii_digit() => {
-            "numbers are whole: write the raw value of the telemetry"
-        }
-        [_, ..] => "a field is named alone, without its packet",
-        [] => plain_advice(character),
-    }
-}
-
-fn bad_byte(alloc: Global, text: &[u8], at: usize) -> Result<Message, AllocError>
-    ensures { IfOk result (IsAt 1 at) }
-{
-    let rest = behind(text, at);
-    let size = run_size(rest);
-    let (first, _) = character(rest);
-    let head = around(
-        alloc,
-        "",
-        front(rest, size),
-        " has no meaning in this language",
-    )?;
-    let label = String::from_str(alloc, advice(text, at, first))?;
-    Ok(Message::at(alloc, 1, head, Mark { at, size, label }))
-}
 
 /// The size of the sign in front in bytes: 0 or 1.
 fn sign_size(rest: &[u8]) -> usize {
@@ -187,7 +78,7 @@ fn intended_number(alloc: Global, digits: &[u8]) -> Result<Vec<u8>, AllocError> 
 }
 
 /// The digits with `0x` before them.
-fn hexadecimal(alloc: Global, digits: &[u8]) -> Result<Vec<u8>, AllocError> {
+pub fn hexadecimal(alloc: Global, digits: &[u8]) -> Result<Vec<u8>, AllocError> {
     let mut number = Vec::from_slice(alloc, b"0x")?;
     number.extend_from_slice(digits)?;
     Ok(number)
@@ -222,16 +113,16 @@ fn with_sign(alloc: Global, written: &[u8]) -> Result<Vec<u8>, AllocError> {
     Ok(whole)
 }
 
-/// What to write in the place of an invalid number.
-fn number_advice(alloc: Global, written: &[u8]) -> Result<String, AllocError> {
+/// What to do about an invalid number of these bytes.
+fn number_advice(alloc: Global, old: ByteSpan, written: &[u8]) -> Result<Advice, AllocError> {
     if matches!(behind(written, sign_size(written)), b"0x") {
-        return String::from_str(alloc, "write hexadecimal digits behind `0x`");
+        return Advice::plain(alloc, "write hexadecimal digits behind `0x`");
     }
     let number = with_sign(alloc, written)?;
     if is_number(alloc, number.as_slice()) {
-        return around(alloc, "did you mean ", number.as_slice(), "?");
+        return Advice::meant(alloc, old, number.as_slice());
     }
-    String::from_str(alloc, "write digits, or hexadecimal digits behind `0x`")
+    Advice::plain(alloc, "write digits, or hexadecimal digits behind `0x`")
 }
 
 /// Whether a field's type stands after these bytes: they end with `=` and a packet's name.
@@ -274,22 +165,23 @@ fn intended_type(
 }
 
 /// What to do about an invalid number.
-fn invalid_label(
+fn invalid_advice(
     alloc: Global,
     text: &[u8],
     at: usize,
     written: &[u8],
-) -> Result<String, AllocError> {
+) -> Result<Advice, AllocError> {
+    let old = ByteSpan::new(at, written.len());
     match intended_type(alloc, text, at, written)? {
-        Some(word) => around(alloc, "did you mean ", word, "?"),
-        None => number_advice(alloc, written),
+        Some(word) => Advice::meant(alloc, old, word),
+        None => number_advice(alloc, old, written),
     }
 }
 
 /// What to do about a number that is too large.
-fn most_label(alloc: Global) -> Result<String, AllocError> {
+fn most_advice(alloc: Global) -> Result<Advice, AllocError> {
     let most = Grouped(LARGEST_NUMBER);
-    format!(in alloc; "write at most {most}")
+    Ok(Advice::words(format!(in alloc; "write at most {most}")?))
 }
 
 fn bad_number(
@@ -309,12 +201,12 @@ fn bad_number(
         " is not a number"
     };
     let head = around(alloc, "", written, what)?;
-    let label = if is_too_large {
-        most_label(alloc)?
+    let Advice { label, edit } = if is_too_large {
+        most_advice(alloc)?
     } else {
-        invalid_label(alloc, text, at, written)?
+        invalid_advice(alloc, text, at, written)?
     };
-    Ok(Message::at(alloc, 2, head, Mark { at, size, label }))
+    Ok(Message::at(alloc, 2, head, Mark { at, size, label }).with_edit(edit))
 }
 
 fn long_name(alloc: Global, text: &[u8], at: usize) -> Result<Message, AllocError>
@@ -413,6 +305,7 @@ fn long_text(alloc: Global, text: &[u8]) -> Result<Message, AllocError>
         head,
         first: None,
         others: Vec::new(alloc),
+        edit: None,
     })
 }
 

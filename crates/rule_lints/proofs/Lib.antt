@@ -3,4 +3,5 @@ mod Parting
 mod Listed
 mod Nothing
 mod Naming
-mod Messages
+mod Meeting
+mod Grouping

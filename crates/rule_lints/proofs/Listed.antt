@@ -1,27 +1,24 @@
--- What a loop over items, over warnings or over the names of a comment leaves.
+-- What a loop over items or over the names of a comment leaves.
 use Rattle.std.proofs.Common.{◌≡◌, ◌≤◌, ◌++◌, ◌∙◌, ℕ, List, [], ◌∷◌, flat_map, length, suc, take, refl, sym, ap, arith, subst}
 use Rattle.std.proofs.lemmas.List.{take_all, take_at}
 use denote.Ref.{Bor}
 use Rattle.lc_model.specs.Text.Syntax as model
 use Rattle.rule_parser.specs.declared.syntax.Item.{Item}
 use Rattle.rule_parser.specs.Syntax.{item_of, items_of}
-use Rattle.rule_lints.specs.declared.warning.Warning.{Warning}
-use Rattle.rule_lints.specs.Items.{of_item}
 use Rattle.rule_lints.specs.Words.{texts_of}
 
-of_items : (all : List model.Item) (items : List Item)
-    → flat_map (λ (i : Item). of_item all (item_of i)) items ≡ flat_map (of_item all) (items_of items)
-of_items all [] = refl
-of_items all (item ∷ items) = ap (λ found. of_item all (item_of item) ++ found) (of_items all items)
+of_items : {A : Type 0} (f : model.Item → List A) (items : List Item) → flat_map (λ (i : Item). f (item_of i)) items ≡ flat_map f (items_of items)
+of_items f [] = refl
+of_items f (item ∷ items) = ap (λ found. f (item_of item) ++ found) (of_items f items)
 
--- the warnings of the first so many items are those of all
-pub of_all : (first found : List Warning) (items : List Item) (n : ℕ)
-    → found ≡ first ++ flat_map (λ (i : Item). of_item (items_of items) (item_of i)) (take n items) → length items ≤ n
-    → found ≡ first ++ flat_map (of_item (items_of items)) (items_of items)
-of_all first found items n so_far all =
+-- what the first so many items give is what all give
+pub of_all : {A : Type 0} (f : model.Item → List A) (first found : List A) (items : List Item) (n : ℕ)
+    → found ≡ first ++ flat_map (λ (i : Item). f (item_of i)) (take n items) → length items ≤ n
+    → found ≡ first ++ flat_map f (items_of items)
+of_all f first found items n so_far all =
     so_far
-    ∙ ap (λ (front : List Item). first ++ flat_map (λ (i : Item). of_item (items_of items) (item_of i)) front) (take_all n items all)
-    ∙ ap (λ behind. first ++ behind) (of_items (items_of items) items)
+    ∙ ap (λ (front : List Item). first ++ flat_map (λ (i : Item). f (item_of i)) front) (take_all n items all)
+    ∙ ap (λ behind. first ++ behind) (of_items f items)
 
 length_of : (names : List (Bor (List ℕ))) → length (texts_of names) ≡ length names
 length_of [] = refl

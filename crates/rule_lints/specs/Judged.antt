@@ -1,7 +1,10 @@
 -- The warnings of what is judged of rules before any packet comes. This project's own.
-use Rattle.std.specs.Prelude.{ℕ, zero, suc, Bool, true, false, not, ◌&&◌, ◌||◌, if◌then◌else◌, List, [], ◌∷◌, ◌++◌, filter_map, flat_map, length, slice_get, Option, Some, None, option_map}
-use Rattle.std.specs.List.{list_all}
+use Rattle.std.specs.Prelude.{ℕ, zero, suc, Bool, true, false, not, ◌&&◌, ◌||◌, ◌==◌, if◌then◌else◌, List, [], ◌∷◌, ◌++◌, filter_map, find, flat_map, fold, length, slice_get, Option, Some, None, option_map}
+use Rattle.std.specs.List.{list_any}
+use Rattle.std.specs.Option.{option_map_or}
 use Rattle.std.specs.Ordering.{int_eq}
+use Rattle.lc_model.specs.declared.field.Term.{Term}
+use Rattle.lc_model.specs.Tables.Equation.{same_term}
 use Rattle.lc_model.specs.Text.Syntax.{Expression, Compare, Not, Join, RuleItem, Item, Packet, Field, Rule}
 use Rattle.rule_analysis.specs.declared.finding.ComparisonJudgement.{ComparisonJudgement}
 use Rattle.rule_analysis.specs.declared.finding.Constancy.{Constancy}
@@ -125,27 +128,67 @@ is_same relation.Same = true
 is_same relation.FirstFollows = false
 is_same relation.SecondFollows = false
 
--- rules that fail alike are told, and rules of which one follows the other where both request one sequence: others are stages
-abbrev pub is_doubtful : List Item → PairJudgement → Bool
-is_doubtful items p = is_same p.relation || request_alike (rule_at items p.first) (rule_at items p.second)
+-- ---- groups of rules that fail alike
+
+-- both always fail together, and may both fail and pass
+abbrev pub is_alike : List RuleJudgement → PairJudgement → Bool
+is_alike js p = is_same p.relation && goes_both_ways (slice_get js p.first) && goes_both_ways (slice_get js p.second)
+
+-- some pair has the rules with these numbers
+abbrev pub is_among : List PairJudgement → (first second : ℕ) → Bool
+is_among pairs first second = list_any (λ (p : PairJudgement). (p.first == first) && (p.second == second)) pairs
+
+-- both rules of the pair are in the group of a third one
+abbrev pub is_covered : List PairJudgement → PairJudgement → Bool
+is_covered groups p = list_any (λ (q : PairJudgement). (q.second == p.first) && is_among groups q.first p.second) groups
+
+abbrev pub with_pair : List RuleJudgement → List PairJudgement → PairJudgement → List PairJudgement
+with_pair js groups p = if is_alike js p && not (is_covered groups p) then groups ++ p ∷ [] else groups
+
+-- the groups of rules that fail alike, as pairs of the first rule of a group with each other one: of the pairs of such rules, those
+-- that the pairs before don't cover
+abbrev pub grouped : List RuleJudgement → List PairJudgement → List PairJudgement
+grouped js pairs = fold (with_pair js) [] pairs
+
+-- the pair has the first two rules of a group
+abbrev pub leads : List PairJudgement → PairJudgement → Bool
+leads groups p =
+    option_map_or (λ (q : PairJudgement). q.second == p.second) (find (λ (q : PairJudgement). q.first == p.first) groups) false
+
+-- ---- pairs that are told
+
+-- an earlier rule fails alike and requests the same sequence, so what is said of that one isn't said again of this one
+abbrev pub has_twin : List Item → List PairJudgement → ℕ → Bool
+has_twin items pairs number =
+    list_any (λ (q : PairJudgement). is_same q.relation && (q.second == number)
+    && request_alike (rule_at items q.first) (rule_at items q.second)) pairs
+
+-- one of two rules follows the other, and both request one sequence: others are stages
+abbrev pub is_within : List Item → List PairJudgement → PairJudgement → Bool
+is_within items pairs p =
+    not (is_same p.relation) && request_alike (rule_at items p.first) (rule_at items p.second)
+    && not (has_twin items pairs p.first) && not (has_twin items pairs p.second)
+
+abbrev pub is_doubtful : List Item → (pairs groups : List PairJudgement) → PairJudgement → Bool
+is_doubtful items pairs groups p = (is_same p.relation && leads groups p) || is_within items pairs p
 
 -- rules that always or never fail are reported already
-abbrev pub of_pair : List Item → List RuleJudgement → PairJudgement → List Warning
-of_pair items js p =
-    if goes_both_ways (slice_get js p.first) && goes_both_ways (slice_get js p.second) && is_doubtful items p
+abbrev pub of_pair : List Item → List RuleJudgement → (pairs groups : List PairJudgement) → PairJudgement → List Warning
+of_pair items js pairs groups p =
+    if goes_both_ways (slice_get js p.first) && goes_both_ways (slice_get js p.second) && is_doubtful items pairs groups p
     then warn_at (name_at items (told_of p)) (lint_of_relation p.relation) (other_of p) else []
 
 -- ---- comparisons that can be done without
 
--- no comparison of the rule has the same outcome for all values; such comparisons are reported already
-abbrev pub all_vary : Option RuleJudgement → Bool
-all_vary None = false
-all_vary (Some j) = list_all (λ (c : ComparisonJudgement). not (is_constant c.says)) j.comparisons.items
+-- the comparison has the same outcome for all values; that is reported already
+abbrev pub is_told_constant : Option RuleJudgement → Term → Bool
+is_told_constant None t = false
+is_told_constant (Some j) t = list_any (λ (c : ComparisonJudgement). same_term c.term t && is_constant c.says) j.comparisons.items
 
 abbrev pub of_spare : List Item → List RuleJudgement → ℕ → Option SpareComparison → List Warning
 of_spare items js number None = []
 of_spare items js number (Some s) =
-    if goes_both_ways (slice_get js s.rule) && all_vary (slice_get js s.rule)
+    if goes_both_ways (slice_get js s.rule) && not (is_told_constant (slice_get js s.rule) s.term)
     then warn_at (name_at items s.rule) lint.SpareComparison number else []
 
 -- those of the first so many
@@ -160,7 +203,7 @@ of_unsampled items number = warn_at (name_at items number) lint.NeverSampled num
 
 -- ---- all that is judged
 
-abbrev pub judged : List Item → List RuleJudgement → List PairJudgement → List SpareComparison → List ℕ → List Warning
-judged items js pairs spare unsampled =
-    rules_below items js (length js) ++ flat_map (of_pair items js) pairs
+abbrev pub judged : List Item → List RuleJudgement → (pairs groups : List PairJudgement) → List SpareComparison → List ℕ → List Warning
+judged items js pairs groups spare unsampled =
+    rules_below items js (length js) ++ flat_map (of_pair items js pairs groups) pairs
     ++ spare_below items js spare (length spare) ++ flat_map (of_unsampled items) unsampled

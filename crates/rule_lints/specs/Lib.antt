@@ -2,6 +2,7 @@
 pub mod Names
 pub mod Items
 pub mod Judged
+pub mod Groups
 pub mod Quiet
 pub mod Words
 pub mod Warned

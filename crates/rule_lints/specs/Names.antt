@@ -7,6 +7,8 @@ abbrev pub name_of : Lint → List ℕ
 name_of lint.NoRules = codes "no-rules"
 name_of lint.UnusedField = codes "unused-field"
 name_of lint.UnusedPacket = codes "unused-packet"
+name_of lint.SameMessageId = codes "same-message-id"
+name_of lint.OverlappingFields = codes "overlapping-fields"
 name_of lint.DebugEvent = codes "debug-event"
 name_of lint.SameSequence = codes "same-sequence"
 name_of lint.NeverFails = codes "never-fails"

@@ -15,9 +15,10 @@ use Rattle.diagnostics.specs.Message.{first_place}
 use Rattle.diagnostics.specs.declared.message.Message.{Message}
 use Rattle.rule_lints.specs.declared.judging.Judged.{Judged}
 use Rattle.rule_lints.specs.declared.warning.Warning.{Warning}
+use Rattle.rule_lints.specs.declared.warning.Warnings.{Warnings}
 use Rattle.rule_lints.specs.Names.{name_of}
 use Rattle.rule_lints.specs.Items.{declared}
-use Rattle.rule_lints.specs.Judged.{judged}
+use Rattle.rule_lints.specs.Judged.{grouped, judged}
 use Rattle.rule_lints.specs.Quiet.{kept, known, spare_quiets}
 
 -- the numbers of the rules that the schedule never samples; none without a schedule
@@ -29,18 +30,19 @@ unsampled (Some plan) rules = filter (λ rule. not (is_sampled (requests_of plan
 pub record IsJudged (rules : List NamedRule) (plan : Option (Bor Schedule)) (all : Judged) : Type 0 where
   pub judged : AreJudged rules all.rules.items
   pub sound : AllByRecursion (IsPair rules) all.pairs.items
-  pub settled : AreSettled rules all.pairs.items
+  pub settled : AreSettled all.unsettled_pairs rules all.pairs.items
   pub needless : AllByRecursion (IsSpare rules) all.spare.items
-  pub told : AreToldOrNeeded rules all.spare.items
+  pub told : AreToldOrNeeded all.unsettled_comparisons rules all.spare.items
   pub pairs_once : AreInOrder all.pairs.items
   pub spare_once : AreOnce all.spare.items
+  pub groups : all.groups.items ≡ grouped all.rules.items all.pairs.items
   pub never : all.unsampled.items ≡ unsampled plan (length rules)
 
 -- all warnings, those that are kept quiet among them
 abbrev pub found : List ℕ → List Item → Judged → List Warning
 found text items all =
     declared items (length text)
-    ++ judged items all.rules.items all.pairs.items all.spare.items all.unsampled.items
+    ++ judged items all.rules.items all.pairs.items all.groups.items all.spare.items all.unsampled.items
 
 -- the warnings that are reported: those not kept quiet, and those of comments that are known to keep nothing quiet
 abbrev pub told : Bool → List ℕ → List Item → Judged → List Warning
@@ -53,11 +55,13 @@ named w = (Some (name_of w.lint), Some w.at)
 abbrev pub seen : Message → Option (List ℕ) × Option ℕ
 seen message = (option_map (λ (text : Bor (List ℕ)). text.now) message.warning, first_place message)
 
--- the messages are those of the reported warnings, in their order
-pub record AreWarned (text : List ℕ) (plan : Option (Bor Schedule)) (messages : List Message) : Type 0 where
+-- the messages are those of the reported warnings, in their order, and the counts are those of the judgements
+pub record AreWarned (text : List ℕ) (plan : Option (Bor Schedule)) (warnings : Warnings) : Type 0 where
   pub items : List Item
   pub rules : List NamedRule
   pub read : IsRead text items rules
   pub all : Judged
   pub are_judged : IsJudged rules plan all
-  pub are_told : map seen messages ≡ map named (told (is_some plan) text items all)
+  pub are_told : map seen warnings.messages.items ≡ map named (told (is_some plan) text items all)
+  pub pairs : warnings.unsettled_pairs ≡ all.unsettled_pairs
+  pub comparisons : warnings.unsettled_comparisons ≡ all.unsettled_comparisons

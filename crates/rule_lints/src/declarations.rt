@@ -1,15 +1,17 @@
 //! The warnings about declarations.
 
-ghost use Rattle.std.specs.Prelude.{◌≡◌, ◌++◌, IfOk, OnOk, length};
+ghost use Rattle.std.specs.Prelude.{◌≡◌, ◌++◌, [], IfOk, OnOk, length};
 ghost use Rattle.std.specs.List.{list_any};
-ghost use Rattle.rule_parser.specs.Syntax.{item_of, items_of, rule_of};
-ghost use Rattle.rule_lints.specs.Items.{declared, is_debug, is_field_used, is_packet_used, is_requested_before, is_rule, of_item, of_rule, requests_before, uses_field, uses_packet, warn_if};
+ghost use Rattle.lc_model.specs.Text.Meaning.{faults};
+ghost use Rattle.rule_parser.specs.Syntax.{field_of, item_of, items_of, packet_of, rule_of};
+ghost use Rattle.rule_lints.specs.Items.{declared, fields_of, has_id_before, is_debug, is_field_used, is_id_taken, is_packet_used, is_requested_before, is_rule, of_field, of_item, of_overlap, of_packet, of_rule, requests_before, uses_field, uses_packet, warn_by, warn_if};
 
+use crate::fields::{DeclaredField, declared_in, fields_of, overlapped_by};
 use crate::lint::Lint;
 use crate::warning::Warning;
 use analysis_listing::compares;
 use lc_model::EventKind;
-use rule_parser::{Item, RuleItem};
+use rule_parser::{FieldItem, Item, PacketItem, RuleItem};
 use std::alloc::{AllocError, Global};
 
 /// Whether the item is a rule that compares the field of this name.
@@ -50,6 +52,29 @@ fn is_packet_used(items: &[Item<'_>], name: &[u8]) -> bool
 {
     for item in items {
         if uses_packet(items, item, name) {
+            return true;
+        }
+    }
+    false
+}
+
+/// Whether the item is an earlier packet with the same message id as this packet.
+fn has_id_before(packet: &PacketItem<'_>, item: &Item<'_>) -> bool
+    ensures { result ≡ has_id_before (packet_of packet.now) (item_of item.now) }
+{
+    match item {
+        Item::Packet(other) => other.mid.value == packet.mid.value
+            && other.name.at < packet.name.at,
+        _ => false,
+    }
+}
+
+/// Whether an earlier packet has the same message id.
+fn is_id_taken(items: &[Item<'_>], packet: &PacketItem<'_>) -> bool
+    ensures { result ≡ is_id_taken (items_of items.now) (packet_of packet.now) }
+{
+    for item in items {
+        if has_id_before(packet, item) {
             return true;
         }
     }
@@ -121,6 +146,74 @@ pub(crate) fn warn_if(
     Ok(())
 }
 
+/// Adds this warning, if there is another field that it is about.
+fn warn_by(
+    found: &mut Vec<Warning>,
+    lint: Lint,
+    at: usize,
+    other: Option<DeclaredField>,
+) -> Result<(), AllocError>
+    ensures { OnOk result (found.new.items ≡ found.old.items ++ warn_by lint at other) }
+{
+    if let Some(other) = other {
+        found.push(Warning {
+            lint,
+            at,
+            about: other.at,
+        })?;
+    }
+    Ok(())
+}
+
+/// Adds the warning of a field that overlaps an earlier one of these.
+fn add_overlap(
+    fields: &[DeclaredField],
+    field: Option<DeclaredField>,
+    found: &mut Vec<Warning>,
+) -> Result<(), AllocError>
+    ensures { OnOk result (found.new.items ≡ found.old.items ++ of_overlap fields.now field) }
+{
+    match field {
+        Some(field) => {
+            let other = overlapped_by(fields, &field);
+            warn_by(found, Lint::OverlappingFields, field.at, other)
+        }
+        None => Ok(()),
+    }
+}
+
+/// Adds the warnings of a packet.
+fn add_packet(
+    items: &[Item<'_>],
+    packet: &PacketItem<'_>,
+    found: &mut Vec<Warning>,
+) -> Result<(), AllocError>
+    ensures { OnOk result (found.new.items ≡
+        found.old.items ++ of_packet (items_of items.now) (packet_of packet.now)) }
+{
+    let is_used = is_packet_used(items, packet.name.text);
+    warn_if(found, !is_used, Lint::UnusedPacket, packet.name.at, 0)?;
+    let is_taken = is_id_taken(items, packet);
+    warn_if(found, is_taken, Lint::SameMessageId, packet.name.at, 0)
+}
+
+/// Adds the warnings of a field. All fields of the text are `fields`.
+fn add_field(
+    items: &[Item<'_>],
+    fields: &[DeclaredField],
+    field: &FieldItem<'_>,
+    found: &mut Vec<Warning>,
+) -> Result<(), AllocError>
+    requires accepted { faults (items_of items.now) ≡ [] }
+    requires all { fields.now ≡ fields_of (items_of items.now) }
+    ensures { OnOk result (found.new.items ≡
+        found.old.items ++ of_field (items_of items.now) (field_of field.now)) }
+{
+    let is_used = is_field_used(items, field.name.text);
+    warn_if(found, !is_used, Lint::UnusedField, field.name.at, 0)?;
+    add_overlap(fields, declared_in(items, field), found)
+}
+
 /// Adds the warnings of a rule.
 fn add_rule(
     items: &[Item<'_>],
@@ -141,20 +234,21 @@ fn add_rule(
     warn_if(found, is_requested, Lint::SameSequence, rule.sequence.at, 0)
 }
 
-/// Adds the warnings of an item.
-fn add_item(items: &[Item<'_>], item: &Item<'_>, found: &mut Vec<Warning>) -> Result<(), AllocError>
+/// Adds the warnings of an item. All fields of the text are `fields`.
+fn add_item(
+    items: &[Item<'_>],
+    fields: &[DeclaredField],
+    item: &Item<'_>,
+    found: &mut Vec<Warning>,
+) -> Result<(), AllocError>
+    requires accepted { faults (items_of items.now) ≡ [] }
+    requires all { fields.now ≡ fields_of (items_of items.now) }
     ensures { OnOk result (found.new.items ≡
         found.old.items ++ of_item (items_of items.now) (item_of item.now)) }
 {
     match item {
-        Item::Packet(packet) => {
-            let is_used = is_packet_used(items, packet.name.text);
-            warn_if(found, !is_used, Lint::UnusedPacket, packet.name.at, 0)
-        }
-        Item::Field(field) => {
-            let is_used = is_field_used(items, field.name.text);
-            warn_if(found, !is_used, Lint::UnusedField, field.name.at, 0)
-        }
+        Item::Packet(packet) => add_packet(items, packet, found),
+        Item::Field(field) => add_field(items, fields, field, found),
         Item::Rule(rule) => add_rule(items, rule, found),
     }
 }
@@ -165,12 +259,14 @@ pub(crate) fn declaration_warnings(
     items: &[Item<'_>],
     end: usize,
 ) -> Result<Vec<Warning>, AllocError>
+    requires { faults (items_of items.now) ≡ [] }
     ensures { IfOk result (λ found. found.items ≡ declared (items_of items.now) end) }
 {
+    let fields = fields_of(alloc, items)?;
     let mut found = Vec::new(alloc);
     warn_if(&mut found, !has_rule(items), Lint::NoRules, end, 0)?;
     for item in items {
-        add_item(items, item, &mut found)?;
+        add_item(items, &fields, item, &mut found)?;
     }
     Ok(found)
 }

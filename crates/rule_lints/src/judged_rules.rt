@@ -3,6 +3,7 @@
 ghost use Rattle.std.specs.Prelude.{◌≡◌, IfOk};
 ghost use Rattle.rule_lints.specs.Warned.{IsJudged, unsampled};
 
+use crate::groups::grouped;
 use crate::judging::Judged;
 use analysis_listing::unsampled_rules;
 use lc_model::Rules;
@@ -36,10 +37,14 @@ pub(crate) fn judge_all(
     let pairs = judge_pairs(alloc, rules)?;
     let spare = spare_comparisons(alloc, rules)?;
     let unsampled = unsampled_numbers(alloc, plan, rules.as_slice().len())?;
+    let groups = grouped(alloc, &judgement.rules, &pairs.related)?;
     Ok(Judged {
         rules: judgement.rules,
-        pairs,
-        spare,
+        pairs: pairs.related,
+        unsettled_pairs: pairs.unsettled,
+        groups,
+        spare: spare.spare,
+        unsettled_comparisons: spare.unsettled,
         unsampled,
     })
 }

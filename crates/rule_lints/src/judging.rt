@@ -1,16 +1,18 @@
 //! The warnings about judgements.
 
-ghost use Rattle.std.specs.Prelude.{◌≡◌, ◌++◌, Some, OnOk, IfOk, flat_map, length, not, option_map, slice_get};
-ghost use Rattle.std.specs.List.{list_all};
+ghost use Rattle.std.specs.Prelude.{◌≡◌, ◌++◌, ◌==◌, ◌&&◌, Some, OnOk, IfOk, flat_map, length, option_map, slice_get};
+ghost use Rattle.std.specs.List.{list_any};
+ghost use Rattle.lc_model.specs.Tables.Equation.{same_term};
 ghost use Rattle.analysis_listing.specs.Said.{line_of};
 ghost use Rattle.rule_parser.specs.Syntax.{expression_of, items_of, rule_of};
-ghost use Rattle.rule_analysis.specs.declared.finding.PairJudgement.{PairJudgement as Pair};
-ghost use Rattle.rule_lints.specs.Judged.{all_vary, comparisons_below, goes_both_ways, is_constant, is_doubtful, is_same, judged, lint_of, lint_of_relation, name_at, of_comparison, of_found, of_judged, of_pair, of_spare, of_unsampled, other_of, places, request_alike, rule_at, rules_below, spare_below, told_first, told_of, warn_at, warn_of};
+ghost use Rattle.rule_lints.specs.Judged.{comparisons_below, has_twin, is_constant, is_doubtful, is_same, is_told_constant, is_within, judged, lint_of, lint_of_relation, name_at, of_comparison, of_found, of_judged, of_pair, of_spare, of_unsampled, other_of, places, request_alike, rule_at, rules_below, spare_below, told_first, told_of, warn_at, warn_of};
 
 use crate::declarations::warn_if;
+use crate::groups::{is_open, is_same, leads};
 use crate::lint::Lint;
 use crate::warning::Warning;
-use analysis_listing::{RuleFindings, goes_both_ways, said_of};
+use analysis_listing::{RuleFindings, said_of};
+use lc_model::Term;
 use rule_analysis::{
     ComparisonJudgement, Constancy, PairJudgement, Relation, RuleJudgement, SpareComparison,
 };
@@ -22,7 +24,13 @@ use std::alloc::{AllocError, Global};
 pub(crate) struct Judged {
     pub rules: Vec<RuleJudgement>,
     pub pairs: Vec<PairJudgement>,
+    /// The number of pairs that were not judged to the end.
+    pub unsettled_pairs: usize,
+    /// The groups of rules that fail alike: the first rule of each with each other one.
+    pub groups: Vec<PairJudgement>,
     pub spare: Vec<SpareComparison>,
+    /// The number of comparisons of which it was not judged to the end whether they are spare.
+    pub unsettled_comparisons: usize,
     /// The rules that the schedule never samples, by their numbers.
     pub unsampled: Vec<usize>,
 }
@@ -216,16 +224,6 @@ fn add_rules(
     Ok(())
 }
 
-/// Whether the rule with this number may both fail and pass, as far as is known.
-fn is_open(rules: &[RuleJudgement], number: usize) -> bool
-    ensures { result ≡ goes_both_ways (slice_get rules.now number) }
-{
-    match rules.get(number) {
-        Some(judged) => goes_both_ways(judged),
-        None => false,
-    }
-}
-
 /// Whether a pair is reported at its first rule: if only the second follows.
 fn told_first(relation: Relation) -> bool
     ensures { result ≡ told_first relation }
@@ -276,34 +274,63 @@ fn request_alike(items: &[Item<'_>], first: usize, second: usize) -> bool
     }
 }
 
-/// Whether both rules of a pair always fail together.
-fn is_same(relation: Relation) -> bool
-    ensures { result ≡ is_same relation }
+/// Whether an earlier rule always fails together with the second rule of a pair, which has this number, and requests its sequence.
+fn is_twin(items: &[Item<'_>], pair: PairJudgement, number: usize) -> bool
+    ensures { result ≡ (is_same pair.relation && (pair.second == number)
+        && request_alike (rule_at (items_of items.now) pair.first)
+        (rule_at (items_of items.now) pair.second)) }
 {
-    match relation {
-        Relation::Same => true,
-        Relation::FirstFollows | Relation::SecondFollows => false,
-    }
+    is_same(pair.relation) && pair.second == number && request_alike(items, pair.first, pair.second)
 }
 
-/// Whether a pair is worth a warning: rules that fail together; rules of which one follows the other, if both request one sequence.
-fn is_doubtful(items: &[Item<'_>], pair: PairJudgement) -> bool
-    ensures { result ≡ is_doubtful (items_of items.now) pair }
+/// Whether an earlier rule always fails together with the rule with this number, and requests its sequence.
+fn has_twin(items: &[Item<'_>], pairs: &[PairJudgement], number: usize) -> bool
+    ensures { result ≡ has_twin (items_of items.now) pairs.now number }
 {
-    is_same(pair.relation) || request_alike(items, pair.first, pair.second)
+    for pair in pairs {
+        if is_twin(items, *pair, number) {
+            return true;
+        }
+    }
+    false
+}
+
+/// Whether one rule of a pair follows the other, both request one sequence, and neither has a twin before it.
+fn is_within(items: &[Item<'_>], pairs: &[PairJudgement], pair: PairJudgement) -> bool
+    ensures { result ≡ is_within (items_of items.now) pairs.now pair }
+{
+    !is_same(pair.relation)
+        && request_alike(items, pair.first, pair.second)
+        && !has_twin(items, pairs, pair.first)
+        && !has_twin(items, pairs, pair.second)
+}
+
+/// Whether a pair is worth a warning: the first two rules of a group that fail alike; rules of which one follows the other, if both
+/// request one sequence.
+fn is_doubtful(
+    items: &[Item<'_>],
+    pairs: &[PairJudgement],
+    groups: &[PairJudgement],
+    pair: PairJudgement,
+) -> bool
+    ensures { result ≡ is_doubtful (items_of items.now) pairs.now groups.now pair }
+{
+    is_same(pair.relation) && leads(groups, pair) || is_within(items, pairs, pair)
 }
 
 /// Adds the warning of a pair of rules.
 fn add_pair(
     items: &[Item<'_>],
-    rules: &[RuleJudgement],
+    all: &Judged,
     pair: PairJudgement,
     found: &mut Vec<Warning>,
 ) -> Result<(), AllocError>
-    ensures { OnOk result (found.new.items ≡
-        found.old.items ++ of_pair (items_of items.now) rules.now pair) }
+    ensures { OnOk result (found.new.items ≡ found.old.items ++
+        of_pair (items_of items.now) all.now.rules.items all.now.pairs.items
+        all.now.groups.items pair) }
 {
-    if !(is_open(rules, pair.first) && is_open(rules, pair.second) && is_doubtful(items, pair)) {
+    let is_open = is_open(&all.rules, pair.first) && is_open(&all.rules, pair.second);
+    if !(is_open && is_doubtful(items, &all.pairs, &all.groups, pair)) {
         return Ok(());
     }
     let place = name_at(items, told_of(pair));
@@ -315,40 +342,54 @@ fn add_pair(
     )
 }
 
-/// Adds the warnings of all pairs.
+/// Adds the warnings of some pairs.
 fn add_pairs(
     items: &[Item<'_>],
-    rules: &[RuleJudgement],
+    all: &Judged,
     pairs: &[PairJudgement],
     found: &mut Vec<Warning>,
 ) -> Result<(), AllocError>
-    ensures { OnOk result (found.new.items ≡
-        found.old.items ++ flat_map (of_pair (items_of items.now) rules.now) pairs.now) }
+    ensures { OnOk result (found.new.items ≡ found.old.items ++
+        flat_map (of_pair (items_of items.now) all.now.rules.items all.now.pairs.items
+        all.now.groups.items) pairs.now) }
 {
     for pair in pairs {
-        add_pair(items, rules, *pair, found)?;
+        add_pair(items, all, *pair, found)?;
     }
     Ok(())
 }
 
-/// Whether no comparison has the same outcome for all values.
-fn all_comparisons_vary(judged: &[ComparisonJudgement]) -> bool
-    ensures { result ≡ list_all (λ c. not (is_constant c.says)) judged.now }
+/// Whether the terms are equal.
+fn are_one(one: &Term, other: &Term) -> bool
+    ensures { result ≡ same_term one.now other.now }
 {
-    for comparison in judged {
-        if is_constant(comparison.says) {
-            return false;
-        }
-    }
-    true
+    one.kind.code() == other.kind.code()
+        && one.mid == other.mid
+        && one.offset == other.offset
+        && one.mask == other.mask
+        && one.stale == other.stale
+        && one.op.code() == other.op.code()
+        && one.value == other.value
 }
 
-/// Whether no comparison of the rule with this number has the same outcome for all values.
-fn all_vary(rules: &[RuleJudgement], number: usize) -> bool
-    ensures { result ≡ all_vary (slice_get rules.now number) }
+/// Whether one of the comparisons has this term, and the same outcome for all values.
+fn is_constant_among(judged: &[ComparisonJudgement], term: &Term) -> bool
+    ensures { result ≡ list_any (λ c. same_term c.term term.now && is_constant c.says) judged.now }
+{
+    for comparison in judged {
+        if are_one(&comparison.term, term) && is_constant(comparison.says) {
+            return true;
+        }
+    }
+    false
+}
+
+/// Whether the comparison of the rule with this number has the same outcome for all values.
+fn is_told_constant(rules: &[RuleJudgement], number: usize, term: &Term) -> bool
+    ensures { result ≡ is_told_constant (slice_get rules.now number) term.now }
 {
     match rules.get(number) {
-        Some(judged) => all_comparisons_vary(&judged.comparisons),
+        Some(judged) => is_constant_among(&judged.comparisons, term),
         None => false,
     }
 }
@@ -364,7 +405,7 @@ fn add_spare(
     ensures { OnOk result (found.new.items ≡
         found.old.items ++ of_spare (items_of items.now) rules.now number (Some spare)) }
 {
-    if !(is_open(rules, spare.rule) && all_vary(rules, spare.rule)) {
+    if !is_open(rules, spare.rule) || is_told_constant(rules, spare.rule, &spare.term) {
         return Ok(());
     }
     let place = name_at(items, spare.rule);
@@ -427,10 +468,11 @@ pub(crate) fn add_judged(
     found: &mut Vec<Warning>,
 ) -> Result<(), AllocError>
     ensures { OnOk result (found.new.items ≡ found.old.items ++ judged (items_of items.now)
-        all.now.rules.items all.now.pairs.items all.now.spare.items all.now.unsampled.items) }
+        all.now.rules.items all.now.pairs.items all.now.groups.items all.now.spare.items
+        all.now.unsampled.items) }
 {
     add_rules(alloc, items, &all.rules, found)?;
-    add_pairs(items, &all.rules, &all.pairs, found)?;
+    add_pairs(items, all, &all.pairs, found)?;
     add_spares(items, &all.rules, &all.spare, found)?;
     add_unsampled(items, &all.unsampled, found)
 }

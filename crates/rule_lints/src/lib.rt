@@ -3,11 +3,15 @@
 
 mod comments;
 mod declarations;
+mod fields;
+mod groups;
 mod judged_rules;
 mod judging;
+pub mod laws;
 mod lint;
 mod sentences;
 mod warned;
 mod warning;
 
 pub use warned::warnings;
+pub use warning::Warnings;

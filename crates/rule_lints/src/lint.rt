@@ -12,6 +12,10 @@ pub enum Lint {
     UnusedField,
     /// No rule compares a field of the packet.
     UnusedPacket,
+    /// An earlier packet has the same message id.
+    SameMessageId,
+    /// The field shares bits with an earlier one, and neither is a part of the other.
+    OverlappingFields,
     /// The rule's event is of type `debug`, which is off until a command turns it on.
     DebugEvent,
     /// An earlier rule requests the same sequence.
@@ -26,7 +30,7 @@ pub enum Lint {
     NotKnown,
     /// The comparison has the same outcome for all values of its field.
     ConstantComparison,
-    /// The rule and another one always fail together, if the fields of both are known.
+    /// The rule and others always fail together, if the fields of all are known.
     FailsAlike,
     /// Another rule fails whenever this one fails, if its own fields are known.
     FailsWherever,
@@ -43,6 +47,8 @@ pub const LINTS: &[Lint] = &[
     Lint::NoRules,
     Lint::UnusedField,
     Lint::UnusedPacket,
+    Lint::SameMessageId,
+    Lint::OverlappingFields,
     Lint::DebugEvent,
     Lint::SameSequence,
     Lint::NeverFails,
@@ -66,6 +72,8 @@ impl Lint {
             Lint::NoRules => "no-rules",
             Lint::UnusedField => "unused-field",
             Lint::UnusedPacket => "unused-packet",
+            Lint::SameMessageId => "same-message-id",
+            Lint::OverlappingFields => "overlapping-fields",
             Lint::DebugEvent => "debug-event",
             Lint::SameSequence => "same-sequence",
             Lint::NeverFails => "never-fails",

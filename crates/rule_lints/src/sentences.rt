@@ -11,17 +11,17 @@ use crate::warning::Warning;
 use analysis_listing::{
     FieldNames, NameSource, RuleFindings, ShownTerm, Values, said_of, terms_in, why,
 };
-use diagnostics::{Mark, Message, around, nearest, written_line};
+use diagnostics::{Many, Mark, Message, around, nearest, written_line};
 use lc_model::Term;
 use rpn_compiler::RuleText;
 use rule_analysis::{ComparisonJudgement, Constancy, RuleJudgement, SpareComparison};
 use rule_lexer::{Token, TokenKind};
-use rule_parser::{Item, RuleItem};
+use rule_parser::{Item, PacketItem, RuleItem};
 use std::alloc::{AllocError, Global};
 
 /// A text with its judgements and the names of its fields.
 #[derive(Drop)]
-pub(crate) struct Subject<'s, 'a> {
+pub(crate) struct JudgedText<'s, 'a> {
     text: &'s RuleText<'a>,
     judged: &'s Judged,
     names: FieldNames<'a>,
@@ -56,14 +56,28 @@ fn of_name(
     Ok(plain(head, String::from_str(alloc, label)?))
 }
 
-impl<'s, 'a> Subject<'s, 'a> {
+/// Two names, with the words between and after them.
+fn two_names(
+    alloc: Global,
+    first: &[u8],
+    between: &str,
+    second: &[u8],
+    behind: &str,
+) -> Result<String, AllocError> {
+    let mut text = around(alloc, "", first, between)?;
+    let rest = around(alloc, "", second, behind)?;
+    text.push_str(rest.as_str())?;
+    Ok(text)
+}
+
+impl<'s, 'a> JudgedText<'s, 'a> {
     /// A text with its judgements. The only error is a lack of memory.
     pub fn new(
         alloc: Global,
         text: &'s RuleText<'a>,
         judged: &'s Judged,
-    ) -> Result<Subject<'s, 'a>, AllocError> {
-        Ok(Subject {
+    ) -> Result<JudgedText<'s, 'a>, AllocError> {
+        Ok(JudgedText {
             text,
             judged,
             names: FieldNames::of(alloc, text)?,
@@ -90,6 +104,15 @@ impl<'s, 'a> Subject<'s, 'a> {
             Some(token) => token.text,
             None => &[],
         }
+    }
+
+    /// A mark under the name at this place.
+    fn name_mark(&self, alloc: Global, at: usize, label: &str) -> Result<Mark, AllocError> {
+        Ok(Mark {
+            at,
+            size: self.text_at(at).len(),
+            label: String::from_str(alloc, label)?,
+        })
     }
 
     /// The name of the rule with this number, and its place.
@@ -136,10 +159,84 @@ fn unused_packet(alloc: Global, name: &[u8]) -> Result<WarningWords, AllocError>
     of_name(alloc, "no rule uses the packet ", name, "", label)
 }
 
+/// A packet whose message id an earlier packet has.
+fn same_message_id(
+    alloc: Global,
+    subject: &JudgedText<'_, '_>,
+    at: usize,
+) -> Result<WarningWords, AllocError> {
+    let items = subject.text.file.items.as_slice();
+    let (packet, first) = packets_alike(items, at).ok_or(AllocError)?;
+    let head = two_names(
+        alloc,
+        packet.name.text,
+        " has the message id of ",
+        first.name.text,
+        "",
+    )?;
+    let label = "take another message id, or join the two packets";
+    let mut words = plain(head, String::from_str(alloc, label)?);
+    words.other = Some(subject.name_mark(alloc, first.name.at, "it has it, too")?);
+    Ok(words)
+}
+
+/// The packet whose name is at this place.
+fn packet_at<'f, 'a>(items: &'f [Item<'a>], at: usize) -> Option<&'f PacketItem<'a>> {
+    for item in items {
+        if let Item::Packet(packet) = item {
+            if packet.name.at == at {
+                return Some(packet);
+            }
+        }
+    }
+    None
+}
+
+/// The first packet with this message id.
+fn first_with_id<'f, 'a>(items: &'f [Item<'a>], mid: i64) -> Option<&'f PacketItem<'a>> {
+    for item in items {
+        if let Item::Packet(packet) = item {
+            if packet.mid.value == mid {
+                return Some(packet);
+            }
+        }
+    }
+    None
+}
+
+/// The packet whose name is at this place, and the first one with its message id.
+fn packets_alike<'f, 'a>(
+    items: &'f [Item<'a>],
+    at: usize,
+) -> Option<(&'f PacketItem<'a>, &'f PacketItem<'a>)> {
+    let packet = packet_at(items, at)?;
+    let first = first_with_id(items, packet.mid.value)?;
+    Some((packet, first))
+}
+
+/// A field that shares bits with an earlier one.
+fn overlapping_fields(
+    alloc: Global,
+    subject: &JudgedText<'_, '_>,
+    warning: Warning,
+) -> Result<WarningWords, AllocError> {
+    let head = two_names(
+        alloc,
+        subject.text_at(warning.at),
+        " shares bits with ",
+        subject.text_at(warning.about),
+        "",
+    )?;
+    let label = "move one of them, or mask them apart";
+    let mut words = plain(head, String::from_str(alloc, label)?);
+    words.other = Some(subject.name_mark(alloc, warning.about, "the other one")?);
+    Ok(words)
+}
+
 /// A rule whose event is off.
 fn debug_event(
     alloc: Global,
-    subject: &Subject<'_, '_>,
+    subject: &JudgedText<'_, '_>,
     at: usize,
 ) -> Result<WarningWords, AllocError> {
     let label = "such events are off until a command turns them on";
@@ -157,7 +254,7 @@ fn debug_event(
 /// A rule whose sequence an earlier rule requests.
 fn same_sequence(
     alloc: Global,
-    subject: &Subject<'_, '_>,
+    subject: &JudgedText<'_, '_>,
     at: usize,
 ) -> Result<WarningWords, AllocError> {
     let Some(rule) = rule_asking(&subject.text.file.items, at) else {
@@ -198,7 +295,7 @@ fn first_asking<'f, 'a>(items: &'f [Item<'a>], value: i64) -> Option<&'f RuleIte
     None
 }
 
-impl<'s, 'a> Subject<'s, 'a> {
+impl<'s, 'a> JudgedText<'s, 'a> {
     /// A mark under the event's type of the rule whose name is at this place.
     fn level_mark(&self, alloc: Global, at: usize) -> Result<Option<Mark>, AllocError> {
         let from = self.number_at(at);
@@ -259,7 +356,7 @@ fn shown_values(
 /// A comparison of the rule with this number, between backticks.
 fn shown_term(
     alloc: Global,
-    subject: &Subject<'_, '_>,
+    subject: &JudgedText<'_, '_>,
     rule: usize,
     term: Term,
     behind: &str,
@@ -275,7 +372,7 @@ fn shown_term(
 /// The label of a rule that never or always fails.
 fn rule_label(
     alloc: Global,
-    subject: &Subject<'_, '_>,
+    subject: &JudgedText<'_, '_>,
     number: usize,
     judged: &RuleJudgement,
 ) -> Result<String, AllocError> {
@@ -308,7 +405,7 @@ fn rule_head(judged: &RuleJudgement) -> (&'static str, &'static str) {
 /// A rule that is judged by itself.
 fn judged_rule(
     alloc: Global,
-    subject: &Subject<'_, '_>,
+    subject: &JudgedText<'_, '_>,
     number: usize,
 ) -> Result<WarningWords, AllocError> {
     let Some(judged) = subject.judged.rules.get(number) else {
@@ -319,7 +416,7 @@ fn judged_rule(
     Ok(plain(head, rule_label(alloc, subject, number, judged)?))
 }
 
-impl<'s, 'a> Subject<'s, 'a> {
+impl<'s, 'a> JudgedText<'s, 'a> {
     /// The comparison at this place of the rule with this number.
     fn comparison_at(
         &self,
@@ -379,7 +476,7 @@ impl<'s, 'a> Subject<'s, 'a> {
 /// A comparison with the same outcome for all values.
 fn constant_comparison(
     alloc: Global,
-    subject: &Subject<'_, '_>,
+    subject: &JudgedText<'_, '_>,
     warning: Warning,
 ) -> Result<WarningWords, AllocError> {
     let Some(comparison) = subject.comparison_at(alloc, warning.about, warning.at)? else {
@@ -394,43 +491,81 @@ fn constant_comparison(
     Ok(plain(head, String::from_str(alloc, label)?))
 }
 
-/// Two names, with the words between and after them.
-fn two_names(
+/// The numbers of the rules of a group whose first rule has this number.
+fn rules_of_group(alloc: Global, judged: &Judged, first: usize) -> Result<Vec<usize>, AllocError> {
+    let mut numbers = Vec::new(alloc);
+    numbers.push(first)?;
+    for pair in &judged.groups {
+        if pair.first == first {
+            numbers.push(pair.second)?;
+        }
+    }
+    Ok(numbers)
+}
+
+/// How many rules of a group are named.
+const MOST_NAMED: usize = 3;
+
+/// The names of the first of some rules, with `, ` between them and `last` before the last one.
+fn named_rules(
     alloc: Global,
-    first: &[u8],
-    between: &str,
-    second: &[u8],
-    behind: &str,
+    subject: &JudgedText<'_, '_>,
+    numbers: &[usize],
+    last: &str,
 ) -> Result<String, AllocError> {
-    let mut text = around(alloc, "", first, between)?;
-    let rest = around(alloc, "", second, behind)?;
-    text.push_str(rest.as_str())?;
+    let mut text = String::new(alloc);
+    for (place, number) in numbers.iter().take(MOST_NAMED).enumerate() {
+        let between = if place == 0 {
+            ""
+        } else if place.saturating_add(1) == numbers.len() {
+            last
+        } else {
+            ", "
+        };
+        let name = around(alloc, between, subject.rule_name(*number), "")?;
+        text.push_str(name.as_str())?;
+    }
     Ok(text)
 }
 
-/// Two rules that always fail together.
+/// The head for rules that always fail together.
+fn alike_head(
+    alloc: Global,
+    subject: &JudgedText<'_, '_>,
+    numbers: &[usize],
+) -> Result<String, AllocError> {
+    let names = named_rules(alloc, subject, numbers, " and ")?;
+    let more = numbers.len().saturating_sub(MOST_NAMED);
+    if more == 0 {
+        format!(in alloc; "{names} fail alike")
+    } else {
+        let others = Many(more, "other");
+        format!(in alloc; "{names} and {others} fail alike")
+    }
+}
+
+/// Rules that always fail together.
 fn fails_alike(
     alloc: Global,
-    subject: &Subject<'_, '_>,
+    subject: &JudgedText<'_, '_>,
     warning: Warning,
 ) -> Result<WarningWords, AllocError> {
-    let other = subject.rule_name(warning.about);
-    let head = two_names(
-        alloc,
-        other,
-        " and ",
-        subject.text_at(warning.at),
-        " fail alike",
-    )?;
-    let mut words = plain(head, String::from_str(alloc, "leave one of the two out")?);
-    words.other = subject.rule_mark(alloc, warning.about, "the other one")?;
+    let numbers = rules_of_group(alloc, subject.judged, warning.about)?;
+    let (label, other) = if numbers.len() > 2 {
+        ("leave all but one out", "the first one")
+    } else {
+        ("leave one of the two out", "the other one")
+    };
+    let head = alike_head(alloc, subject, &numbers)?;
+    let mut words = plain(head, String::from_str(alloc, label)?);
+    words.other = subject.rule_mark(alloc, warning.about, other)?;
     Ok(words)
 }
 
 /// A rule with another one that fails whenever it fails.
 fn fails_wherever(
     alloc: Global,
-    subject: &Subject<'_, '_>,
+    subject: &JudgedText<'_, '_>,
     warning: Warning,
 ) -> Result<WarningWords, AllocError> {
     let other = subject.rule_name(warning.about);
@@ -450,7 +585,7 @@ fn fails_wherever(
 /// The head for a rule that can do without a comparison.
 fn spare_head(
     alloc: Global,
-    subject: &Subject<'_, '_>,
+    subject: &JudgedText<'_, '_>,
     spare: &SpareComparison,
 ) -> Result<String, AllocError> {
     let value = if spare.taken_as {
@@ -472,7 +607,7 @@ fn spare_head(
 /// A rule that can do without a comparison.
 fn spare_comparison(
     alloc: Global,
-    subject: &Subject<'_, '_>,
+    subject: &JudgedText<'_, '_>,
     warning: Warning,
 ) -> Result<WarningWords, AllocError> {
     let Some(spare) = subject.judged.spare.get(warning.about) else {
@@ -492,7 +627,7 @@ fn never_sampled(alloc: Global, name: &[u8], number: usize) -> Result<WarningWor
     Ok(plain(head, label))
 }
 
-impl<'s, 'a> Subject<'s, 'a> {
+impl<'s, 'a> JudgedText<'s, 'a> {
     /// The line that begins at this place.
     fn line_at(&self, at: usize) -> &'a [u8] {
         written_line(self.text.bytes, at.min(self.text.bytes.len()))
@@ -525,7 +660,7 @@ fn is_lint(name: &[u8]) -> bool {
 /// A comment that keeps nothing quiet.
 fn unused_quiet(
     alloc: Global,
-    subject: &Subject<'_, '_>,
+    subject: &JudgedText<'_, '_>,
     warning: Warning,
 ) -> Result<WarningWords, AllocError> {
     let names = quiet_names(alloc, subject.line_at(warning.at))?;
@@ -548,7 +683,7 @@ fn unused_quiet(
 /// The words of a warning about a declaration.
 fn declared_words(
     alloc: Global,
-    subject: &Subject<'_, '_>,
+    subject: &JudgedText<'_, '_>,
     warning: Warning,
 ) -> Result<WarningWords, AllocError> {
     let name = subject.text_at(warning.at);
@@ -556,6 +691,8 @@ fn declared_words(
         Lint::NoRules => no_rules(alloc),
         Lint::UnusedField => unused_field(alloc, name),
         Lint::UnusedPacket => unused_packet(alloc, name),
+        Lint::SameMessageId => same_message_id(alloc, subject, warning.at),
+        Lint::OverlappingFields => overlapping_fields(alloc, subject, warning),
         Lint::DebugEvent => debug_event(alloc, subject, warning.at),
         Lint::SameSequence => same_sequence(alloc, subject, warning.at),
         Lint::NeverSampled => never_sampled(alloc, name, warning.about),
@@ -566,7 +703,7 @@ fn declared_words(
 /// The words of a warning.
 fn words_of(
     alloc: Global,
-    subject: &Subject<'_, '_>,
+    subject: &JudgedText<'_, '_>,
     warning: Warning,
 ) -> Result<WarningWords, AllocError> {
     match warning.lint {
@@ -584,7 +721,7 @@ fn words_of(
 }
 
 /// The number of bytes that a warning marks.
-fn size_of(subject: &Subject<'_, '_>, warning: Warning) -> usize {
+fn size_of(subject: &JudgedText<'_, '_>, warning: Warning) -> usize {
     match warning.lint {
         Lint::ConstantComparison => subject.comparison_size(warning.at),
         Lint::UnusedQuiet => subject.line_at(warning.at).len(),
@@ -595,7 +732,7 @@ fn size_of(subject: &Subject<'_, '_>, warning: Warning) -> usize {
 /// A warning as a message.
 pub(crate) fn explain(
     alloc: Global,
-    subject: &Subject<'_, '_>,
+    subject: &JudgedText<'_, '_>,
     warning: Warning,
 ) -> Result<Message, AllocError>
     ensures { IfOk result (IsWarning (name_of warning.lint) warning.at) }

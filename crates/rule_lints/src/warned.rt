@@ -1,8 +1,9 @@
 //! All warnings of a rule text.
 
-ghost use Rattle.std.specs.Prelude.{◌≡◌, None, IfOk, map};
+ghost use Rattle.std.specs.Prelude.{◌≡◌, [], None, IfOk, map};
 ghost use Rattle.lc_model.specs.Tables.Compiling.{limit_refusal};
 ghost use Rattle.lc_model.specs.Tables.InForce.{limits};
+ghost use Rattle.lc_model.specs.Text.Meaning.{faults};
 ghost use Rattle.rpn_compiler.specs.TextParts.{IsRuleText};
 ghost use Rattle.rule_parser.specs.Syntax.{items_of};
 ghost use Rattle.rule_lints.specs.Warned.{AreWarned, found, named, seen, told};
@@ -11,8 +12,8 @@ use crate::comments::{keep_known, spare_quiets, without_quiet};
 use crate::declarations::declaration_warnings;
 use crate::judged_rules::judge_all;
 use crate::judging::{Judged, add_judged};
-use crate::sentences::{Subject, explain};
-use crate::warning::Warning;
+use crate::sentences::{JudgedText, explain};
+use crate::warning::{Warning, Warnings};
 use diagnostics::Message;
 use rpn_compiler::RuleText;
 use rule_parser::Item;
@@ -26,6 +27,7 @@ fn all_warnings(
     items: &[Item<'_>],
     all: &Judged,
 ) -> Result<Vec<Warning>, AllocError>
+    requires { faults (items_of items.now) ≡ [] }
     ensures { IfOk result (λ list. list.items ≡ found text.now (items_of items.now) all.now) }
 {
     let mut found = declaration_warnings(alloc, items, text.len())?;
@@ -41,6 +43,7 @@ fn reported_warnings(
     all: &Judged,
     has_plan: bool,
 ) -> Result<Vec<Warning>, AllocError>
+    requires { faults (items_of items.now) ≡ [] }
     ensures { IfOk result (λ list. list.items ≡
         told has_plan text.now (items_of items.now) all.now) }
 {
@@ -56,7 +59,7 @@ fn reported_warnings(
 /// The warnings in words.
 fn explain_all(
     alloc: Global,
-    subject: &Subject<'_, '_>,
+    subject: &JudgedText<'_, '_>,
     told: &[Warning],
 ) -> Result<Vec<Message>, AllocError>
     ensures { IfOk result (λ messages. map seen messages.items ≡ map named told.now) }
@@ -68,23 +71,29 @@ fn explain_all(
     Ok(messages)
 }
 
-/// The warnings about a valid rule text: unused fields and packets, rules whose events are off or whose sequence another rule has, the
-/// judgements of rules before any packet comes, and with a schedule the rules that it never samples. A comment `# quiet: NAME, ..`
-/// alone on the line above keeps the warnings of these names quiet; one that keeps nothing quiet has a warning itself.
+/// The warnings about a valid rule text: fields and packets that no rule uses, that share bits or have one message id, rules whose events
+/// are off or whose sequence another rule has, the judgements of rules before any packet comes, and with a schedule the rules that it
+/// never samples. A comment `# quiet: NAME, ..` alone on the line above keeps the warnings of these names quiet; one that keeps nothing
+/// quiet has a warning itself.
 ///
 /// Condition: the text compiles, as any text that `RuleText::read_valid` returns. The only error is a lack of memory.
 pub fn warnings(
     alloc: Global,
     text: &RuleText<'_>,
     plan: Option<&Schedule>,
-) -> Result<Vec<Message>, AllocError>
+) -> Result<Warnings, AllocError>
     requires reads { IsRuleText text.now }
     requires within { limit_refusal limits text.now.rules.rules ≡ None }
-    ensures { IfOk result (λ messages. AreWarned text.now.bytes.now plan.entry messages.items) }
+    ensures { IfOk result (λ warnings. AreWarned text.now.bytes.now plan.entry warnings) }
 {
     let all = judge_all(alloc, &text.rules.rules, plan)?;
     let items = text.file.items.as_slice();
     let told = reported_warnings(alloc, text.bytes, items, &all, plan.is_some())?;
-    let subject = Subject::new(alloc, text, &all)?;
-    explain_all(alloc, &subject, told.as_slice())
+    let subject = JudgedText::new(alloc, text, &all)?;
+    let messages = explain_all(alloc, &subject, told.as_slice())?;
+    Ok(Warnings {
+        messages,
+        unsettled_pairs: all.unsettled_pairs,
+        unsettled_comparisons: all.unsettled_comparisons,
+    })
 }

@@ -6,7 +6,7 @@ ghost use Rattle.std.specs.Prelude.{◌≡◌};
 ghost use Rattle.tool_commands.specs.Words.{fault_of_words};
 ghost use Rattle.tool_faults.specs.Status.{status_by};
 
-use check_command::{CheckOptions, check, told};
+use check_command::{CheckOptions, check, explain, told};
 use flight_tools_args::{CommandPlan, WordsError, read_words};
 use std::fs::Files;
 use std::io::{self, BufWriter, Eprint, Input, Print, Read, Write};
@@ -96,6 +96,7 @@ pub fn obey<'a, R: Files + Eprint + AllocGlobal, I: Read + Drop, W: Write>(
             };
             check(rt, schedule, rules.as_slice(), asked, out)
         }
+        CommandPlan::Explain { name } => explain(rt.alloc(), name, out),
         CommandPlan::Import { files, how } => file_commands::import(rt, files.as_slice(), how, out),
         CommandPlan::Export { stream, raw } => file_commands::export(rt, stream, raw),
         CommandPlan::Compare {

@@ -1,4 +1,4 @@
-"""Texts of 64 KB on which `check` has most to do."""
+"""Texts of at most 64 KB on which `check` has most to do."""
 
 LENGTH = 65_536
 RULE = 'rule R{0} active fails 1 sequence 1 event info 1001 "" when '
@@ -30,8 +30,46 @@ def conditions(name, per_rule, front=""):
         number += 1
 
 
+def judged(condition, kind="u16be", step=2, mask=""):
+    """As many rules as a text may have, each with the condition of its number, over sixteen fields of one packet."""
+    fields = "".join(f"field F{field}=P {kind} at {12 + field * step}{mask};\n" for field in range(16))
+    rules = "".join(RULE.format(rule) + condition(rule) + ";\n" for rule in range(176))
+    return "packet P=mid 2179 length 99;\n" + fields + rules
+
+
+def limit(rule, field):
+    """One of eleven numbers: sixteen fields with as many are all the different comparisons that a text may have."""
+    return 1 + (7 * rule + 3 * field) % 11
+
+
+def joined(word, rule, of=limit):
+    """A comparison of each field with its number in this rule."""
+    return f" {word} ".join(f"F{field}<{of(rule, field)}" for field in range(16))
+
+
+def reordered(rule):
+    """The same sixteen comparisons in an order of the rule's own."""
+    return " xor ".join(f"F{(rule + field * (2 * (rule % 8) + 1)) % 16}<1" for field in range(16))
+
+
+def paired(inner, outer, rule):
+    """Eight pairs of comparisons."""
+    pairs = (f"(F{2 * n}<{1 + (rule + n) % 5} {inner} F{(2 * n + 2 * (rule % 7) + 1) % 16}>{1 + (rule + 2 * n) % 5})" for n in range(8))
+    return f" {outer} ".join(pairs)
+
+
 PACKET = "packet P=mid 2179 length 99;"
 TEXTS = {
+    "equal rules": judged(lambda rule: "F0<1"),
+    "equal rules of sixteen comparisons": judged(lambda rule: joined("xor", 0)),
+    "sixteen comparisons by xor": judged(lambda rule: joined("xor", rule)),
+    "the same comparisons by xor in another order": judged(reordered),
+    "comparisons under masks": judged(lambda rule: joined("xor", rule), "u32be", 4, " mask 0x00FF00FF"),
+    "fields that share bits": judged(lambda rule: joined("xor", rule), "u32be", 1),
+    "sixteen comparisons of one field": judged(lambda rule: " xor ".join(f"F0<{1 + (rule + 11 * n) % 176}" for n in range(16))),
+    "both of eight pairs": judged(lambda rule: paired("or", "and", rule)),
+    "one of eight pairs": judged(lambda rule: paired("and", "or", rule)),
+    "rules of which each follows the next": judged(lambda rule: f"F0<{1 + rule}"),
     "bad bytes on one line": "@ " * (LENGTH // 2),
     "bad bytes on lines": "@\n" * (LENGTH // 2),
     "two bad bytes in turn": "@$" * (LENGTH // 2),

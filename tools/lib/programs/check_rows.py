@@ -33,7 +33,7 @@ def noted(lines):
 
     def noted_line(line):
         members = {"level": "note", "message": line.decode().rstrip("\n"), "file": "rules", "others": []}
-        nothing = dict.fromkeys(["at", "code", "warning"])
+        nothing = dict.fromkeys(["at", "code", "edit", "warning"])
         return json.dumps({**members, **nothing}, sort_keys=True, separators=(",", ":")) + "\n"
 
     return "".join(map(noted_line, lines)).encode()
@@ -57,14 +57,33 @@ ENDS_EARLY = b"""rules:1:11: error[11]: expected `=`, found the end of the file
 
 1 error
 """
+MASKS = b"""error[26]: a mask of 0, or with a bit outside the type
+  at: the number
+  `packet P = mid 0x0883 length 16; field V = P u8 at 12 mask 0x100;`: the mask `0x100` is wider than the field
+  `packet P = mid 0x0883 length 16; field V = P u8 at 12 mask 0;`: a mask of 0 leaves no bit of the field
+  `packet P = mid 0x0883 length 16; field V = P u8 at 12 mask -1;`: a mask is not negative
+"""
+NEVER_FAILS = b"""warning[never-fails]: No packets make its condition true: `V < 2400 and V > 2600`, `M == 0x10` under mask 0x0F. With the values shown it passes.
+  at: the rule's name
+"""
+
+
+def explained(title, name, status=0, output=b"", error=b""):
+    return Row(title, ["flight_tools", "check", "--explain", name], {}, status=status, output=output, error=error)
+
 
 ROWS = [
+    explained("an error by its number", "26", output=MASKS),
+    explained("a warning by its name", "never-fails", output=NEVER_FAILS),
+    explained("a text that is too long has no place", "5", output=b"error[5]: over 65,536 bytes, whatever they are\n  65,537 blanks: the file has 65,537 bytes, at most 65,536 are allowed\n"),
+    explained("a misspelt warning", "never-fial", status=2, error=b"--explain never-fial: did you mean `never-fails`?\n"),
+    explained("no error's number", "99", status=2, error=b"--explain 99: write the number of an error or the name of a warning\n"),
     Row("a rule that fails and passes", ["flight_tools", "check", "rules"], {"rules": LOW_VOLTS}, output=named([], ONE_RULE)),
     Row(
         "and with which values",
         ["flight_tools", "check", "--all", "rules"],
         {"rules": LOW_VOLTS},
-        output=named([b"LOW: fails for V = 0; passes for V = 2400\n"], ONE_RULE),
+        output=named([b"LOW: fails for V = 2399; passes for V = 2400\n"], ONE_RULE),
     ),
     Row(
         "all that is said of them, and warnings are faults",

@@ -11,8 +11,8 @@ returns-in-Some-clause-follows c = λ is.
 
 pub returns-in-Some-clause-differ : goal.returns-in-Some-clause-differ
 returns-in-Some-clause-differ c = λ is.
-    differ_by (condition_of c.args.first.now) (condition_of c.args.second.now) c.in-Some.apart (λ e. c.in_ok-apart.ensures.some (c.in-Some.is ∙ e)) is
+    differ_by c.args.unsettled.now (condition_of c.args.first.now) (condition_of c.args.second.now) c.in-Some.apart (λ e. c.in_ok-apart.ensures.some (c.in-Some.is ∙ e)) is
 
 pub returns-in-None-clause-differ : goal.returns-in-None-clause-differ
 returns-in-None-clause-differ c = λ is.
-    differ_by_few (condition_of c.args.first.now) (condition_of c.args.second.now) (c.in_ok-apart.ensures.none c.in-None.is)
+    differ_by_few c.count_one.new.count (condition_of c.args.first.now) (condition_of c.args.second.now) c.count_one.ensures.counts (c.in_ok-apart.ensures.none c.in-None.is)

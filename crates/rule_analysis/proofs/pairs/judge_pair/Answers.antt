@@ -1,5 +1,5 @@
-use Rattle.std.proofs.Common.{subst, sym, arith, get_or, refl}
-use Rattle.rule_analysis.proofs.PairLaws.{pushed_is_settled, none_is_settled}
+use Rattle.std.proofs.Common.{subst, sym, arith, get_or, refl, Some, None}
+use Rattle.rule_analysis.proofs.PairLaws.{pushed_is_settled, none_is_settled, settled_counted}
 use Rattle.std.specs.List.{AllByRecursion}
 use Rattle.lc_model.specs.declared.rule.Rule.{Rule}
 use Rattle.lc_model.specs.Condition.{condition_of}
@@ -21,22 +21,24 @@ returns-in_ok-push-in-Some-clause-sound c = λ before.
         second_is = there_mapped rule_of c.args.rules.now c.args.second c.index-rules-second-2.result c.requires.inside c.index-rules-second-2.is;
         related = subst (λ (rule : Rule). IsRelated (condition_of rule.cond) (condition_of c.index-rules-second-2.result.cond) c.in-Some.relation) (sym c.index-rules-first-2.is)
             (subst (λ (rule : Rule). IsRelated (condition_of (get_or c.args.rules.now c.args.first c.index-rules-first-2.result).cond) (condition_of rule.cond) c.in-Some.relation)
-            (sym c.index-rules-second-2.is) (rw c.in-Some.is at c.in_ok-relation.ensures).related);
+            (sym c.index-rules-second-2.is) (rw c.in-Some.is at c.in_ok-found.ensures).related);
       },
       tt,
     ))
 
 pub returns-in_ok-push-in-Some-clause-settled : goal.returns-in_ok-push-in-Some-clause-settled
 returns-in_ok-push-in-Some-clause-settled c =
-    pushed_is_settled c.args.rules.now c.args.first c.args.second c.index-rules-first-2.result c.index-rules-second-2.result c.args.pairs.now.items
+    pushed_is_settled c.count_some.new.count c.args.rules.now c.args.first c.args.second c.index-rules-first-2.result c.index-rules-second-2.result c.args.pairs.now.items
     c.push.new.self.items c.in-Some.relation _ (omega (arith, c.requires.order, c.requires.inside)) c.requires.inside c.index-rules-first-2.is c.index-rules-second-2.is
-    refl refl refl c.in_ok-push-in-Some.ensures.items (rw c.in-Some.is at c.in_ok-relation.ensures).settled
+    refl refl refl c.in_ok-push-in-Some.ensures.items
+    (settled_counted c.relation.new.unsettled c.count_some.new.count _ _ (Some c.in-Some.relation) c.count_some.ensures.counts
+    (rw c.in-Some.is at c.in_ok-found.ensures).settled)
 
 pub returns-in-None-clause-settled : goal.returns-in-None-clause-settled
 returns-in-None-clause-settled c =
-    none_is_settled c.args.rules.now c.args.first c.args.second c.index-rules-first-2.result c.index-rules-second-2.result c.args.pairs.now.items
+    none_is_settled c.count_some.new.count c.args.rules.now c.args.first c.args.second c.index-rules-first-2.result c.index-rules-second-2.result c.args.pairs.now.items
     (omega (arith, c.requires.order, c.requires.inside)) c.requires.inside c.index-rules-first-2.is c.index-rules-second-2.is
-    (rw c.in-None.is at c.in_ok-relation.ensures).settled
+    (settled_counted c.relation.new.unsettled c.count_some.new.count _ _ None c.count_some.ensures.counts (rw c.in-None.is at c.in_ok-found.ensures).settled)
 
 pub returns-then-not-branch-clause-order : goal.returns-then-not-branch-clause-order
 returns-then-not-branch-clause-order c = λ are. none_comes c.args.pairs.now.items c.args.first c.args.second are

@@ -7,6 +7,6 @@ use Rattle.rule_analysis.proofs.pairs.judge_pairs.Given as goal
 abbrev pub invariant-loop-second : goal.invariant-loop-second
 invariant-loop-second l = record {
   sound : AllByRecursion (IsPair (rules_of l.rules)) l.pairs.items;
-  settled : (j : ℕ) → j < l.second → (i : ℕ) → i < j → IsSettledAt (rules_of l.rules) l.pairs.items i j;
+  settled : (j : ℕ) → j < l.second → (i : ℕ) → i < j → IsSettledAt l.unsettled (rules_of l.rules) l.pairs.items i j;
   order : AreBefore l.pairs.items 0 l.second;
 }

@@ -11,9 +11,11 @@ loop-first-preserved c = record {
   sound = λ before. c.in_ok-judge_pair.ensures.sound (c.loop-first.invariant.sound before);
   kept = λ p has. c.in_ok-judge_pair.ensures.kept p (c.loop-first.invariant.kept p has);
   settled = λ k below. decided k c.loop-first.first
-      (λ same. subst (λ i. IsSettledAt (rules_of c.args.rules.now) c.judge_pair.new.pairs.items i c.args.second) (sym same) c.in_ok-judge_pair.ensures.settled)
-      (λ other. settled_still (rules_of c.args.rules.now) c.loop-first.pairs.items c.judge_pair.new.pairs.items k c.args.second c.in_ok-judge_pair.ensures.kept
+      (λ same. subst (λ i. IsSettledAt c.judge_pair.new.unsettled (rules_of c.args.rules.now) c.judge_pair.new.pairs.items i c.args.second) (sym same) c.in_ok-judge_pair.ensures.settled)
+      (λ other. settled_still c.loop-first.unsettled c.judge_pair.new.unsettled (rules_of c.args.rules.now) c.loop-first.pairs.items c.judge_pair.new.pairs.items k
+      c.args.second c.in_ok-judge_pair.ensures.grows c.in_ok-judge_pair.ensures.kept
       (c.loop-first.invariant.settled k (omega (arith, below, other))));
+  grows = omega (arith, c.loop-first.invariant.grows, c.in_ok-judge_pair.ensures.grows);
   order = λ are. c.in_ok-judge_pair.ensures.order (c.loop-first.invariant.order are);
 }
 

@@ -1,4 +1,4 @@
-use Rattle.std.proofs.Common.{ℕ, ◌<◌}
+use Rattle.std.proofs.Common.{ℕ, ◌≤◌, ◌<◌}
 use Rattle.std.specs.Prelude.{Contains}
 use Rattle.std.specs.List.{AllByRecursion}
 use Rattle.lc_model.specs.Rule.{rules_of}
@@ -10,6 +10,7 @@ abbrev pub invariant-loop-first : goal.invariant-loop-first
 invariant-loop-first l = record {
   sound : AllByRecursion (IsPair (rules_of l.rules)) l.fn.pairs.items → AllByRecursion (IsPair (rules_of l.rules)) l.pairs.items;
   kept : (p : PairJudgement) → Contains l.fn.pairs.items p → Contains l.pairs.items p;
-  settled : (k : ℕ) → k < l.first → IsSettledAt (rules_of l.rules) l.pairs.items k l.second;
+  settled : (k : ℕ) → k < l.first → IsSettledAt l.unsettled (rules_of l.rules) l.pairs.items k l.second;
+  grows : l.fn.unsettled ≤ l.unsettled;
   order : AreBefore l.fn.pairs.items 0 l.second → AreBefore l.pairs.items l.first l.second;
 }

@@ -11,5 +11,5 @@ returns-clause-without c =
 
 pub returns-clause-matters : goal.returns-clause-matters
 returns-clause-matters c =
-    all_matter c.is_never_true.result (condition_of c.args.cond.now) c.args.term.now c.args.value (condition_of c.in_ok-both.both) c.requires c.in_ok-both.ensures
+    all_matter c.is_never_true.new.unsettled c.is_never_true.result (condition_of c.args.cond.now) c.args.term.now c.args.value (condition_of c.in_ok-both.both) c.requires c.in_ok-both.ensures
     c.is_never_true.ensures.other

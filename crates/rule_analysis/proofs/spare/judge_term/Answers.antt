@@ -1,5 +1,5 @@
-use Rattle.std.proofs.Common.{subst, sym, refl, inl, inr}
-use Rattle.rule_analysis.proofs.SpareLaws.{own_of, pushed_is_told, needed_at}
+use Rattle.std.proofs.Common.{get_or, subst, sym, refl, inl, inr}
+use Rattle.rule_analysis.proofs.SpareLaws.{own_of, pushed_is_told, needed_at, needed_counted}
 use Rattle.std.specs.List.{AllByRecursion}
 use Rattle.lc_model.specs.Condition.{condition_of}
 use Rattle.lc_model.specs.declared.rule.Rule.{Rule}
@@ -27,13 +27,14 @@ taken_as-requires c =
 
 pub returns-in_ok-push-in-Some-clause-told : goal.returns-in_ok-push-in-Some-clause-told
 returns-in_ok-push-in-Some-clause-told c =
-    pushed_is_told (rules_of c.args.rules.now) c.args.rule c.args.term.now c.args.spare.now.items c.push.new.self.items _ refl refl
+    pushed_is_told c.args.unsettled.now (rules_of c.args.rules.now) c.args.rule c.args.term.now c.args.spare.now.items c.push.new.self.items _ refl refl
     c.in_ok-push-in-Some.ensures.items
 
 pub returns-in-None-clause-told : goal.returns-in-None-clause-told
 returns-in-None-clause-told c =
-    needed_at c.args.rules.now c.args.rule c.index-rules-rule.result c.args.term.now c.args.spare.now.items c.requires.inside c.index-rules-rule.is
-    (c.in_ok-taken_as.ensures.needed c.in-None.is)
+    needed_at c.count_some.new.count c.args.rules.now c.args.rule c.index-rules-rule.result c.args.term.now c.args.spare.now.items c.requires.inside c.index-rules-rule.is
+    (needed_counted c.taken_as.new.unsettled c.count_some.new.count (condition_of (get_or c.args.rules.now c.args.rule c.index-rules-rule.result).cond) c.args.term.now
+    c.count_some.ensures.counts (c.in_ok-taken_as.ensures.needed c.in-None.is))
 
 pub returns-in_ok-push-in-Some-clause-once : goal.returns-in_ok-push-in-Some-clause-once
 returns-in_ok-push-in-Some-clause-once c = inr (_, refl, refl, c.in_ok-push-in-Some.ensures.items)

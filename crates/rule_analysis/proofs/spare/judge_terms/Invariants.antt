@@ -1,3 +1,4 @@
+use Rattle.std.proofs.Common.{◌≤◌}
 use Rattle.std.specs.Prelude.{Contains}
 use Rattle.std.specs.List.{AllByRecursion}
 use Rattle.lc_model.specs.Rule.{rules_of}
@@ -9,6 +10,7 @@ abbrev pub invariant-loop-at : goal.invariant-loop-at
 invariant-loop-at l = record {
   sound : AllByRecursion (IsSpare (rules_of l.rules)) l.fn.spare.items → AllByRecursion (IsSpare (rules_of l.rules)) l.spare.items;
   kept : (s : SpareComparison) → Contains l.fn.spare.items s → Contains l.spare.items s;
-  told : AreToldUpTo (rules_of l.rules) l.spare.items l.rule l.terms.items l.at;
+  told : AreToldUpTo l.unsettled (rules_of l.rules) l.spare.items l.rule l.terms.items l.at;
+  grows : l.fn.unsettled ≤ l.unsettled;
   once : AreOfRulesBefore l.fn.spare.items l.rule → AreOfTermsBefore l.spare.items l.rule l.terms.items l.at;
 }

@@ -8,6 +8,6 @@ use Rattle.rule_analysis.proofs.spare.spare_comparisons.Given as goal
 abbrev pub invariant-loop-rule : goal.invariant-loop-rule
 invariant-loop-rule l = record {
   sound : AllByRecursion (IsSpare (rules_of l.rules)) l.spare.items;
-  told : (i : ℕ) → i < l.rule → (t : Term) → IsOf (rules_of l.rules) i t → IsToldOrNeeded (rules_of l.rules) l.spare.items i t;
+  told : (i : ℕ) → i < l.rule → (t : Term) → IsOf (rules_of l.rules) i t → IsToldOrNeeded l.unsettled (rules_of l.rules) l.spare.items i t;
   once : AreOfRulesBefore l.spare.items l.rule;
 }

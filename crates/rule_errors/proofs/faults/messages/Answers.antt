@@ -1,23 +1,17 @@
-use Rattle.std.proofs.Common.{◌≡◌, ◌∙◌, ap, rules}
-use Rattle.lc_model.specs.Tables.Compiling.{limit_refusal}
-use Rattle.lc_model.specs.Tables.InForce.{limits}
-use Rattle.rpn_compiler.specs.declared.error.CompileError.TheVariants.{Memory}
-use Rattle.rule_errors.proofs.Begins.{begins_read, begins_unread}
+use Rattle.rule_errors.proofs.Inside.{begins_written, inside_written, nothing_written}
 use Rattle.rule_errors.proofs.faults.messages.Goals as goal
 
-pub returns-in-Ok-clause-quiet : goal.returns-in-Ok-clause-quiet
-returns-in-Ok-clause-quiet c said compiles =
-    c.told_of_read.ensures.quiet (ap (limit_refusal limits) (c.in-Ok.ensures.accepts said compiles.0) ∙ compiles.1)
+pub returns-clause-quiet : goal.returns-clause-quiet
+returns-clause-quiet c rules compiles =
+    nothing_written c.args.text.now c.in_ok-told.told.len c.in_ok-told.told.items c.as_mut_slice.result.now c.keep_inside.new.told
+    c.as_mut_slice.ensures.value c.as_mut_slice.ensures.len c.keep_inside.ensures (c.in_ok-told.ensures.quiet rules compiles)
 
-pub returns-in-Ok-clause-first : goal.returns-in-Ok-clause-first
-returns-in-Ok-clause-first c =
-    begins_read c.args.text.now c.in-Ok.text.bytes.now c.in-Ok.text.rules.rules c.told_of_read.result c.in-Ok.ensures.bytes
-    (λ refusal why. c.in-Ok.ensures.refuses refusal why) (λ said reads. c.in-Ok.ensures.accepts said reads) c.told_of_read.ensures.first
+pub returns-clause-first : goal.returns-clause-first
+returns-clause-first c refusal refused =
+    begins_written c.args.text.now refusal c.in_ok-told.told.len c.in_ok-told.told.items c.as_mut_slice.result.now c.keep_inside.new.told
+    c.as_mut_slice.ensures.value c.as_mut_slice.ensures.len c.keep_inside.ensures (c.in_ok-told.ensures.first refusal refused)
 
-pub returns-in-Err : goal.returns-in-Err
-returns-in-Err c =
-    let other : c.in-Err.error ≡ Memory → ⊥ = (search rules) in record {
-      quiet = λ said compiles. absurd (other (c.in-Err.ensures.accepts said compiles.0));
-      first = begins_unread c.args.text.now c.told_of.result c.in-Err.error other (λ said reads. c.in-Err.ensures.accepts said reads)
-          (λ refusal why. c.in-Err.ensures.refuses refusal why) c.told_of.ensures;
-    }
+pub returns-clause-inside : goal.returns-clause-inside
+returns-clause-inside c =
+    inside_written c.args.text.now c.in_ok-told.told.len c.in_ok-told.told.items c.as_mut_slice.result.now c.keep_inside.new.told
+    c.as_mut_slice.ensures.value c.as_mut_slice.ensures.len c.keep_inside.ensures
