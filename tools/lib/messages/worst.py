@@ -69,6 +69,7 @@ TEXTS = {
     "sixteen comparisons of one field": judged(lambda rule: " xor ".join(f"F0<{1 + (rule + 11 * n) % 176}" for n in range(16))),
     "both of eight pairs": judged(lambda rule: paired("or", "and", rule)),
     "one of eight pairs": judged(lambda rule: paired("and", "or", rule)),
+    "comparisons by xor beside one that they contradict": judged(lambda rule: "(" + joined("xor", rule).rpartition(" xor ")[0].rpartition(" xor ")[0] + ") and F0>9"),
     "rules of which each follows the next": judged(lambda rule: f"F0<{1 + rule}"),
     "bad bytes on one line": "@ " * (LENGTH // 2),
     "bad bytes on lines": "@\n" * (LENGTH // 2),
