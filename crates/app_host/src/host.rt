@@ -7,13 +7,14 @@ ghost use Rattle.lc_model.specs.Kept.Stations.{first_host};
 ghost use Rattle.app_host.specs.declared.error.HostError.TheVariants.{Memory};
 ghost use Rattle.app_host.specs.Hosted.{Object, object_at, shown, member_of, in_numbers, objects_in};
 ghost use Rattle.app_host.specs.Whole.{AreSpares, IsWhole, IsQuiet};
+ghost use Rattle.event_service.specs.Types.{is_type_on};
 ghost use Rattle.tbl_service.specs.Images.{active_of};
 
 use crate::app::App;
 use crate::error::HostError;
 use crate::objects::{seat_of, spares_of};
 use crate::services::Services;
-use lc_model::Seat;
+use lc_model::{EventKind, Seat};
 use packet_bus::PACKET_SIZE;
 use std::alloc::Global;
 
@@ -92,6 +93,14 @@ impl<B: App> Host<B> {
             ((in_numbers (shown B.meaning self.now)).executive.services.slots table.now) }
     {
         self.services.tables.active_under(table)
+    }
+
+    /// Whether events of the type are on for the application with this name; false if none of the name is registered.
+    pub fn is_type_on(&self, name: &[u8], kind: EventKind) -> bool
+        ensures { result ≡ is_type_on kind
+            ((in_numbers (shown B.meaning self.now)).executive.services.events name.now) }
+    {
+        self.services.events.is_type_on(name, kind)
     }
 
     /// Whether a write has failed: then the host takes no further record.

@@ -3,7 +3,7 @@
 ghost use Rattle.std.specs.Prelude.{◌≡◌, ◌+◌, ◌%◌, ◌<◌, ◌≤◌, [], length, vec_capacity, OnErr};
 ghost use Rattle.lc_model.specs.Events.Outgoing.{event_packet_size, longest_event_text};
 ghost use Rattle.lc_model.specs.Name.{is_named, app_name_size};
-ghost use Rattle.lc_model.specs.Events.Log.{Requested};
+ghost use Rattle.lc_model.specs.Events.Log.{Requested, has_kind};
 ghost use Rattle.lc_model.specs.Kept.Call.{new_sender};
 ghost use Rattle.lc_model.specs.Kept.Next.{next_chosen, events_after};
 ghost use Rattle.lc_model.specs.Kept.Executive.{joined_now};
@@ -70,6 +70,13 @@ impl Sender {
         ensures { result ≡ is_named name.now self.now.name }
     {
         name == self.name.as_slice()
+    }
+
+    /// Whether events of the type are on.
+    pub(crate) fn has_type(&self, kind: EventKind) -> bool
+        ensures { result ≡ has_kind self.now.events.on kind }
+    {
+        self.types.has(kind)
     }
 
     /// Counts a request for an event, and returns whether it is sent: its type is on, and its filter lets it through.

@@ -5,12 +5,12 @@ ghost use Rattle.std.specs.List.{position_from};
 ghost use Rattle.lc_model.specs.Events.Log.{FilterSet, FiltersReset, TypesSet};
 ghost use Rattle.lc_model.specs.Events.Outgoing.{event_packet_size, longest_event_text};
 ghost use Rattle.lc_model.specs.Name.{app_name_size};
-ghost use Rattle.lc_model.specs.Services.Events.{IsEventService, first_events, is_sender, registered_at, unregistered_at, commanded, event_asked};
+ghost use Rattle.lc_model.specs.Services.Events.{IsEventService, first_events, is_sender, events_among, sender_named, registered_at, unregistered_at, commanded, event_asked};
 ghost use Rattle.event_service.specs.declared.error.EventError.TheVariants.{Memory};
 ghost use Rattle.event_service.specs.Error.{answered};
 ghost use Rattle.event_service.specs.Change.{item_of};
 ghost use Rattle.event_service.specs.Packet.{with_packet};
-ghost use Rattle.event_service.specs.Types.{bits_of};
+ghost use Rattle.event_service.specs.Types.{bits_of, is_type_on};
 
 use crate::error::EventError;
 use crate::packet::EventPacket;
@@ -188,6 +188,16 @@ impl Events {
         self.change(name, Change::Types { types, on })
     }
 
+    /// Whether events of the type are on for the sender with this name; false if nobody has the name.
+    pub fn is_type_on(&self, name: &[u8], kind: EventKind) -> bool
+        ensures { result ≡ is_type_on kind (sender_named self.now name.now) }
+    {
+        if name == HOST {
+            return self.host.has_type(kind);
+        }
+        is_type_on_among(self.places.as_slice(), name, kind)
+    }
+
     /// Changes the types or filters of the sender with this name.
     fn change(&mut self, name: &[u8], change: Change) -> Result<(), EventError>
         ensures answer { answered result self.new ≡ commanded name.now (item_of change) self.old }
@@ -204,6 +214,20 @@ impl Events {
         };
         sender.change(change)
     }
+}
+
+/// Whether the type is on for the first sender of a name; false if there is none.
+fn is_type_on_among(places: &[Option<Sender>], name: &[u8], kind: EventKind) -> bool
+    ensures { result ≡ is_type_on kind (events_among places.now name.now) }
+{
+    for place in places {
+        if let Some(sender) = place {
+            if sender.is_named(name) {
+                return sender.has_type(kind);
+            }
+        }
+    }
+    false
 }
 
 /// The place of the first sender of a name.
