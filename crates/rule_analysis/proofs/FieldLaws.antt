@@ -1,6 +1,6 @@
 -- Fields by number: more fields leave the numbers, and a number tells the field's parts.
 use Rattle.std.proofs.Common.{◌≡◌, ℕ, zero, suc, ◌+◌, ◌≤◌, ◌<◌, Bool, true, false, ◌&&◌, ◌==◌, List, [], ◌∷◌, ◌++◌, length, get_or, refl, ap, sym, ◌∙◌, arith, add-one, if◌then◌else◌}
-use Rattle.std.specs.Prelude.{IsTrue, pos}
+use Rattle.std.specs.Prelude.{IsTrue, IsFalse, nat_lt, slice_index_or, pos}
 use Rattle.lc_model.specs.declared.field.CmpOp.TheVariants.{Less}
 use Rattle.std.specs.List.{AllByRecursion}
 use Rattle.std.proofs.lemmas.Bool.Decides.{nat_tests}
@@ -149,3 +149,22 @@ pub number_of_place : (fields : List Field) (t : Term) → field_number fields (
 unfolding field_number
 number_of_place [] t = refl
 number_of_place (f ∷ fields) t = ap (λ n. if is_field_of t f then 0 else n + 1) (number_of_place fields t)
+
+-- a term that doesn't read a field has another number
+pub other_number : (fields : List Field) (t : Term) (n : ℕ) (f : Field) → true ≡ nat_lt n (length fields) → f ≡ slice_index_or fields n f → IsFalse (is_field_of t f) →
+    IsFalse (field_number fields t == n)
+other_number fields t n f inside here apart = by_test (field_number fields t == n) refl
+  where
+    below : true ≡ nat_lt n (length fields) → n < length fields
+    below e = grind (arith, nat_tests)
+
+    same : (field_number fields t == n) ≡ true → field_number fields t ≡ n
+    same e = grind (arith, nat_tests)
+
+    never : (test : Bool) → IsTrue test → IsFalse test → ⊥
+    never true is apart = cc
+    never false is apart = cc
+
+    by_test : (test : Bool) → (field_number fields t == n) ≡ test → IsFalse test
+    by_test true e = absurd (never (is_field_of t f) (reads_its_own fields t n f (same e) (below inside) here) apart)
+    by_test false e = cc

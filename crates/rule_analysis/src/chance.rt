@@ -18,12 +18,13 @@ fn next_random(random: u32) -> u32 {
     random.wrapping_mul(1_664_525).wrapping_add(1_013_904_223)
 }
 
-/// Bits at which the outcome of a comparison changes, or those before: which of the two a random number picks.
+/// The number of a comparison, or the next one on either side: which of the three a random number picks. At one of them the outcome of
+/// the comparison changes.
 fn bits_at_limit(term: &Term, random: u32) -> u32 {
-    let value = if random & 0x0001_0000 == 0 {
-        term.value
-    } else {
-        term.value.saturating_sub(1)
+    let value = match random >> 16 & 3 {
+        0 => term.value.saturating_sub(1),
+        1 => term.value.saturating_add(1),
+        _ => term.value,
     };
     (value & 0xFFFF_FFFF) as u32 & term.mask
 }
@@ -37,21 +38,33 @@ fn numbers_of(alloc: Global, terms: &[Term], fields: &[Field]) -> Result<Vec<usi
     Ok(numbers)
 }
 
+/// The first term from this place on that reads the field with this number.
+fn reader_from<'t>(
+    terms: &'t [Term],
+    numbers: &[usize],
+    field: usize,
+    start: usize,
+) -> Option<&'t Term> {
+    for place in start..numbers.len() {
+        if numbers[place] == field {
+            return terms.get(place);
+        }
+    }
+    None
+}
+
 /// Bits for the field with this number, of one of the comparisons that read it.
 fn bits_of_field(terms: &[Term], numbers: &[usize], field: usize, random: u32) -> u32 {
     let start = (random >> 20) as usize;
-    for step in 0..terms.len() {
-        let place = start
-            .wrapping_add(step)
-            .checked_rem(terms.len())
-            .unwrap_or(0);
-        if let (Some(term), Some(own)) = (terms.get(place), numbers.get(place)) {
-            if *own == field {
-                return bits_at_limit(term, random);
-            }
-        }
+    let start = start.checked_rem(numbers.len()).unwrap_or(0);
+    let found = match reader_from(terms, numbers, field, start) {
+        Some(term) => Some(term),
+        None => reader_from(terms, numbers, field, 0),
+    };
+    match found {
+        Some(term) => bits_at_limit(term, random),
+        None => 0,
     }
-    0
 }
 
 /// Bits for all fields.

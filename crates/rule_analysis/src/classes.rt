@@ -7,7 +7,7 @@ ghost use Rattle.rule_analysis.specs.Fields.{field_number};
 ghost use Rattle.rule_analysis.specs.Search.{AreRepresented};
 ghost use Rattle.rule_analysis.specs.Steps.{AreApart, AreNotMany, says_alike};
 
-use crate::fields::{Field, number};
+use crate::fields::{Field, number, reads};
 use crate::numbers::next_bits;
 use crate::outcomes::says_the_same;
 use crate::thresholds::thresholds_of;
@@ -62,6 +62,16 @@ fn candidates(alloc: Global, terms: &[Term], mask: u32) -> Result<Vec<u32>, Allo
     Ok(kept)
 }
 
+/// Whether the term may read the field of this number: a test that is quicker than the search for the term's number.
+fn may_read(term: &Term, fields: &[Field], field: usize) -> bool
+    ensures { IsFalse result → IsFalse (field_number fields.now term.now == field) }
+{
+    match fields.get(field) {
+        Some(field) => reads(term, field),
+        None => true,
+    }
+}
+
 /// The terms that read the field of this number.
 pub(crate) fn readers(
     alloc: Global,
@@ -74,7 +84,7 @@ pub(crate) fn readers(
 {
     let mut own = Vec::new(alloc);
     for term in terms {
-        if number(fields, term) == field {
+        if may_read(term, fields, field) && number(fields, term) == field {
             own.push(*term)?;
         }
     }

@@ -112,6 +112,15 @@ fn readers(alloc: Global, terms: &[Term]) -> Result<Vec<usize>, AllocError>
     Ok(counts)
 }
 
+/// The greatest of the counts; 0 if there are none.
+fn most_of(counts: &[usize]) -> usize {
+    let mut most = 0;
+    for count in counts {
+        most = (*count).max(most);
+    }
+    most
+}
+
 /// Adds the term's field to the others if `count` terms read it, which are `readers`.
 fn add_where(
     fields: &mut Vec<Field>,
@@ -163,9 +172,10 @@ pub(crate) fn fields_of(alloc: Global, terms: &[Term]) -> Result<Vec<Field>, All
     ensures exact { IfOk result (λ fields. AreFieldsOf terms.now fields.items) }
 {
     let readers = readers(alloc, terms)?;
+    let most = most_of(&readers);
     let mut fields = Vec::new(alloc);
-    for less in 0..terms.len() {
-        add_read_by(&mut fields, terms, &readers, terms.len() - less)?;
+    for less in 0..most {
+        add_read_by(&mut fields, terms, &readers, most - less)?;
     }
     add_all(&mut fields, terms)?;
     Ok(fields)

@@ -9,8 +9,11 @@ pub(crate) fn next_bits(mask: u64, from: u64) -> Option<u64>
     if from == 0 {
         return Some(0);
     }
-    if mask == 0 {
+    if mask < from {
         return None;
+    }
+    if from & mask == from {
+        return Some(from);
     }
     if mask % 2 == 1 {
         match next_bits(mask / 2, from / 2) {

@@ -1,4 +1,4 @@
-"""Texts of at most 64 KB on which `check` has most to do."""
+"""Texts of at most 64 KB on which `check` has most to do, and ordinary ones."""
 
 LENGTH = 65_536
 RULE = 'rule R{0} active fails 1 sequence 1 event info 1001 "" when '
@@ -42,6 +42,14 @@ def limit(rule, field):
     return 1 + (7 * rule + 3 * field) % 11
 
 
+def chance(rule, place, below):
+    """A number by chance, from 1 to before the bound, the same in each run (a linear congruence)."""
+    number = 977 * rule + 31 * place + 5
+    for _ in range(3):
+        number = (number * 1_664_525 + 1_013_904_223) % 2**32
+    return 1 + (number >> 16) % (below - 1)
+
+
 def joined(word, rule, of=limit):
     """A comparison of each field with its number in this rule."""
     return f" {word} ".join(f"F{field}<{of(rule, field)}" for field in range(16))
@@ -58,6 +66,17 @@ def paired(inner, outer, rule):
     return f" {outer} ".join(pairs)
 
 
+def paired_by_chance(rule):
+    """Eight pairs of comparisons by chance, both sides of each over any two fields."""
+    one = (f"(F{chance(rule, 4 * n, 17) - 1}<{chance(rule, 4 * n + 1, 6)} or F{chance(rule, 4 * n + 2, 17) - 1}>{chance(rule, 4 * n + 3, 6)})" for n in range(8))
+    return " and ".join(one)
+
+
+def contradicted(rule, of=limit):
+    """Fourteen comparisons by `xor`, and one that contradicts some of them."""
+    return "(" + " xor ".join(f"F{field}<{of(rule, field)}" for field in range(14)) + ") and F0>9"
+
+
 PACKET = "packet P=mid 2179 length 99;"
 TEXTS = {
     "equal rules": judged(lambda rule: "F0<1"),
@@ -69,7 +88,9 @@ TEXTS = {
     "sixteen comparisons of one field": judged(lambda rule: " xor ".join(f"F0<{1 + (rule + 11 * n) % 176}" for n in range(16))),
     "both of eight pairs": judged(lambda rule: paired("or", "and", rule)),
     "one of eight pairs": judged(lambda rule: paired("and", "or", rule)),
-    "comparisons by xor beside one that they contradict": judged(lambda rule: "(" + joined("xor", rule).rpartition(" xor ")[0].rpartition(" xor ")[0] + ") and F0>9"),
+    "both of eight pairs by chance": judged(paired_by_chance),
+    "comparisons by xor beside one that they contradict": judged(contradicted),
+    "comparisons by xor with numbers by chance beside one that they contradict": judged(lambda rule: contradicted(rule, lambda rule, field: chance(rule, field, 12))),
     "rules of which each follows the next": judged(lambda rule: f"F0<{1 + rule}"),
     "bad bytes on one line": "@ " * (LENGTH // 2),
     "bad bytes on lines": "@\n" * (LENGTH // 2),
@@ -90,4 +111,13 @@ TEXTS = {
     "packets that no rule uses": filled("packet P{0}=mid 2179 length 99;"),
     "quiet comments": filled("# quiet: unused-field, unused-field\n"),
     "quiet names": "# quiet: " + "unused-field," * 2_500 + "\n" + PACKET + filled("field F{0}=P u8 at 12;")[: LENGTH // 2 - 200].rpartition(";")[0] + ";",
+}
+
+# Full texts as people write them: 176 rules, one comparison or ten each.
+ORDINARY = {
+    "176 rules of one comparison each": "".join(f"packet P{n}=mid {2304 + n} length 16;field V{n}=P{n} u16be at 12 stale 3;" for n in range(88))
+    + "".join(RULE.format(n) + f"V{n % 88}{'<' if n < 88 else '>'}{100 + n};\n" for n in range(176)),
+    "176 rules of four comparisons each": "packet P=mid 2179 length 99;"
+    + "".join(f"field V{n}=P u16be at {12 + 2 * n} stale 3;" for n in range(40))
+    + "".join(RULE.format(n) + " and ".join(f"V{(n + 7 * k) % 40}{'<>'[k % 2]}{(11 * n + k) % 4 * 100}" for k in range(4)) + ";\n" for n in range(176)),
 }
