@@ -7,7 +7,7 @@ use Rattle.lc_model.specs.declared.truth.Truth.{Truth}
 use Rattle.lc_model.specs.declared.truth.Truth.TheVariants.{True}
 use Rattle.lc_model.specs.declared.field.Term.{Term}
 use Rattle.lc_model.specs.Truth.{truth_not}
-use Rattle.lc_model.specs.Condition.{And, Or, Xor, Condition}
+use Rattle.lc_model.specs.Condition.{And, Or, Xor}
 use Rattle.lc_model.specs.LimitChecker.Watch.{combined, truth_by}
 use Rattle.lc_model.specs.Tables.Equation.{mentions}
 use Rattle.rule_analysis.specs.declared.open.Open.{Open}

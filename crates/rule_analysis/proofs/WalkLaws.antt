@@ -1,23 +1,20 @@
 -- A walk over the fields decides a condition.
-use Rattle.std.proofs.Common.{◌≡◌, ℕ, zero, suc, ◌≤◌, ◌<◌, nat_lt, Bool, true, false, ◌==◌, List, [], ◌∷◌, ◌++◌, length, slice_get, refl, ap, ap₂, sym, ◌∙◌, subst, arith, Option, Some, None, if◌then◌else◌}
-use Rattle.std.specs.Prelude.{◌≢◌, Contains, IsTrue}
+use Rattle.std.proofs.Common.{◌≡◌, ℕ, zero, suc, Bool, true, false, ◌==◌, List, [], ◌∷◌, ◌++◌, length, slice_get, refl, ap, ap₂, sym, ◌∙◌, subst, arith, Option, Some, None, if◌then◌else◌}
+use Rattle.std.specs.Prelude.{◌≢◌}
 use Rattle.std.proofs.lemmas.Bool.Decides.{nat_tests}
 use Rattle.std.specs.List.{AllByRecursion}
 use Rattle.lc_model.specs.declared.truth.Truth.{Truth}
-use Rattle.lc_model.specs.declared.truth.Truth.TheVariants.{True, False, Stale, Error}
+use Rattle.lc_model.specs.declared.truth.Truth.TheVariants.{True}
 use Rattle.lc_model.specs.declared.field.Term.{Term}
 use Rattle.lc_model.specs.Truth.{truth_not}
-use Rattle.lc_model.specs.Field.{compares}
 use Rattle.lc_model.specs.Condition.{Condition, Watch, Not, Join}
 use Rattle.lc_model.specs.Tables.Equation.{mentions}
 use Rattle.lc_model.specs.LimitChecker.Watch.{combined, judgement, truth_by}
-use Rattle.rule_analysis.specs.declared.fields.Field.{Field}
-use Rattle.rule_analysis.specs.Fields.{HasField, field_number}
-use Rattle.rule_analysis.specs.Judgement.{is_known, Place, place_of, value_by, found_by, Refines, NeverHolds}
+use Rattle.rule_analysis.specs.Judgement.{Place, place_of, value_by, found_by, Refines, NeverHolds}
 use Rattle.rule_analysis.specs.Classes.{truth_there}
 use Rattle.rule_analysis.specs.Search.{found_so_far, found_everywhere, GoesOnFrom, IsNever}
 use Rattle.rule_analysis.proofs.Each.{each}
-use Rattle.rule_analysis.proofs.Known.{refines-same, tables_keep, parts, known_where_all_is}
+use Rattle.rule_analysis.proofs.Known.{refines-same, tables_keep, parts}
 
 -- a condition depends on its mentions alone
 pub by_mentions : (found other : Term → Truth) (c : Condition) → AllByRecursion (λ t. found t ≡ other t) (mentions c) → truth_by found c ≡ truth_by other c

@@ -1,5 +1,5 @@
 -- The bits that a field has in the packets of its message id, and which fields share some. This project's own.
-use Rattle.std.specs.Prelude.{◌≡◌, ℕ, ◌+◌, ◌-◌, ◌≤◌, ◌==◌, Bool, true, false, ◌&&◌, ◌||◌, not, nat_le, nat_lt, if◌then◌else◌, List, IsTrue, bit_and}
+use Rattle.std.specs.Prelude.{◌≡◌, ℕ, ◌+◌, ◌-◌, ◌≤◌, ◌==◌, Bool, false, ◌&&◌, ◌||◌, not, nat_le, nat_lt, if◌then◌else◌, List, IsTrue, bit_and}
 use Rattle.std.specs.Int.{byte_at}
 use Rattle.std.specs.List.{AllByRecursion, list_any}
 use Rattle.lc_model.specs.declared.field.FieldType.{FieldType}

@@ -116,6 +116,27 @@ fn try_both(
     Ok((is_first, is_second))
 }
 
+/// Whether these bits of the fields show that the first condition can be true where the second one is false, and the other way round. The
+/// only error is a lack of memory.
+pub(crate) fn tell_apart(
+    alloc: Global,
+    first: &Cond,
+    second: &Cond,
+    fields: &[Field],
+    bits: &[u32],
+) -> Result<(bool, bool), AllocError>
+    ensures first { IfOk result (λ shown. IsTrue shown.0 →
+        HoldsForSome (Join And (condition_of first.now) (Not (condition_of second.now)))) }
+    ensures second { IfOk result (λ shown. IsTrue shown.1 →
+        HoldsForSome (Join And (condition_of second.now) (Not (condition_of first.now)))) }
+{
+    let one = open_of(alloc, first, fields)?;
+    let other = open_of(alloc, second, fields)?;
+    let is_first = are_apart_with(&one, &other, bits);
+    let is_second = are_apart_with(&other, &one, bits);
+    Ok((is_first, is_second))
+}
+
 /// Whether bits picked by chance make the condition true.
 fn try_one(
     alloc: Global,

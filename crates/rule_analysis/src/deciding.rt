@@ -1,12 +1,13 @@
 //! Decides whether values of its fields make a condition true.
 
-ghost use Rattle.std.specs.Prelude.{◌≡◌, IfOk, None, Some, false, length, true};
+ghost use Rattle.std.specs.Prelude.{◌≡◌, IfOk, IsTrue, None, Some, false, length, true};
 ghost use Rattle.std.specs.List.{AllByRecursion};
 ghost use Rattle.lc_model.specs.Condition.{condition_of};
 ghost use Rattle.lc_model.specs.Tables.Equation.{mentions};
 ghost use Rattle.rule_analysis.specs.Fields.{HasField, field_number};
 ghost use Rattle.rule_analysis.specs.Search.{AreRepresented};
 ghost use Rattle.rule_analysis.specs.Findings.{IsDecided, IsSought};
+ghost use Rattle.rule_analysis.specs.declared.deciding.Decision.TheVariants.{Never};
 ghost use Rattle.rule_analysis.specs.Judgement.{HoldsForSome, NeverFails};
 ghost use Rattle.rule_analysis.specs.Steps.{AreFewByNames, AreNotMany};
 
@@ -26,6 +27,16 @@ pub(crate) enum Decision {
     Holds { fields: Vec<Field>, bits: Vec<u32> },
     /// Unknown: more steps are needed.
     Spent,
+}
+
+/// Whether no values make the condition true.
+pub(crate) fn is_never(decision: &Decision) -> bool
+    ensures { IsTrue result → decision.now ≡ Never }
+{
+    match decision {
+        Decision::Never => true,
+        Decision::Holds { .. } | Decision::Spent => false,
+    }
 }
 
 /// Looks for bits of the fields that make the condition true in at most `steps` steps; subtracts the steps that it takes. `terms` are

@@ -10,10 +10,10 @@ ghost use Rattle.rule_analysis.specs.Findings.{AreBefore, AreInOrder, AreSettled
 ghost use Rattle.rule_analysis.specs.Judgement.{FailsWherever, HoldsForSome, NeverFails};
 ghost use Rattle.rule_analysis.specs.Steps.{AreFewByNames};
 
-use crate::chance::are_shown_apart;
+use crate::chance::{are_shown_apart, tell_apart};
 use crate::conditions::{are_equal, but_not, copy_condition};
 use crate::counting::{count_one, count_some};
-use crate::deciding::holds_for_some;
+use crate::deciding::{Decision, decide, holds_for_some, is_never};
 use crate::fields::{field_of, is_read};
 use crate::finding::{PairJudgement, PairJudgements, Relation};
 use crate::judging::comparisons_of;
@@ -68,23 +68,72 @@ fn are_apart(
     ask(alloc, &apart, LEAST_PAIR_STEPS, steps)
 }
 
-/// Whether it is known that no values make one of the conditions true and the other one false.
-fn never_differ(
+/// What is known of where two conditions differ.
+#[derive(Clone, Copy)]
+struct Difference {
+    /// No values make one of them true and the other one false.
+    is_none: bool,
+    /// Some values make the first one true and the second one false.
+    is_first: bool,
+    /// Some values make the second one true and the first one false.
+    is_second: bool,
+}
+
+/// Looks for values that make one of the conditions true and the other one false, in at most `PAIR_STEPS` of the steps.
+fn seek_difference(
     alloc: Global,
     first: &Cond,
     second: &Cond,
     steps: &mut u32,
-) -> Result<bool, AllocError>
-    ensures { IfOk result (λ never. IsTrue never →
+) -> Result<Difference, AllocError>
+    ensures none { IfOk result (λ found. IsTrue found.is_none →
         NeverFails (Join Xor (condition_of first.now) (condition_of second.now))) }
+    ensures first { IfOk result (λ found. IsTrue found.is_first →
+        HoldsForSome (Join And (condition_of first.now) (Not (condition_of second.now)))) }
+    ensures second { IfOk result (λ found. IsTrue found.is_second →
+        HoldsForSome (Join And (condition_of second.now) (Not (condition_of first.now)))) }
 {
     let one = copy_condition(alloc, first)?;
     let other = copy_condition(alloc, second)?;
     let differ = Cond::Xor(Box::new(alloc, (one, other))?);
-    match ask(alloc, &differ, 0, steps)? {
-        Some(some) => Ok(!some),
-        None => Ok(false),
+    let given = PAIR_STEPS.min(*steps);
+    let mut left = given;
+    let decision = decide(alloc, &differ, &mut left)?;
+    *steps -= given.saturating_sub(left).min(*steps);
+    let (is_first, is_second) = match &decision {
+        Decision::Holds { fields, bits } => tell_apart(alloc, first, second, fields, bits)?,
+        Decision::Never | Decision::Spent => (false, false),
+    };
+    Ok(Difference {
+        is_none: is_never(&decision),
+        is_first,
+        is_second,
+    })
+}
+
+/// What is known of where the conditions differ, by values picked by chance, and else by a search.
+fn find_difference(
+    alloc: Global,
+    first: &Cond,
+    second: &Cond,
+    steps: &mut u32,
+) -> Result<Difference, AllocError>
+    ensures none { IfOk result (λ found. IsTrue found.is_none →
+        NeverFails (Join Xor (condition_of first.now) (condition_of second.now))) }
+    ensures first { IfOk result (λ found. IsTrue found.is_first →
+        HoldsForSome (Join And (condition_of first.now) (Not (condition_of second.now)))) }
+    ensures second { IfOk result (λ found. IsTrue found.is_second →
+        HoldsForSome (Join And (condition_of second.now) (Not (condition_of first.now)))) }
+{
+    let (is_first, is_second) = are_shown_apart(alloc, first, second)?;
+    if is_first || is_second {
+        return Ok(Difference {
+            is_none: false,
+            is_first,
+            is_second,
+        });
     }
+    seek_difference(alloc, first, second, steps)
 }
 
 /// Whether the second condition is known to be true whenever the first one is true and all fields are known; `apart` if it is known
@@ -133,12 +182,12 @@ fn relation(
     if are_equal(first, second) {
         return Ok(Some(Relation::Same));
     }
-    let (apart, apart_back) = are_shown_apart(alloc, first, second)?;
-    if !apart && !apart_back && never_differ(alloc, first, second, steps)? {
+    let found = find_difference(alloc, first, second, steps)?;
+    if found.is_none {
         return Ok(Some(Relation::Same));
     }
-    let second_follows = follows(alloc, first, second, apart, steps, unsettled)?;
-    let first_follows = follows(alloc, second, first, apart_back, steps, unsettled)?;
+    let second_follows = follows(alloc, first, second, found.is_first, steps, unsettled)?;
+    let first_follows = follows(alloc, second, first, found.is_second, steps, unsettled)?;
     match (first_follows, second_follows) {
         (true, true) => Ok(Some(Relation::Same)),
         (true, false) => Ok(Some(Relation::FirstFollows)),

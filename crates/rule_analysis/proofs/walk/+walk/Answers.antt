@@ -1,5 +1,4 @@
-use Rattle.std.proofs.Common.{rules, ◌≡◌, ◌<◌, length, arith, ◌∙◌, sym, subst}
-use Rattle.std.specs.Prelude.{slice_index}
+use Rattle.std.proofs.Common.{rules, length, arith, ◌∙◌, subst}
 use Rattle.rule_analysis.specs.Open.{left_of}
 use Rattle.rule_analysis.specs.Search.{IsWalked}
 use Rattle.rule_analysis.specs.Fields.{field_number}
