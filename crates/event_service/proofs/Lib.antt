@@ -2,3 +2,4 @@ pub mod Behind
 pub mod FilterLists
 pub mod Joined
 pub mod Stays
+pub mod TypesAmong
