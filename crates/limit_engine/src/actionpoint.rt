@@ -174,6 +174,19 @@ impl Point {
                 failure: None,
             };
         }
+        self.react(rule, mode, outcome)
+    }
+
+    /// Counts a sample and returns its reactions. It stays out of the loop over the rules, which rarely comes here.
+    #[inline(never)]
+    fn react(&mut self, rule: &RuleEntry, mode: LcMode, outcome: ApResult) -> Reactions
+        // For any number and condition of the rule.
+        ensures point { (n : ℕ) (c : Condition) →
+            self.new ≡ (point_with (rule_with rule.now c) n mode outcome self.old).0 }
+        ensures requests { (n : ℕ) (c : Condition) →
+            requests_of (rule_with rule.now c) n result ≡
+            (point_with (rule_with rule.now c) n mode outcome self.old).1 }
+    {
         let before = self.last;
         self.count(rule.fails, outcome);
         let turn = self.turn(rule, before, outcome);

@@ -4,7 +4,7 @@ use Rattle.lc_model.specs.Kept.Summary.{Tally}
 use Rattle.lc_model.specs.Kept.Next.{tally_after, next_turn_reports}
 use Rattle.limit_engine.specs.Entry.{rule_with}
 use Rattle.limit_engine.proofs.Reacting.{reacted_not, reacted_enough}
-use Rattle.limit_engine.proofs.actionpoint.Point.sample.Goals as goal
+use Rattle.limit_engine.proofs.actionpoint.Point.react.Goals as goal
 
 pub returns-then-self-rule-clause-requests : goal.returns-then-self-rule-clause-requests
 returns-then-self-rule-clause-requests c = λ n condition.
