@@ -7,7 +7,7 @@ ghost use Rattle.rpn_compiler.specs.TextParts.{items_in};
 ghost use Rattle.run_summary.specs.Texts.{compared_of, comparison_of, part_in, planned_of, text_planned, texts_planned};
 
 use crate::texts::{Field, comparisons_of, field_by_name, place_of};
-use lc_model::CmpOp;
+use lc_model::{CmpOp, EventKind};
 use rpn_compiler::RuleText;
 use rule_parser::{Comparison, Item, RuleItem};
 use std::alloc::{AllocError, Global};
@@ -26,10 +26,11 @@ pub struct Part {
     pub at: usize,
 }
 
-/// A rule: the sequence that it requests, and its comparisons from left to right.
+/// A rule: the sequence that it requests, the type of its event, and its comparisons from left to right.
 #[derive(Drop)]
 pub(crate) struct RulePlan {
     sequence: i64,
+    kind: EventKind,
     parts: Vec<Part>,
 }
 
@@ -38,7 +39,7 @@ impl Model for RulePlan {
 
     ghost Value = { Planned };
 
-    ghost view = { λ p. record { sequence = p.sequence; parts = p.parts.items } };
+    ghost view = { λ p. record { sequence = p.sequence; kind = p.kind; parts = p.parts.items } };
 }
 
 /// The rules of a text.
@@ -63,6 +64,13 @@ impl RulePlan {
         self.parts.as_slice()
     }
 
+    /// The type of its event.
+    pub(crate) fn kind(&self) -> EventKind
+        ensures { result ≡ self.now.kind }
+    {
+        self.kind
+    }
+
     /// Whether the rule requests this sequence.
     fn requests(&self, sequence: u16) -> bool
         ensures { result ≡ may_by sequence (Some self.now) }
@@ -81,7 +89,7 @@ impl RulePlans {
 }
 
 /// The rule of this number in the text of this number.
-fn planned_at(plans: &[RulePlans], text: Option<u16>, rule: usize) -> Option<&RulePlan>
+pub(crate) fn planned_at(plans: &[RulePlans], text: Option<u16>, rule: usize) -> Option<&RulePlan>
     ensures { option_map (λ rule. rule.now) result ≡ planned_at plans.now text rule }
 {
     match text {
@@ -179,6 +187,7 @@ fn rule_plan(
 {
     Ok(RulePlan {
         sequence: rule.sequence.value,
+        kind: rule.event_kind,
         parts: parts_of(alloc, text, rule, fields)?,
     })
 }
