@@ -192,8 +192,16 @@ impl Bands {
         ensures { result ≡ how_left mode self.now }
     {
         match mode {
-            None => if self.how.is_none_in_force() { None } else { Some(How::None) },
-            Some(_) => if self.has_changed() { Some(how_unsaid(self.mode)) } else { None },
+            None => if self.how.is_none_in_force() {
+                None
+            } else {
+                Some(How::None)
+            },
+            Some(_) => if self.has_changed() {
+                Some(how_unsaid(self.mode))
+            } else {
+                None
+            },
         }
     }
 
@@ -232,11 +240,7 @@ impl Bands {
     }
 
     /// Takes the mode after a record; it is appended at the first record and at each change. The only error is a lack of memory.
-    pub(crate) fn take_mode(
-        &mut self,
-        place: Place,
-        mode: Option<LcMode>,
-    ) -> Result<(), AllocError>
+    pub(crate) fn take_mode(&mut self, place: Place, mode: Option<LcMode>) -> Result<(), AllocError>
         ensures { OnOk result (self.new ≡ in_mode place mode self.old) }
     {
         if self.modes.len() == 0 || mode_number(self.mode) != mode_number(mode) {
