@@ -40,12 +40,12 @@ fn text_at<'t, 'a>(texts: &'t [RuleText<'a>], text: usize) -> &'t [RuleText<'a>]
 }
 
 /// The text in force, alone; none if it isn't known.
-fn in_force<'t, 'a>(texts: &'t [RuleText<'a>], text: Option<u16>) -> &'t [RuleText<'a>]
+fn in_force<'t, 'a>(texts: &'t [RuleText<'a>], text: Option<usize>) -> &'t [RuleText<'a>]
     ensures { result.now ≡ in_force text texts.now }
 {
     match text {
         None => &[],
-        Some(text) => text_at(texts, text as usize),
+        Some(text) => text_at(texts, text),
     }
 }
 

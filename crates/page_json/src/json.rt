@@ -59,7 +59,7 @@ pub enum Item<'a> {
     /// The number of a rule in its text, if there is one.
     RuleIf(Option<usize>),
     /// The number of a rule text, if there is one.
-    TextIf(Option<u16>),
+    TextIf(Option<usize>),
 }
 
 fn put_item<W: Write>(out: &mut W, item: Item<'_>) -> fmt::Result {

@@ -90,7 +90,7 @@ fn take_rows(
     place: Place,
     stands: &[Stand],
     plans: &[RulePlans],
-    text: Option<u16>,
+    text: Option<usize>,
     seen: &[Seen<'_>],
     rows: &mut Vec<FailRun>,
 ) -> Result<(), AllocError>
@@ -142,7 +142,7 @@ impl<'a> Account<'a> {
     }
 
     /// The comparisons of the rule with this number in the text with this number, from left to right; empty if there is no such rule.
-    pub fn parts(&self, text: Option<u16>, rule: usize) -> &[Part]
+    pub fn parts(&self, text: Option<usize>, rule: usize) -> &[Part]
         ensures { result.now ≡ parts_by (planned_at (account_of self.now).plans text rule) }
     {
         parts_at(self.plans.as_slice(), text, rule)
@@ -178,7 +178,7 @@ impl<'a> Account<'a> {
 
     /// Takes what the host shows after the record: the number of the text in force, and the types of events that are on for the Limit
     /// Checker. Call it after `add_record` and before `sample` and `write` where `is_asked` says so.
-    pub fn show(&mut self, force: Option<u16>, types: TypesOn)
+    pub fn show(&mut self, force: Option<usize>, types: TypesOn)
         ensures { account_of self.new ≡ shown force types (account_of self.old) }
     {
         self.types = types;

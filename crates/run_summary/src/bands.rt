@@ -41,7 +41,7 @@ pub struct TablesFrom {
     /// The place from which on they are in force.
     pub place: Place,
     /// The number of their rule text; `None` if there are no tables or their text isn't known.
-    pub text: Option<u16>,
+    pub text: Option<usize>,
     /// How they came into force.
     pub how: Option<How>,
 }
@@ -56,7 +56,7 @@ pub struct ModeFrom {
 }
 
 /// Whether two texts are the same, or both are unknown.
-fn is_text(one: Option<u16>, other: Option<u16>) -> bool
+fn is_text(one: Option<usize>, other: Option<usize>) -> bool
     ensures { result ≡ is_text one other }
 {
     match one {
@@ -69,7 +69,7 @@ fn is_text(one: Option<u16>, other: Option<u16>) -> bool
 }
 
 /// The text in force if tables came into force so, and the host shows this one after them.
-fn text_enforced(how: How, force: Option<u16>) -> Option<u16>
+fn text_enforced(how: How, force: Option<usize>) -> Option<usize>
     ensures { result ≡ text_enforced how force }
 {
     match how {
@@ -117,8 +117,8 @@ fn mode_number(mode: Option<LcMode>) -> u16
 pub struct Bands {
     tables: Vec<TablesFrom>,
     modes: Vec<ModeFrom>,
-    force: Option<u16>,
-    text: Option<u16>,
+    force: Option<usize>,
+    text: Option<usize>,
     how: How,
     mode: Option<LcMode>,
 }
@@ -167,14 +167,14 @@ impl Bands {
     }
 
     /// The number of the rule text in force, if it is known.
-    pub fn text(&self) -> Option<u16>
+    pub fn text(&self) -> Option<usize>
         ensures { result ≡ self.now.text }
     {
         self.text
     }
 
     /// Takes the text in force that the host shows.
-    pub(crate) fn show(&mut self, force: Option<u16>)
+    pub(crate) fn show(&mut self, force: Option<usize>)
         ensures { self.new ≡ record self.old { force = force } }
     {
         self.force = force;

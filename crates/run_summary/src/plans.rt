@@ -89,12 +89,12 @@ impl RulePlans {
 }
 
 /// The rule of this number in the text of this number.
-pub(crate) fn planned_at(plans: &[RulePlans], text: Option<u16>, rule: usize) -> Option<&RulePlan>
+pub(crate) fn planned_at(plans: &[RulePlans], text: Option<usize>, rule: usize) -> Option<&RulePlan>
     ensures { option_map (λ rule. rule.now) result ≡ planned_at plans.now text rule }
 {
     match text {
         None => None,
-        Some(text) => match plans.get(usize::from(text)) {
+        Some(text) => match plans.get(text) {
             None => None,
             Some(plan) => plan.rule(rule),
         },
@@ -102,7 +102,7 @@ pub(crate) fn planned_at(plans: &[RulePlans], text: Option<u16>, rule: usize) ->
 }
 
 /// The comparisons of the rule of this number in the text of this number.
-pub(crate) fn parts_at(plans: &[RulePlans], text: Option<u16>, rule: usize) -> &[Part]
+pub(crate) fn parts_at(plans: &[RulePlans], text: Option<usize>, rule: usize) -> &[Part]
     ensures { result.now ≡ parts_by (planned_at plans.now text rule) }
 {
     match planned_at(plans, text, rule) {
@@ -114,7 +114,7 @@ pub(crate) fn parts_at(plans: &[RulePlans], text: Option<u16>, rule: usize) -> &
 /// Whether the rule with this number in the text with this number may have requested a sequence; true if the rule isn't known.
 pub(crate) fn may_request(
     plans: &[RulePlans],
-    text: Option<u16>,
+    text: Option<usize>,
     rule: usize,
     sequence: u16,
 ) -> bool

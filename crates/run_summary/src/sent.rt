@@ -34,7 +34,7 @@ pub struct Request {
     /// The number of the rule that made it, if it is known.
     pub rule: Option<usize>,
     /// The number of the text in force, if it is known.
-    pub text: Option<u16>,
+    pub text: Option<usize>,
     /// The number of the requested sequence.
     pub sequence: u16,
     /// The sequence count of its packet.
