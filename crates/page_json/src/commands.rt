@@ -40,12 +40,12 @@ fn text_at<'t, 'a>(texts: &'t [RuleText<'a>], text: usize) -> &'t [RuleText<'a>]
 }
 
 /// The text in force, alone; none if it isn't known.
-fn in_force<'t, 'a>(texts: &'t [RuleText<'a>], text: Option<u16>) -> &'t [RuleText<'a>]
+fn in_force<'t, 'a>(texts: &'t [RuleText<'a>], text: Option<usize>) -> &'t [RuleText<'a>]
     ensures { result.now ≡ in_force text texts.now }
 {
     match text {
         None => &[],
-        Some(text) => text_at(texts, text as usize),
+        Some(text) => text_at(texts, text),
     }
 }
 
@@ -125,7 +125,7 @@ pub fn put_commands<W: Write>(
     for line in commands {
         let items = [
             Item::Natural(line.place.record),
-            Item::Number(line.place.time),
+            Item::Time(line.place.time),
             Item::Text(line.says.as_slice()),
         ];
         json.member(COMMAND, &items);

@@ -126,7 +126,7 @@ fn put_rules<W: Write>(
     json: &mut Json<'_, W>,
     account: &Account<'_>,
     text: &RuleText<'_>,
-    number: Option<u16>,
+    number: Option<usize>,
 ) {
     for place in 0..rule_count(text) {
         if let Some(rule) = rule_at(text, place) {
@@ -139,7 +139,7 @@ fn put_rules<W: Write>(
 pub fn put_texts<W: Write>(json: &mut Json<'_, W>, account: &Account<'_>) {
     for (number, text) in account.texts.iter().enumerate() {
         json.list("{\"rules\":[");
-        put_rules(json, account, text, u16::try_from(number).ok());
+        put_rules(json, account, text, Some(number));
         json.text("]}");
     }
 }

@@ -3,7 +3,7 @@
 use crate::json::Item;
 use lc_model::{ApMode, CmpOp, EventKind, LcMode};
 use rule_parser::Expression;
-use run_summary::How;
+use run_summary::{Hold, How};
 
 /// The word of an event type, as in rule texts.
 pub fn level(kind: EventKind) -> Item<'static> {
@@ -45,6 +45,15 @@ pub fn how(how: Option<How>) -> Item<'static> {
         Some(How::Started) => "started",
         Some(How::Adopted) => "adopted",
         None => "untold",
+    })
+}
+
+/// What held back the event of a request; `null` if it came, or if that isn't known.
+pub fn hold(hold: Option<Hold>) -> Item<'static> {
+    Item::Word(match hold {
+        None => "null",
+        Some(Hold::TypeOff) => "\"type\"",
+        Some(Hold::Filter) => "\"filter\"",
     })
 }
 

@@ -1,52 +1,57 @@
 -- The account of a run, one record more.
-use Rattle.std.proofs.Common.{◌≡◌, ℕ, ◌+◌, List, [], ◌∷◌, ◌++◌, length, refl, ap, sym, ◌∙◌, subst, arith, if◌then◌else◌}
-use Rattle.std.specs.Prelude.{◌==◌, Bool, false}
+use Rattle.std.proofs.Common.{◌≡◌, ℕ, ◌+◌, List, [], ◌∷◌, ◌++◌, length, refl, ap, sym, ◌∙◌, subst, arith, if◌then◌else◌, Option}
+use Rattle.std.specs.Prelude.{◌==◌, Bool, true, false, OnOk, Result}
+use Rattle.std.proofs.lemmas.Result.{on_ok_weaker}
 use Rattle.std.proofs.lemmas.Bool.Decides.{nat_tests}
 use Rattle.run_summary.specs.Account as account
 use Rattle.run_summary.specs.Account.{Account, account_behind, account_with}
 use Rattle.run_summary.specs.Run as run
-use Rattle.run_summary.specs.Run.{FieldsCome, OfTexts, nothing_told}
+use Rattle.run_summary.specs.Run.{FieldsCome, nothing_told}
 use Rattle.run_summary.specs.Fields.{AreKnown}
+use Rattle.run_summary.specs.declared.holds.TypesOn.{TypesOn}
 use Rattle.run_summary.specs.declared.place.Place.{Place}
 use Rattle.run_summary.specs.declared.place.Stand.{Stand}
+use Rattle.app_host.specs.Delivered.{executive_in}
 use Rattle.flight_core.specs.Feeding.{Feeding}
+use Rattle.rpn_compiler.specs.declared.files.TablePair.{TablePair}
+use Rattle.run_stepper.specs.Force.{text_in_force}
 use Rattle.run_stepper.specs.Stepping.{engine_among}
 use Rattle.run_page.specs.declared.behind.Behind.{Behind}
 use Rattle.run_stepper.specs.Steps.{Step}
-use Rattle.run_page.specs.Model.{HasTaken, account_by, all_taken, led_to, mode_of, place_of, stands_of, start_of, taken_from, taken_of, ticks_of}
+use Rattle.run_page.specs.Model.{HasTaken, OfRun, account_by, all_taken, led_to, mode_of, place_of, stands_of, start_of, taken_from, taken_of, ticks_of, types_of}
 
 behind_more : (a : Account) (steps : List account.Step) (step : account.Step) → account_behind a (steps ++ step ∷ []) ≡ account_with step (account_behind a steps)
 behind_more a [] step = refl
 behind_more a (one ∷ steps) step = behind_more (account_with one a) steps step
 
-taken_more : (start number : ℕ) (steps : List Step) (step : Step) →
-    taken_from start number (steps ++ step ∷ []) ≡ taken_from start number steps ++ taken_of start (number + length steps) step ∷ []
-taken_more start number [] step = ap (λ at. taken_of start at step ∷ []) (omega arith)
-taken_more start number (one ∷ steps) step =
-    ap (λ more. taken_of start number one ∷ more)
-    (taken_more start (number + 1) steps step
-    ∙ ap (λ at. taken_from start (number + 1) steps ++ taken_of start at step ∷ []) (omega arith))
+taken_more : (pairs : List TablePair) (start number : ℕ) (steps : List Step) (step : Step) →
+    taken_from pairs start number (steps ++ step ∷ []) ≡ taken_from pairs start number steps ++ taken_of pairs start (number + length steps) step ∷ []
+taken_more pairs start number [] step = ap (λ at. taken_of pairs start at step ∷ []) (omega arith)
+taken_more pairs start number (one ∷ steps) step =
+    ap (λ more. taken_of pairs start number one ∷ more)
+    (taken_more pairs start (number + 1) steps step
+    ∙ ap (λ at. taken_from pairs start (number + 1) steps ++ taken_of pairs start at step ∷ []) (omega arith))
 
 -- by a run whose first record is of this time
-all_taken_more : (steps : List Step) (step : Step) (start : ℕ) → start ≡ (if length steps + 1 == 1 then ticks_of step.bytes else start_of steps) →
-    all_taken (steps ++ step ∷ []) ≡ all_taken steps ++ taken_of start (length steps + 1) step ∷ []
-all_taken_more [] step start is = ap (λ from. taken_of from 1 step ∷ []) (sym is)
-all_taken_more (one ∷ steps) step start is =
+all_taken_more : (pairs : List TablePair) (steps : List Step) (step : Step) (start : ℕ) → start ≡ (if length steps + 1 == 1 then ticks_of step.bytes else start_of steps) →
+    all_taken pairs (steps ++ step ∷ []) ≡ all_taken pairs steps ++ taken_of pairs start (length steps + 1) step ∷ []
+all_taken_more pairs [] step start is = ap (λ from. taken_of pairs from 1 step ∷ []) (sym is)
+all_taken_more pairs (one ∷ steps) step start is =
     let more : (length (one ∷ steps) + 1 == 1) ≡ false = grind (arith, nat_tests) in
     let same : start ≡ ticks_of one.bytes = is ∙ ap (λ (b : Bool). if b then ticks_of step.bytes else ticks_of one.bytes) more in
-    taken_more (ticks_of one.bytes) 1 (one ∷ steps) step
-    ∙ ap (λ at. taken_from (ticks_of one.bytes) 1 (one ∷ steps) ++ taken_of (ticks_of one.bytes) at step ∷ []) (omega arith)
-    ∙ ap (λ from. taken_from (ticks_of one.bytes) 1 (one ∷ steps) ++ taken_of from (length (one ∷ steps) + 1) step ∷ []) (sym same)
+    taken_more pairs (ticks_of one.bytes) 1 (one ∷ steps) step
+    ∙ ap (λ at. taken_from pairs (ticks_of one.bytes) 1 (one ∷ steps) ++ taken_of pairs (ticks_of one.bytes) at step ∷ []) (omega arith)
+    ∙ ap (λ from. taken_from pairs (ticks_of one.bytes) 1 (one ∷ steps) ++ taken_of pairs from (length (one ∷ steps) + 1) step ∷ []) (sym same)
 
 -- a record more
-pub account_more : (texts : OfTexts) (steps : List Step) (step : Step) (start : ℕ) (a after : Account) → a ≡ account_by texts steps →
+pub account_more : (texts : OfRun) (steps : List Step) (step : Step) (start : ℕ) (a after : Account) → a ≡ account_by texts steps →
     start ≡ (if length steps + 1 == 1 then ticks_of step.bytes else start_of steps) →
-    after ≡ account_with (taken_of start (length steps + 1) step) a → after ≡ account_by texts (steps ++ step ∷ [])
+    after ≡ account_with (taken_of texts.pairs start (length steps + 1) step) a → after ≡ account_by texts (steps ++ step ∷ [])
 account_more texts steps step start a after so begins is =
     is
-    ∙ ap (account_with (taken_of start (length steps + 1) step)) so
-    ∙ sym (behind_more (nothing_told texts) (all_taken steps) (taken_of start (length steps + 1) step))
-    ∙ ap (account_behind (nothing_told texts)) (sym (all_taken_more steps step start begins))
+    ∙ ap (account_with (taken_of texts.pairs start (length steps + 1) step)) so
+    ∙ sym (behind_more (nothing_told texts.read) (all_taken texts.pairs steps) (taken_of texts.pairs start (length steps + 1) step))
+    ∙ ap (account_behind (nothing_told texts.read)) (sym (all_taken_more texts.pairs steps step start begins))
 
 -- ---- a record that is taken
 
@@ -57,19 +62,39 @@ still_stands law bytes place behind behind_it old came comes same last =
     subst (λ (stands : List Stand). run.StoodLast stands came) (sym same)
     (subst (λ (a : Account). run.StoodLast behind.rules.items a) (sym comes) (law.comes behind.rules.items bytes place old last))
 
-pub record_taken : run.StandAgain → FieldsCome → (bytes : List ℕ) (host : Feeding) (written led : List ℕ) (start number : ℕ) (place : Place) (behind behind_it : Behind)
-    (old came after : Account) → place ≡ place_of start number bytes → came ≡ account.come bytes place old → behind.mode ≡ mode_of (engine_among host.host.seats) →
-    behind.rules.items ≡ stands_of (engine_among host.host.seats) → written ≡ led → behind_it ≡ behind → after ≡ led_to written place behind came →
-    HasTaken (record { bytes = bytes; host = host; written = led }) start number behind_it old after
-record_taken law fields_law bytes host written led start number place behind behind_it old came after places comes modes stands wrote same is =
+-- and so they do once the host was asked
+shown_stands : run.StandAgain → (b : Bool) (stands : List Stand) (force : Option ℕ) (types : TypesOn) (a : Account) → run.StoodLast stands a →
+    run.StoodLast stands (account.shown_if b force types a)
+shown_stands law true stands force types a last = law.asked stands force types a last
+shown_stands law false stands force types a last = last
+
+pub asked_stands : run.StandAgain → (b : Bool) (stands : List Stand) (force : Option ℕ) (types : TypesOn) (came shown : Account) →
+    shown ≡ account.shown_if b force types came → run.StoodLast stands came → run.StoodLast stands shown
+asked_stands law b stands force types came shown is last =
+    subst (λ (a : Account). run.StoodLast stands a) (sym is) (shown_stands law b stands force types came last)
+
+-- what the call returned is the account after what the record led to
+pub led_so : {T E : Type 0} (result : Result T E) (written led : List ℕ) (place : Place) (behind : Behind) (shown after is_shown : Account) → written ≡ led → shown ≡ is_shown →
+    OnOk result (after ≡ led_to written place behind shown) → OnOk result (after ≡ led_to led place behind is_shown)
+led_so result written led place behind shown after is_shown wrote same told =
+    on_ok_weaker result (λ is. is ∙ (λ i. led_to (wrote i) place behind (same i))) told
+
+pub record_taken : run.StandAgain → FieldsCome → (pairs : List TablePair) (bytes : List ℕ) (host : Feeding) (written led : List ℕ) (start number : ℕ) (place : Place)
+    (behind behind_it : Behind) (old came after : Account) → place ≡ place_of start number bytes → came ≡ account.come bytes place old →
+    behind.mode ≡ mode_of (engine_among host.host.seats) → behind.rules.items ≡ stands_of (engine_among host.host.seats) → written ≡ led → behind_it ≡ behind →
+    after ≡ led_to written place behind
+    (account.shown_if (account.is_asked bytes written) (text_in_force pairs (executive_in host.host)) (types_of (executive_in host.host)) came) →
+    HasTaken pairs (record { bytes = bytes; host = host; written = led }) start number behind_it old after
+record_taken law fields_law pairs bytes host written led start number place behind behind_it old came after places comes modes stands wrote same is =
     let step : Step = record { bytes = bytes; host = host; written = led } in
     let there : came ≡ account.come bytes (place_of start number bytes) old = comes ∙ ap (λ (at : Place). account.come bytes at old) places in
-    let takes : after ≡ account_with (taken_of start number step) old =
-    is ∙ (λ i. account.stood_so (places i) (modes i) (stands i) (account.written (wrote i) (places i) (stands i) (account.sampled (places i) (stands i) (there i)))) in
+    let takes : after ≡ account_with (taken_of pairs start number step) old =
+    is ∙ (λ i. account.stood_so (places i) (modes i) (stands i) (account.written (wrote i) (places i) (stands i) (account.sampled (places i) (stands i)
+    (account.shown_if (account.is_asked bytes (wrote i)) (text_in_force pairs (executive_in host.host)) (types_of (executive_in host.host)) (there i))))) in
     record {
       taken = takes;
-      known = λ fields known. subst (λ (a : Account). AreKnown (number + 1) fields a.seen) (sym takes) (fields_law.go_on fields (taken_of start number step) old known);
+      known = λ fields known. subst (λ (a : Account). AreKnown (number + 1) fields a.seen) (sym takes) (fields_law.go_on fields (taken_of pairs start number step) old known);
       stood_last = λ looked.
           subst (λ (stands : List Stand). run.StoodLast stands after) (sym (ap (λ (b : Behind). b.rules.items) same ∙ stands))
-          (subst (λ (a : Account). run.StoodLast (stands_of (engine_among host.host.seats)) a) (sym takes) (law.behind (taken_of start number step) old));
+          (subst (λ (a : Account). run.StoodLast (stands_of (engine_among host.host.seats)) a) (sym takes) (law.behind (taken_of pairs start number step) old));
     }

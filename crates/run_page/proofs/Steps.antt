@@ -9,6 +9,8 @@ use Rattle.lc_model.specs.Host.Schedule.{Schedule}
 use Rattle.lc_model.specs.Host.Stream.{StreamEntry, End, Bad, Truncated, Record, all_kinds, front, records_of}
 use Rattle.lc_model.specs.Host.Stream as stream
 use Rattle.bounded_history.specs.declared.entry.Entry.{Entry}
+use Rattle.rpn_compiler.specs.declared.files.TablePair.{TablePair}
+use Rattle.flight_core.specs.Compiled.{AreAllCompiled}
 use Rattle.flight_core.specs.Cutting.{Begins, Comes, EndsBadly, EndsCut, EndsWhole, Goes, IsHandedOut}
 use Rattle.flight_core.specs.Feeding.{Feeding, fed_with}
 use Rattle.flight_core.specs.Front.{part_of}
@@ -34,7 +36,7 @@ use Rattle.run_page.proofs.Pieces.{took_more, took_none}
 use Rattle.run_summary.specs.declared.texts.Field.{Field}
 use Rattle.run_page.proofs.Accounts.{account_more}
 use Rattle.run_page.proofs.Values.{all_values_more, started}
-use Rattle.run_page.specs.Model.{EndsSo, HasTaken, HasTold, IsKept, IsNew, KeepsStands, ListsTell, StopsAt, Tells, TellsRead, TellsTaken, ending_at, all_values, lanes_from, place_of, stands_of, start_of, stood, stood_more, ticks_of, told_from, told_of, values_more}
+use Rattle.run_page.specs.Model.{EndsSo, HasTaken, HasTold, OfRun, run_of, IsKept, IsNew, KeepsStands, ListsTell, StopsAt, Tells, TellsRead, TellsTaken, ending_at, all_values, lanes_from, place_of, stands_of, start_of, stood, stood_more, ticks_of, told_from, told_of, values_more}
 
 -- the host goes through one record more
 pub went_more : (first old new : Feeding) (steps : List Step) (bytes written : List ℕ) → Went first steps old → HasStepped bytes old new written (Ok handled.Whole) →
@@ -82,7 +84,7 @@ joined_bytes front bytes behind =
     ap (λ more. (front ++ more) ++ behind) (append-nil bytes) ∙ append_assoc front bytes behind
 
 -- what was told so far of a stream, of which these bytes are left
-pub record SoFar (texts : OfTexts) (first now : Feeding) (stream rest : List ℕ) (lists : Lists) (behind : Behind) (a : Account) (start number : ℕ) : Type 0 where
+pub record SoFar (texts : OfRun) (first now : Feeding) (stream rest : List ℕ) (lists : Lists) (behind : Behind) (a : Account) (start number : ℕ) : Type 0 where
   pub steps : List Step
   pub count : length steps ≡ number
   pub went : Went first steps now
@@ -104,7 +106,7 @@ pub record Laws : Type 0 where
 pub laws_of : Begins → Comes → Goes → EndsBadly → EndsWhole → EndsCut → Laws
 laws_of begins comes goes bad whole cut = record { begins = begins; comes = comes; goes = goes; bad = bad; whole = whole; cut = cut }
 
-pub nothing_so_far : Laws → (texts : OfTexts) (first : Feeding) (lists : Lists) (behind : Behind) (a : Account) (start : ℕ) →
+pub nothing_so_far : Laws → (texts : OfRun) (first : Feeding) (lists : Lists) (behind : Behind) (a : Account) (start : ℕ) →
     HasTold texts lists behind a start [] → SoFar texts first first [] [] lists behind a start 0
 nothing_so_far laws texts first lists behind a start told = record {
   steps = [];
@@ -125,14 +127,14 @@ TellsNow lists behind start bytes host fields lanes values number =
     × IsKept behind (stood_more (place_of start number bytes) (stands_of (engine_among host.host.seats)) 0 lanes)
 
 -- one record more
-pub next_so_far : Laws → (texts : OfTexts) (first old new : Feeding) (stream rest bytes left written : List ℕ) (lists after : Lists) (behind behind_it : Behind) (a after_it : Account)
+pub next_so_far : Laws → (texts : OfRun) (first old new : Feeding) (stream rest bytes left written : List ℕ) (lists after : Lists) (behind behind_it : Behind) (a after_it : Account)
     (start now number : ℕ) (entry : StreamEntry) →
     SoFar texts first old stream rest lists behind a start number → HasStepped bytes old new written (Ok handled.Whole) → bytes ++ left ≡ rest →
     front all_kinds (length first.files) rest ≡ Record entry left → records_of (length first.files) bytes ≡ one_record entry →
     now ≡ (if number + 1 == 1 then ticks_of bytes else start) → now < 2 ^ 48 →
     ((fields : List Field) (lanes values : List (List Entry)) → AreKnown (number + 1) fields a.seen → ListsTell lists lanes values → IsKept behind lanes →
     TellsNow after behind_it now bytes new fields lanes values (number + 1)) →
-    (KeepsStands behind a → HasTaken (record { bytes = bytes; host = new; written = written }) now (number + 1) behind_it a after_it) →
+    (KeepsStands behind a → HasTaken texts.pairs (record { bytes = bytes; host = new; written = written }) now (number + 1) behind_it a after_it) →
     SoFar texts first new stream left after behind_it after_it now (number + 1)
 next_so_far laws texts first old new stream rest bytes left written lists after behind behind_it a after_it start now number entry so stepped parts here own begins small adds takes = record {
   steps = so.steps ++ step ∷ [];
@@ -145,11 +147,11 @@ next_so_far laws texts first old new stream rest bytes left written lists after 
   told = record {
     first = started so.steps step now begins_so;
     small = small;
-    lists_tell = subst (λ (lanes : List (List Entry)). ListsTell after lanes (all_values texts.fields (so.steps ++ step ∷ []))) more_lanes
-        (subst (ListsTell after lanes_now) (all_values_more texts.fields so.steps step now begins_so) told_now.0);
+    lists_tell = subst (λ (lanes : List (List Entry)). ListsTell after lanes (all_values texts.read.fields (so.steps ++ step ∷ []))) more_lanes
+        (subst (ListsTell after lanes_now) (all_values_more texts.read.fields so.steps step now begins_so) told_now.0);
     kept = subst (IsKept behind_it) more_lanes told_now.1;
     is_account = account_more texts so.steps step now a after_it so.told.is_account begins_so taken_now.taken;
-    known = subst (λ count. AreKnown (count + 1) texts.fields after_it.seen) (sym (counted so.steps step (length so.steps) refl)) (taken_now.known texts.fields so.told.known);
+    known = subst (λ count. AreKnown (count + 1) texts.read.fields after_it.seen) (sym (counted so.steps step (length so.steps) refl)) (taken_now.known texts.read.fields so.told.known);
     stood_last = taken_now.stood_last;
   };
 } where
@@ -159,19 +161,19 @@ next_so_far laws texts first old new stream rest bytes left written lists after 
   begins_so : now ≡ (if length so.steps + 1 == 1 then ticks_of bytes else start_of so.steps)
   begins_so = begins ∙ (λ i. if sym so.count i + 1 == 1 then ticks_of bytes else so.told.first i)
 
-  taken_now : HasTaken step now (length so.steps + 1) behind_it a after_it
-  taken_now = subst (λ count. HasTaken step now (count + 1) behind_it a after_it) (sym so.count) (takes so.told.stood_last)
+  taken_now : HasTaken texts.pairs step now (length so.steps + 1) behind_it a after_it
+  taken_now = subst (λ count. HasTaken texts.pairs step now (count + 1) behind_it a after_it) (sym so.count) (takes so.told.stood_last)
 
   lanes_now : List (List Entry)
-  lanes_now = stood_more (place_of now (length so.steps + 1) bytes) (stands_of (engine_among new.host.seats)) 0 (lanes_from 0 texts.lanes so.steps)
+  lanes_now = stood_more (place_of now (length so.steps + 1) bytes) (stands_of (engine_among new.host.seats)) 0 (lanes_from 0 texts.read.lanes so.steps)
 
-  more_lanes : lanes_now ≡ lanes_from 0 texts.lanes (so.steps ++ step ∷ [])
-  more_lanes = lanes_more 0 texts.lanes so.steps step now begins_so
+  more_lanes : lanes_now ≡ lanes_from 0 texts.read.lanes (so.steps ++ step ∷ [])
+  more_lanes = lanes_more 0 texts.read.lanes so.steps step now begins_so
 
-  told_now : TellsNow after behind_it now bytes new texts.fields (lanes_from 0 texts.lanes so.steps) (all_values texts.fields so.steps) (length so.steps + 1)
-  told_now = subst (λ count. TellsNow after behind_it now bytes new texts.fields (lanes_from 0 texts.lanes so.steps) (all_values texts.fields so.steps) (count + 1)) (sym so.count)
-      (adds texts.fields (lanes_from 0 texts.lanes so.steps) (all_values texts.fields so.steps)
-      (subst (λ count. AreKnown (count + 1) texts.fields a.seen) so.count so.told.known) so.told.lists_tell so.told.kept)
+  told_now : TellsNow after behind_it now bytes new texts.read.fields (lanes_from 0 texts.read.lanes so.steps) (all_values texts.read.fields so.steps) (length so.steps + 1)
+  told_now = subst (λ count. TellsNow after behind_it now bytes new texts.read.fields (lanes_from 0 texts.read.lanes so.steps) (all_values texts.read.fields so.steps) (count + 1)) (sym so.count)
+      (adds texts.read.fields (lanes_from 0 texts.read.lanes so.steps) (all_values texts.read.fields so.steps)
+      (subst (λ count. AreKnown (count + 1) texts.read.fields a.seen) so.count so.told.known) so.told.lists_tell so.told.kept)
 
 -- ---- a stream that comes in pieces
 
@@ -181,7 +183,7 @@ pub record IsBare (bare now : Feeding) : Type 0 where
   pub same : without_bytes bare ≡ without_bytes now
 
 -- what was told so far of the bytes that were taken of a stream: those of the records that the host handled, and those that it holds
-pub record ReadSoFar (texts : OfTexts) (first now : Feeding) (before left : Option (List ℕ)) (old new : Intake) (lists : Lists) (behind : Behind) (a : Account) (start number : ℕ) : Type 0 where
+pub record ReadSoFar (texts : OfRun) (first now : Feeding) (before left : Option (List ℕ)) (old new : Intake) (lists : Lists) (behind : Behind) (a : Account) (start number : ℕ) : Type 0 where
   pub taken : List ℕ
   pub took : Took before left old new taken
   pub bare : Feeding
@@ -189,7 +191,7 @@ pub record ReadSoFar (texts : OfTexts) (first now : Feeding) (before left : Opti
   pub of_texts : now.held.texts ≡ length first.files
   pub so : SoFar texts first bare taken now.held.bytes lists behind a start number
 
-pub nothing_read : Laws → (texts : OfTexts) (first : Feeding) (known : Option (List ℕ)) (it : Intake) (lists : Lists) (behind : Behind) (a : Account) (start : ℕ) →
+pub nothing_read : Laws → (texts : OfRun) (first : Feeding) (known : Option (List ℕ)) (it : Intake) (lists : Lists) (behind : Behind) (a : Account) (start : ℕ) →
     IsNew first → HasTold texts lists behind a start [] → ReadSoFar texts first first known known it it lists behind a start 0
 nothing_read laws texts first known it lists behind a start new told =
     let none : first.held.bytes ≡ [] = ap (λ (held : Held). held.bytes) new.held in
@@ -221,7 +223,7 @@ pub whole_goes_on : (between left : Option (List ℕ)) (was is : Intake) (old la
 whole_goes_on between left was is old last written found arrives whole =
     let handles : HandlesRecord arrives.host last written = subst (HandlesAlone arrives.host last written) whole arrives.handles in handles.goes_on
 
-module _ (laws : Laws) (texts : OfTexts) (first old last : Feeding) (before between left : Option (List ℕ)) (intake was is : Intake) (lists : Lists) (behind : Behind) (a : Account) (start number : ℕ)
+module _ (laws : Laws) (texts : OfRun) (first old last : Feeding) (before between left : Option (List ℕ)) (intake was is : Intake) (lists : Lists) (behind : Behind) (a : Account) (start number : ℕ)
     (read : ReadSoFar texts first old before between intake was lists behind a start number) (written : List ℕ) (found : Handled) (arrives : Arrives between left was is old last written found) where
   host : Feeding
   host = arrives.host
@@ -264,7 +266,7 @@ module _ (laws : Laws) (texts : OfTexts) (first old last : Feeding) (before betw
         now ≡ (if number + 1 == 1 then ticks_of bytes else start) → now < 2 ^ 48 →
         ((fields : List Field) (lanes values : List (List Entry)) → AreKnown (number + 1) fields a.seen → ListsTell lists lanes values → IsKept behind lanes →
         TellsNow after behind_it now bytes last fields lanes values (number + 1)) →
-        (KeepsStands behind a → HasTaken (record { bytes = bytes; host = last; written = written }) now (number + 1) behind_it a after_it) →
+        (KeepsStands behind a → HasTaken texts.pairs (record { bytes = bytes; host = last; written = written }) now (number + 1) behind_it a after_it) →
         ReadSoFar texts first last before left intake is after behind_it after_it now (number + 1)
     next_read bytes after behind_it after_it now lent begins small adds takes = record {
       taken = more_read.taken;
@@ -376,27 +378,29 @@ module _ (laws : Laws) (texts : OfTexts) (first old last : Feeding) (before betw
         (by_left host.held.bytes refl (ap (λ n. front all_kinds n host.held.bytes) (sym more_read.of_texts) ∙ waits.front))
 
 -- .. of a run that began so
-pub all_read : StepsAreARun → (sources : List (List ℕ)) (schedule : Schedule) (texts : OfTexts) (first : Feeding) (before between left : Option (List ℕ)) (old was is : Intake) (lists : Lists) (a : Account)
-    (ending : Ending) (bytes : ℕ) (digest : List ℕ) → HaveItems sources texts.texts → AreRead texts → BeginsWith sources schedule first →
-    TellsTaken texts before between old was first lists a ending → TookAll between left was is → old.count ≡ 0 → Holds256 old.hasher [] → old.is_ended ≡ false →
+pub all_read : StepsAreARun → (sources : List (List ℕ)) (schedule : Schedule) (read : OfTexts) (pairs : List TablePair) (first : Feeding) (before between left : Option (List ℕ)) (old was is : Intake) (lists : Lists) (a : Account)
+    (ending : Ending) (bytes : ℕ) (digest : List ℕ) → HaveItems sources read.texts → AreRead read → AreAllCompiled sources pairs → BeginsWith sources schedule first →
+    TellsTaken (run_of read pairs) before between old was first lists a ending → TookAll between left was is → old.count ≡ 0 → Holds256 old.hasher [] → old.is_ended ≡ false →
     bytes ≡ is.count → ((stream : List ℕ) → Holds256 is.hasher stream → digest ≡ sha256 stream) → TellsRead sources schedule before left lists a bytes digest ending
-all_read law sources schedule texts first before between left old was is lists a ending bytes digest items are_read begins told all none_counted none_hashed unended sized hashed = record {
+all_read law sources schedule read pairs first before between left old was is lists a ending bytes digest items are_read compiled begins told all none_counted none_hashed unended sized hashed = record {
   stream = told.taken ++ all.taken;
   consumes = took.consumes;
   at_end = took.at_end (λ ended. absurd (false≢true (sym unended ∙ ended))) all.ended;
   size = sized ∙ took.counted 0 none_counted ∙ ap (λ count. min count (2 ^ 64 - 1)) (omega arith);
   digest_is = hashed (told.taken ++ all.taken) (took.hashed [] none_hashed);
   tells = record {
-    read = texts;
+    read = read;
     items = items;
     are_read = are_read;
+    pairs = pairs;
+    compiled = compiled;
     first = first;
     begins = begins;
     tells = tells;
     have_run = law sources schedule (told.taken ++ all.taken) first tells.host tells.steps tells.rest ending begins tells.went tells.bytes tells.are_records;
   };
 } where
-  tells : Tells texts (told.taken ++ all.taken) first lists a ending
+  tells : Tells (run_of read pairs) (told.taken ++ all.taken) first lists a ending
   tells = told.tells all.taken (λ ended. (all.took.none_behind ended).0)
 
   took : Took before left old is (told.taken ++ all.taken)

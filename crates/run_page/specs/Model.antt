@@ -5,10 +5,17 @@ use Rattle.lc_model.specs.declared.mode.LcMode.{LcMode}
 use Rattle.lc_model.specs.Bytes.{u16_at, u32_at}
 use Rattle.lc_model.specs.Host.Schedule.{Schedule}
 use Rattle.lc_model.specs.Host.Stream.{header_size}
+use Rattle.lc_model.specs.declared.rule.EventKind.TheVariants as kind
+use Rattle.lc_model.specs.Kept.Executive.{Executive}
 use Rattle.lc_model.specs.Kept.Summary.{LcOwn, Tally}
 use Rattle.lc_model.specs.LimitChecker.Steps.{Point}
+use Rattle.rpn_compiler.specs.declared.files.TablePair.{TablePair}
+use Rattle.app_host.specs.Delivered.{executive_in}
+use Rattle.flight_core.specs.Compiled.{AreAllCompiled}
 use Rattle.flight_core.specs.Feeding.{Feeding}
 use Rattle.flight_core.specs.Records.{nothing_held}
+use Rattle.run_stepper.specs.Events.{is_type_of_checker_on}
+use Rattle.run_stepper.specs.Force.{text_in_force}
 use Rattle.run_stepper.specs.Stepping.{BeginsWith, HasStepped, engine_among}
 use Rattle.run_stepper.specs.Steps.{AreItsRecords, HaveRun, Step, Went, bytes_of}
 use Rattle.run_stepper.specs.declared.handled.Handled.{Handled}
@@ -18,6 +25,7 @@ use Rattle.run_stepper.specs.declared.ending.Ending.TheVariants.{Whole, NoRecord
 use Rattle.bounded_history.specs.declared.entry.Entry.{Entry}
 use Rattle.bounded_history.specs.Changes.{is_said_last}
 use Rattle.bounded_history.specs.Telling.{PoolTells, most_of}
+use Rattle.run_summary.specs.declared.holds.TypesOn.{TypesOn}
 use Rattle.run_summary.specs.declared.place.Place.{Place}
 use Rattle.run_summary.specs.declared.place.Stand.{Stand}
 use Rattle.run_summary.specs.declared.seen.Met.{Met}
@@ -183,56 +191,76 @@ abbrev pub mode_of : Option LcOwn → Option LcMode
 mode_of None = None
 mode_of (Some engine) = Some engine.mode
 
+-- what is read of the texts of a run, and their table files
+pub record OfRun : Type 0 where
+  pub read : OfTexts
+  pub pairs : List TablePair
+
+abbrev pub run_of : OfTexts → List TablePair → OfRun
+run_of read pairs = record { read = read; pairs = pairs }
+
+-- the types of events that a host has on for the Limit Checker
+abbrev pub types_of : Executive (List ℕ) → TypesOn
+types_of now = record {
+  debug = is_type_of_checker_on kind.Debug now;
+  information = is_type_of_checker_on kind.Information now;
+  error = is_type_of_checker_on kind.Error now;
+  critical = is_type_of_checker_on kind.Critical now;
+}
+
 -- the record with this number as the account takes it: its place (the run's first record has the time `start`), its bytes, the packets that
--- the host wrote, and the Limit Checker's mode and rules after it
-abbrev pub taken_of : (start number : ℕ) → Step → account.Step
-taken_of start number step = record {
+-- the host wrote, the Limit Checker's mode and rules after it, and what the host shows after it: which text's table files are in force, and
+-- the types of events that are on for the Limit Checker
+abbrev pub taken_of : List TablePair → (start number : ℕ) → Step → account.Step
+taken_of pairs start number step = record {
   place = place_of start number step.bytes;
   bytes = step.bytes;
   written = step.written;
   mode = mode_of (engine_among step.host.host.seats);
   stands = stands_of (engine_among step.host.host.seats);
+  force = text_in_force pairs (executive_in step.host.host);
+  types = types_of (executive_in step.host.host);
 }
 
 -- the same of these records, the first of which has this number
-abbrev pub taken_from : (start number : ℕ) → List Step → List account.Step
-taken_from start number [] = []
-taken_from start number (step ∷ steps) = taken_of start number step ∷ taken_from start (number + 1) steps
+abbrev pub taken_from : List TablePair → (start number : ℕ) → List Step → List account.Step
+taken_from pairs start number [] = []
+taken_from pairs start number (step ∷ steps) = taken_of pairs start number step ∷ taken_from pairs start (number + 1) steps
 
 -- the records of a whole run
-abbrev pub all_taken : List Step → List account.Step
-all_taken steps = taken_from (start_of steps) 1 steps
+abbrev pub all_taken : List TablePair → List Step → List account.Step
+all_taken pairs steps = taken_from pairs (start_of steps) 1 steps
 
 -- the account of these records, in a run of these texts
-abbrev pub account_by : OfTexts → List Step → Account
-account_by texts steps = account_behind (run.nothing_told texts) (all_taken steps)
+abbrev pub account_by : OfRun → List Step → Account
+account_by texts steps = account_behind (run.nothing_told texts.read) (all_taken texts.pairs steps)
 
 -- once the rules were looked at, they are those that the account has after the last record
 abbrev pub KeepsStands : Behind → Account → Type 0
 KeepsStands behind a = behind.looked ≡ true → run.StoodLast behind.rules.items a
 
--- the account after what a record led to, once the record has come
+-- the account after what a record led to, once the record has come and the host was asked, if it is
 abbrev pub led_to : List ℕ → Place → Behind → Account → Account
 led_to written place behind a =
     account.stood_so place behind.mode behind.rules.items
     (account.written written place behind.rules.items (account.sampled place behind.rules.items a))
 
 -- the record with this number was taken into the account
-pub record HasTaken (step : Step) (start number : ℕ) (behind : Behind) (old new : Account) : Type 0 where
-  pub taken : new ≡ account.account_with (taken_of start number step) old
+pub record HasTaken (pairs : List TablePair) (step : Step) (start number : ℕ) (behind : Behind) (old new : Account) : Type 0 where
+  pub taken : new ≡ account.account_with (taken_of pairs start number step) old
   pub known : (fields : List Field) → AreKnown number fields old.seen → AreKnown (number + 1) fields new.seen
   pub stood_last : KeepsStands behind new
 
 -- ---- a whole run
 
 -- the lists and the account are those of these records, in a run of these texts
-pub record HasTold (texts : OfTexts) (lists : Lists) (behind : Behind) (a : Account) (start : ℕ) (steps : List Step) : Type 0 where
+pub record HasTold (texts : OfRun) (lists : Lists) (behind : Behind) (a : Account) (start : ℕ) (steps : List Step) : Type 0 where
   pub first : start ≡ start_of steps
   pub small : start < 2 ^ 48
-  pub lists_tell : ListsTell lists (lanes_from 0 texts.lanes steps) (all_values texts.fields steps)
-  pub kept : IsKept behind (lanes_from 0 texts.lanes steps)
+  pub lists_tell : ListsTell lists (lanes_from 0 texts.read.lanes steps) (all_values texts.read.fields steps)
+  pub kept : IsKept behind (lanes_from 0 texts.read.lanes steps)
   pub is_account : a ≡ account_by texts steps
-  pub known : AreKnown (length steps + 1) texts.fields a.seen
+  pub known : AreKnown (length steps + 1) texts.read.fields a.seen
   pub stood_last : KeepsStands behind a
 
 -- the host can't handle the front of these bytes
@@ -254,7 +282,7 @@ EndsSo Bound steps host rest = ⊥
 -- The data of a run over a stream by the host `first`. The host handled the records of the stream, each as it does by itself. Each rule's
 -- lane has the changes of its result and state after each record, and each field's list the changes of its value, all shortened by columns.
 -- The account is that of these records.
-pub record Tells (texts : OfTexts) (stream : List ℕ) (first : Feeding) (lists : Lists) (a : Account) (ending : Ending) : Type 0 where
+pub record Tells (texts : OfRun) (stream : List ℕ) (first : Feeding) (lists : Lists) (a : Account) (ending : Ending) : Type 0 where
   pub steps : List Step
   pub host : Feeding
   pub rest : List ℕ
@@ -262,7 +290,7 @@ pub record Tells (texts : OfTexts) (stream : List ℕ) (first : Feeding) (lists 
   pub bytes : bytes_of steps ++ rest ≡ stream
   pub are_records : AreItsRecords (length first.files) stream steps ending
   pub ends : EndsSo ending steps host rest
-  pub lists_tell : ListsTell lists (lanes_from 0 texts.lanes steps) (all_values texts.fields steps)
+  pub lists_tell : ListsTell lists (lanes_from 0 texts.read.lanes steps) (all_values texts.read.fields steps)
   pub is_account : a ≡ account_by texts steps
 
 -- The same of these texts under this schedule. The lanes are those of the texts' rules, and the lists of values those of the fields that the
@@ -272,9 +300,11 @@ pub record TellsRun (sources : List (List ℕ)) (schedule : Schedule) (stream : 
   pub read : OfTexts
   pub items : HaveItems sources read.texts
   pub are_read : AreRead read
+  pub pairs : List TablePair
+  pub compiled : AreAllCompiled sources pairs
   pub first : Feeding
   pub begins : BeginsWith sources schedule first
-  pub tells : Tells read stream first lists a ending
+  pub tells : Tells (run_of read pairs) stream first lists a ending
   pub have_run : HaveRun sources schedule stream tells.steps ending tells.host
 
 -- ---- a stream that comes in pieces
@@ -285,7 +315,7 @@ ending_at [] records = Whole records
 ending_at (byte ∷ bytes) records = Cut (records + 1)
 
 -- bytes were taken from a source, and the data is that of a stream of them and whatever follows them; if the source has ended, nothing follows
-pub record TellsTaken (texts : OfTexts) (before now : Option (List ℕ)) (old new : Intake) (first : Feeding) (lists : Lists) (a : Account) (ending : Ending) : Type 0 where
+pub record TellsTaken (texts : OfRun) (before now : Option (List ℕ)) (old new : Intake) (first : Feeding) (lists : Lists) (a : Account) (ending : Ending) : Type 0 where
   pub taken : List ℕ
   pub took : Took before now old new taken
   pub tells : (more : List ℕ) → (new.is_ended ≡ true → more ≡ []) → Tells texts (taken ++ more) first lists a ending

@@ -2,19 +2,22 @@
 
 ghost use Rattle.std.specs.Prelude.{◌≡◌, ◌<◌, ℕ, ◌+◌, ◌==◌, ◌^◌, [], List, false, OnOk, IfOk, length, map, if◌then◌else◌};
 ghost use Rattle.bounded_history.specs.declared.entry.Entry.{Entry as Told};
-ghost use Rattle.flight_core.specs.Compiled.{sources_of};
+ghost use Rattle.app_host.specs.Delivered.{executive_in};
+ghost use Rattle.flight_core.specs.Compiled.{AreAllCompiled, sources_of};
 ghost use Rattle.flight_core.specs.Records.{piece_size};
 ghost use Rattle.lc_model.specs.Host.Schedule.{Schedule as Plan};
+ghost use Rattle.rpn_compiler.specs.declared.files.TablePair.{TablePair};
 ghost use Rattle.rpn_compiler.specs.TextParts.{AreTextsOf};
+ghost use Rattle.run_stepper.specs.Force.{text_in_force};
 ghost use Rattle.run_stepper.specs.Stepping.{BeginsWith, IsAtRest, engine_among, host_in, written_by};
-ghost use Rattle.run_summary.specs.Account.{account_of};
+ghost use Rattle.run_summary.specs.Account.{account_of, is_asked, shown_if};
 ghost use Rattle.run_summary.specs.Brought.{brings};
 ghost use Rattle.run_summary.specs.Fields.{AreKnown, all_brought, come_in};
 ghost use Rattle.run_summary.specs.declared.texts.Field.{Field};
 ghost use Rattle.run_summary.specs.Run as run;
 ghost use Rattle.run_summary.specs.Run.{AreRead, OfTexts};
 ghost use Rattle.run_summary.specs.Texts.{HaveItems};
-ghost use Rattle.run_page.specs.Model.{HasTaken, HasTold, IsKept, IsNew, KeepsStands, ListsTell, SaidLast, TellsRead, TellsTaken, ending_at, led_to, place_of, stands_of, stood_more, ticks_of, values_more};
+ghost use Rattle.run_page.specs.Model.{HasTaken, HasTold, IsKept, IsNew, KeepsStands, ListsTell, SaidLast, TellsRead, TellsTaken, ending_at, led_to, place_of, run_of, stands_of, stood_more, ticks_of, types_of, values_more};
 
 use crate::arriving::handle_next;
 use crate::behind::Behind;
@@ -25,13 +28,13 @@ use crate::intake::{Intake, Taken};
 use crate::lists::Lists;
 use crate::progress::Progress;
 use flight_core::laws::{records_are_handed_out, the_rest_says_the_end};
-use lc_model::ByteSource;
+use lc_model::{ByteSource, EventKind};
 use lc_model::stream::PIECE;
-use rpn_compiler::RuleText;
+use rpn_compiler::{RuleText, TablePair};
 use run_stepper::laws::steps_are_a_run;
-use run_stepper::{Ending, Handled, Stepping, read_texts};
+use run_stepper::{Ending, Handled, Stepping, compile_texts, read_texts};
 use run_summary::laws::{fields_that_come, rules_that_stand_as_before};
-use run_summary::{Account, Place, Seen};
+use run_summary::{Account, Place, Seen, TypesOn, is_asked};
 use schedules::Schedule;
 use std::alloc::{AllocError, Global};
 
@@ -58,6 +61,30 @@ fn tell_values(seen: &[Seen<'_>], place: Place, lists: &mut Lists) -> Result<(),
     Ok(())
 }
 
+/// The types of events that the host has on for the Limit Checker.
+fn types_of(stepping: &Stepping) -> TypesOn
+    ensures { result ≡ types_of (executive_in (host_in stepping.now).host) }
+{
+    TypesOn {
+        debug: stepping.is_type_on(EventKind::Debug),
+        information: stepping.is_type_on(EventKind::Information),
+        error: stepping.is_type_on(EventKind::Error),
+        critical: stepping.is_type_on(EventKind::Critical),
+    }
+}
+
+/// Takes what the host shows after a record, if it is asked there: the text in force among those of these table files, and the types of
+/// events that are on for the Limit Checker.
+fn show(account: &mut Account<'_>, stepping: &Stepping, pairs: &[TablePair], record: &[u8])
+    ensures { account_of account.new ≡ shown_if (is_asked record.now (written_by stepping.now))
+        (text_in_force pairs.now (executive_in (host_in stepping.now).host))
+        (types_of (executive_in (host_in stepping.now).host)) (account_of account.old) }
+{
+    if is_asked(record, stepping.packets()) {
+        account.show(stepping.text_in_force(pairs), types_of(stepping));
+    }
+}
+
 impl<'a> Telling<'a> {
     /// The data before the first record of a run of these texts.
     fn new(alloc: Global, texts: Vec<RuleText<'a>>) -> Result<Telling<'a>, ReportError>
@@ -65,8 +92,8 @@ impl<'a> Telling<'a> {
         ensures nothing { (sources : List (List ℕ)) → AreTextsOf sources texts.entry.items →
             IfOk result (λ telling. (read : OfTexts) ×
             HaveItems sources read.texts × AreRead read ×
-            HasTold read telling.lists telling.behind
-            (account_of telling.account) telling.clock.start []) }
+            ((pairs : List TablePair) → HasTold (run_of read pairs) telling.lists telling.behind
+            (account_of telling.account) telling.clock.start [])) }
     {
         fields_that_come();
         let account = Account::new(alloc, texts)?;
@@ -136,8 +163,42 @@ impl<'a> Telling<'a> {
         self.take_same(place, written)
     }
 
-    /// Takes a record that was handled.
-    fn take(&mut self, stepping: &Stepping, record: &[u8], number: u64) -> Result<(), AllocError>
+    /// Takes what a record led to, and what the host shows after it if it is asked; `is_new` says whether the rules changed.
+    fn take_shown(
+        &mut self,
+        stepping: &Stepping,
+        pairs: &[TablePair],
+        record: &[u8],
+        place: Place,
+        is_new: bool,
+    ) -> Result<(), AllocError>
+        ensures clock { self.new.clock ≡ self.old.clock }
+        ensures behind { self.new.behind ≡ self.old.behind }
+        ensures told { (lanes values : List (List Told)) →
+            ListsTell self.old.lists lanes values →
+            (is_new ≡ false → SaidLast place 0 self.old.behind.rules.items lanes) →
+            OnOk result (ListsTell self.new.lists
+            (stood_more place self.old.behind.rules.items 0 lanes) values) }
+        ensures account { (is_new ≡ false → run.StoodLast self.old.behind.rules.items (account_of self.old.account)) →
+            OnOk result (account_of self.new.account ≡
+            led_to (written_by stepping.now) place self.old.behind
+            (shown_if (is_asked record.now (written_by stepping.now))
+            (text_in_force pairs.now (executive_in (host_in stepping.now).host))
+            (types_of (executive_in (host_in stepping.now).host)) (account_of self.old.account))) }
+    {
+        rules_that_stand_as_before();
+        show(&mut self.account, stepping, pairs, record);
+        self.take_behind(place, stepping.packets(), is_new)
+    }
+
+    /// Takes a record that was handled. `pairs` are the table files of the texts.
+    fn take(
+        &mut self,
+        stepping: &Stepping,
+        pairs: &[TablePair],
+        record: &[u8],
+        number: u64,
+    ) -> Result<(), AllocError>
         requires rest { IsAtRest stepping.now }
         requires start { self.old.clock.start < 2 ^ 48 }
         ensures start { self.new.clock.start ≡
@@ -152,7 +213,7 @@ impl<'a> Telling<'a> {
             let came = values_more place (all_brought fields place (brings record.now)) values in
             OnOk result (ListsTell self.new.lists stood came × IsKept self.new.behind stood) }
         ensures account { KeepsStands self.old.behind (account_of self.old.account) → OnOk result
-            (HasTaken (record {
+            (HasTaken pairs.now (record {
               bytes = record.now;
               host = host_in stepping.now;
               written = written_by stepping.now;
@@ -165,7 +226,7 @@ impl<'a> Telling<'a> {
         self.account.add_record(record, place)?;
         tell_values(self.account.seen.as_slice(), place, &mut self.lists)?;
         let is_new = self.behind.look(stepping)?;
-        self.take_behind(place, stepping.packets(), is_new)
+        self.take_shown(stepping, pairs, record, place, is_new)
     }
 }
 
@@ -184,6 +245,7 @@ fn ending_at_end(stepping: &Stepping, records: u64) -> Ending
 fn tell_all<R: ByteSource, P: Progress>(
     telling: &mut Telling<'_>,
     stepping: &mut Stepping,
+    pairs: &[TablePair],
     intake: &mut Intake,
     room: &mut [u8],
     reader: &mut R,
@@ -195,9 +257,10 @@ fn tell_all<R: ByteSource, P: Progress>(
     requires room { length room.old ≡ piece_size }
     ensures rest { IsAtRest stepping.new }
     ensures room { length room.new ≡ piece_size }
-    ensures told { (read : OfTexts) → HasTold read telling.old.lists telling.old.behind
+    ensures told { (read : OfTexts) →
+        HasTold (run_of read pairs.now) telling.old.lists telling.old.behind
         (account_of telling.old.account) telling.old.clock.start [] →
-        IfOk result (TellsTaken read (R.source reader.old).rest (R.source reader.new).rest
+        IfOk result (TellsTaken (run_of read pairs.now) (R.source reader.old).rest (R.source reader.new).rest
         intake.old intake.new (host_in stepping.old)
         telling.new.lists (account_of telling.new.account)) }
 {
@@ -213,7 +276,7 @@ fn tell_all<R: ByteSource, P: Progress>(
             Handled::Part => return Ok(ending_at_end(stepping, number)),
         }
         let record = stepping.last_record();
-        telling.take(stepping, record, next)?;
+        telling.take(stepping, pairs, record, next)?;
         number = next;
         done = done.saturating_add(record.len() as u64);
         progress.update(done);
@@ -226,6 +289,7 @@ fn tell_stream<R: ByteSource, P: Progress>(
     alloc: Global,
     telling: &mut Telling<'_>,
     stepping: &mut Stepping,
+    pairs: &[TablePair],
     reader: &mut R,
     progress: &mut P,
 ) -> Result<(Taken, Ending), ReportError>
@@ -234,9 +298,9 @@ fn tell_stream<R: ByteSource, P: Progress>(
     requires start { telling.old.clock.start < 2 ^ 48 }
     ensures rest { IsAtRest stepping.new }
     ensures told { (sources : List (List ℕ)) (schedule : Plan) (read : OfTexts) →
-        HaveItems sources read.texts → AreRead read →
+        HaveItems sources read.texts → AreRead read → AreAllCompiled sources pairs.now →
         BeginsWith sources schedule (host_in stepping.old) →
-        HasTold read telling.old.lists telling.old.behind
+        HasTold (run_of read pairs.now) telling.old.lists telling.old.behind
         (account_of telling.old.account) telling.old.clock.start [] →
         IfOk result (λ told. TellsRead sources schedule
         (R.source reader.old).rest (R.source reader.new).rest telling.new.lists
@@ -248,6 +312,7 @@ fn tell_stream<R: ByteSource, P: Progress>(
     let ending = tell_all(
         telling,
         stepping,
+        pairs,
         &mut intake,
         room.as_mut_slice(),
         reader,
@@ -274,9 +339,17 @@ fn tell_new<'a, R: ByteSource, P: Progress>(
         (R.source reader.old).rest (R.source reader.new).rest told.0.lists
         (account_of told.0.account) told.1.bytes told.1.digest told.2) }
 {
+    let pairs = compile_texts(alloc, texts)?;
     let texts = read_texts(alloc, texts)?;
     let mut telling = Telling::new(alloc, texts)?;
-    let (taken, ending) = tell_stream(alloc, &mut telling, stepping, reader, progress)?;
+    let (taken, ending) = tell_stream(
+        alloc,
+        &mut telling,
+        stepping,
+        pairs.as_slice(),
+        reader,
+        progress,
+    )?;
     Ok((telling, taken, ending))
 }
 

@@ -1,3 +1,4 @@
+pub mod Events
 pub mod Stepping
 pub mod Trace
 pub mod Steps

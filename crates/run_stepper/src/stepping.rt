@@ -8,6 +8,7 @@ ghost use Rattle.flight_core.specs.Feeding.{fed_with};
 ghost use Rattle.flight_core.specs.Records.{most_held, taken_of};
 ghost use Rattle.run_stepper.specs.declared.error.CourseError.TheVariants.{Memory};
 ghost use Rattle.lc_model.specs.Tables.File.{headers_length};
+ghost use Rattle.run_stepper.specs.Events.{is_type_of_checker_on};
 ghost use Rattle.run_stepper.specs.Force.{is_of_file, is_of_pair, text_in_force};
 ghost use Rattle.run_stepper.specs.Stepping.{BeginsWith, GoesOn, HandlesAlone, HasHandled, HasStepped, IsAtRest, IsRefusal, engine_among, engine_of, host_in, refusal_of, written_by};
 
@@ -15,7 +16,7 @@ use crate::error::CourseError;
 use crate::handled::Handled;
 use flight_core::{FedHost, Halt, RunError};
 use flight_profile::{Member, own_stock};
-use lc_model::{ByteSink, DeviceFault, Kind, Seat};
+use lc_model::{ByteSink, DeviceFault, EventKind, Kind, Seat};
 use limit_engine::Engine;
 use rpn_compiler::TablePair;
 use schedules::Schedule;
@@ -213,6 +214,13 @@ impl Stepping {
         let wdt = self.fed.host().active_image(table_name(Kind::Wdt));
         let adt = self.fed.host().active_image(table_name(Kind::Adt));
         pairs.iter().position(|pair| is_of_pair(wdt, adt, pair))
+    }
+
+    /// Whether events of this type are on for the Limit Checker; false if none is registered.
+    pub fn is_type_on(&self, kind: EventKind) -> bool
+        ensures { result ≡ is_type_of_checker_on kind (executive_in (host_in self.now).host) }
+    {
+        self.fed.host().is_type_on(b"LC", kind)
     }
 
     /// Ends the run: all running applications are retired, and all applications dropped.

@@ -7,21 +7,21 @@ use Rattle.lc_model.proofs.Facts.{test_equal, tested_equal}
 use Rattle.packet_listing.specs.Told as told
 use Rattle.packet_listing.specs.Told.{told_in}
 use Rattle.run_summary.specs.declared.bands.How.TheVariants as how
+use Rattle.run_summary.specs.declared.holds.TypesOn.{TypesOn}
 use Rattle.run_summary.specs.declared.place.Place.{Place}
 use Rattle.run_summary.specs.declared.place.Stand.{Stand}
 use Rattle.run_summary.specs.declared.seen.Met.{Met}
 use Rattle.run_summary.specs.declared.seen.Seen.{Seen}
-use Rattle.run_summary.specs.Account.{Account, Reading, Step, account_with, before_with, come, come_by, enforced_so, in_force_by, read, read_all, read_by, rows_with, sampled, started_with_tables, stood_again, stood_so, written}
-use Rattle.run_summary.specs.Bands.{stood}
-use Rattle.run_summary.specs.Brought.{Brings, Command, File, Half, Load, Telemetry, Tick, brings}
-use Rattle.run_summary.specs.Ends.{Ends}
-use Rattle.run_summary.specs.Figures.{with_event, with_packet}
+use Rattle.run_summary.specs.Account.{Account, Reading, Step, account_with, before_with, came, come, come_by, enforced_so, in_force_by, read, read_all, read_by, rows_with, sampled, shown, started_with_tables, stood_again, stood_so, written}
+use Rattle.run_summary.specs.Bands.{has_changed}
+use Rattle.run_summary.specs.Brought.{Brings, Command, File, Telemetry, Tick, brings}
+use Rattle.run_summary.specs.Figures.{one_more, with_event, with_packet}
 use Rattle.run_summary.specs.Packets.{packets_of}
 use Rattle.run_summary.specs.Plans.{Planned, parts_by, planned_at}
 use Rattle.run_summary.specs.Run.{AreCounted, StandAgain, StoodLast}
 use Rattle.run_summary.specs.Samples.{Row, Sampled, in_row, met_by_parts, row_with, sampled_more}
 use Rattle.run_summary.specs.Standing.{stand_at}
-use Rattle.run_summary.specs.Uplinks.{Uplinked}
+use Rattle.run_summary.proofs.Staying.{OfRules, Staying, adopted_stays, again_stays, of_rules}
 
 -- ---- rows
 
@@ -58,23 +58,11 @@ before_again stands rule (one ∷ before) = ap (λ more. stand_at rule stands �
 
 -- ---- what a record brings and leads to leaves them, and the uplinks that were kept
 
-pub record OfRules : Type 0 where
-  pub plans : List (List Planned)
-  pub lanes : ℕ
-  pub rows : List Row
-  pub before : List Stand
-  pub uplinks : Ends Uplinked
-
-abbrev pub of_rules : Account → OfRules
-of_rules a = record { plans = a.plans; lanes = a.lanes; rows = a.rows; before = a.before; uplinks = a.uplinks }
-
 pub come_keeps : (brought : Brings) (place : Place) (a : Account) → of_rules (come_by brought place a) ≡ of_rules a
 come_keeps (Telemetry packet) place a = refl
 come_keeps Tick place a = refl
 come_keeps Command place a = refl
-come_keeps (Load name) place a = refl
-come_keeps (File name) place a = refl
-come_keeps (Half name text) place a = refl
+come_keeps File place a = refl
 
 chosen : (b c d : Bool) (a x y : Account) → of_rules x ≡ of_rules a → of_rules y ≡ of_rules a →
     of_rules (if not b then a else if c then x else if d then y else a) ≡ of_rules a
@@ -91,7 +79,10 @@ in_force_keeps sender id text place a =
 pub read_keeps : (says : Option told.Told) (packet : List ℕ) (place : Place) (stands : List Stand) (r : Reading) →
     of_rules (read_by says packet place stands r).account ≡ of_rules r.account
 read_keeps None packet place stands r = refl
-read_keeps (Some (told.Housekeeping mode count rules)) packet place stands r = refl
+read_keeps (Some (told.Housekeeping mode count rules)) packet place stands r =
+    ap (λ (s : Staying). s.rules)
+    (adopted_stays (has_changed r.account.bands) place
+    (record r.account { figures = record r.account.figures { housekeeping = one_more r.account.figures.housekeeping } }))
 read_keeps (Some (told.Request sequence)) packet place stands r = refl
 read_keeps (Some (told.Event moment sender id kind text)) packet place stands r =
     in_force_keeps sender id text place (record r.account { figures = with_event kind r.account.figures })
@@ -110,14 +101,20 @@ written_keeps bytes place stands a = reads_keep (packets_of bytes) place stands 
 
 behind_one : (step : Step) (a : Account) → StoodLast step.stands (account_with step a)
 behind_one step a =
-    let came : Account = come step.bytes step.place a in
-    let counting : Account = sampled step.place step.stands came in
+    let now : Account = came step a in
+    let counting : Account = sampled step.place step.stands now in
     let after : Account = written step.written step.place step.stands counting in
+    let stood_now : Account = record after { before = before_with step.stands 0 after.before } in
+    let same : of_rules (account_with step a) ≡ of_rules stood_now = ap (λ (s : Staying). s.rules) (again_stays step.place step.mode stood_now) in
     record {
-      rows = subst (λ (rules : OfRules). AreCounted step.stands 0 rules.rows) (sym (written_keeps step.written step.place step.stands counting))
-          (rows_counted step.place step.stands came.plans came.bands.text came.seen 0 came.rows);
-      before = before_again step.stands 0 after.before;
+      rows = subst (λ (rules : OfRules). AreCounted step.stands 0 rules.rows) (sym same)
+          (subst (λ (rules : OfRules). AreCounted step.stands 0 rules.rows) (sym (written_keeps step.written step.place step.stands counting))
+          (rows_counted step.place step.stands now.plans now.bands.text now.seen 0 now.rows));
+      before = subst (λ (rules : OfRules). before_with step.stands 0 rules.before ≡ rules.before) (sym same) (before_again step.stands 0 after.before);
     }
+
+asked_one : (stands : List Stand) (force : Option ℕ) (types : TypesOn) (a : Account) → StoodLast stands a → StoodLast stands (shown force types a)
+asked_one stands force types a last = record { rows = last.rows; before = last.before }
 
 comes_one : (stands : List Stand) (bytes : List ℕ) (place : Place) (a : Account) → StoodLast stands a → StoodLast stands (come bytes place a)
 comes_one stands bytes place a last =
@@ -136,7 +133,7 @@ again_one stands bytes place mode a last =
     let stood_there : before_with stands 0 after.before ≡ after.before =
     subst (λ (rules : OfRules). before_with stands 0 rules.before ≡ rules.before) (sym (written_keeps bytes place stands a)) last.before in
     ap (λ (now : Account). stood_so place mode stands (written bytes place stands now)) same
-    ∙ (λ i. record after { before = stood_there i; bands = stood place mode after.bands })
+    ∙ (λ i. stood_again place mode (record after { before = stood_there i }))
 
 pub stand_again : StandAgain
-stand_again = record { behind = behind_one; comes = comes_one; again = again_one }
+stand_again = record { behind = behind_one; comes = comes_one; asked = asked_one; again = again_one }

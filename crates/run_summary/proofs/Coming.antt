@@ -8,15 +8,18 @@ use Rattle.lc_model.specs.Name.{lc_name}
 use Rattle.lc_model.specs.Packet.{message_id}
 use Rattle.packet_listing.specs.Told as told
 use Rattle.packet_listing.specs.Told.{told_in}
+use Rattle.run_summary.specs.declared.bands.How.{How}
 use Rattle.run_summary.specs.declared.bands.How.TheVariants as how
+use Rattle.run_summary.specs.declared.holds.TypesOn.{TypesOn}
 use Rattle.run_summary.specs.declared.place.Place.{Place}
 use Rattle.run_summary.specs.declared.place.Stand.{Stand}
 use Rattle.run_summary.specs.declared.seen.Seen.{Seen}
 use Rattle.run_summary.specs.declared.texts.Field.{Field}
-use Rattle.run_summary.specs.Account.{Account, Reading, Step, account_with, come, come_by, enforced_so, read, read_all, read_by, sampled, started_with_tables}
-use Rattle.run_summary.specs.Brought.{Brings, Command, File, Half, Load, Telemetry, Tick, brings}
+use Rattle.run_summary.specs.Account.{Account, Reading, Step, account_with, adopted_if, before_with, came, come, come_by, enforced_so, is_asked, left_by, read, read_all, read_by, sampled, shown_if, started_with_tables, written}
+use Rattle.run_summary.specs.Bands.{has_changed, how_left}
+use Rattle.run_summary.specs.Brought.{Brings, Command, File, Telemetry, Tick, brings}
 use Rattle.run_summary.specs.Fields.{AreKnown, IsBefore, all_brought, come_in, forgotten, is_at, is_place, met_in, seen_by, seen_in, unseen}
-use Rattle.run_summary.specs.Figures.{with_event, with_packet}
+use Rattle.run_summary.specs.Figures.{one_more, with_event, with_packet}
 use Rattle.run_summary.specs.Packets.{packets_of}
 use Rattle.run_summary.specs.Run.{FieldsCome}
 
@@ -117,9 +120,7 @@ record_comes : (brought : Brings) (place : Place) (fields : List Field) (a : Acc
 record_comes (Telemetry packet) place fields a known = telemetry_comes (nat_lt (length packet) 2) place packet fields a.seen known
 record_comes Tick place fields a known = none_come place fields a.seen known
 record_comes Command place fields a known = none_come place fields a.seen known
-record_comes (Load name) place fields a known = none_come place fields a.seen known
-record_comes (File name) place fields a known = none_come place fields a.seen known
-record_comes (Half name text) place fields a known = none_come place fields a.seen known
+record_comes File place fields a known = none_come place fields a.seen known
 
 telemetry_known : (short : Bool) (place : Place) (packet : List ℕ) (fields : List Field) (all : List Seen) → AreKnown place.«record» fields all →
     AreKnown (place.«record» + 1) fields (if short then all else map (seen_by packet place) all)
@@ -131,9 +132,7 @@ record_known : (brought : Brings) (place : Place) (fields : List Field) (a : Acc
 record_known (Telemetry packet) place fields a known = telemetry_known (nat_lt (length packet) 2) place packet fields a.seen known
 record_known Tick place fields a known = later_known place.«record» fields a.seen known
 record_known Command place fields a known = later_known place.«record» fields a.seen known
-record_known (Load name) place fields a known = later_known place.«record» fields a.seen known
-record_known (File name) place fields a known = later_known place.«record» fields a.seen known
-record_known (Half name text) place fields a known = later_known place.«record» fields a.seen known
+record_known File place fields a known = later_known place.«record» fields a.seen known
 
 -- ---- what it led to
 
@@ -145,10 +144,26 @@ chosen true true d number fields a x y p q r = q
 chosen true false true number fields a x y p q r = r
 chosen true false false number fields a x y p q r = p
 
+adopted_known : (b : Bool) (place : Place) (number : ℕ) (fields : List Field) (a : Account) → AreKnown number fields a.seen →
+    AreKnown number fields (adopted_if b place a).seen
+adopted_known true place number fields a known = forgotten_known number fields a.seen known
+adopted_known false place number fields a known = known
+
+left_known : (how : Option How) (place : Place) (number : ℕ) (fields : List Field) (a : Account) → AreKnown number fields a.seen →
+    AreKnown number fields (left_by how place a).seen
+left_known None place number fields a known = known
+left_known (Some how) place number fields a known = forgotten_known number fields a.seen known
+
+shown_known : (b : Bool) (force : Option ℕ) (types : TypesOn) (number : ℕ) (fields : List Field) (a : Account) → AreKnown number fields a.seen →
+    AreKnown number fields (shown_if b force types a).seen
+shown_known true force types number fields a known = known
+shown_known false force types number fields a known = known
+
 read_known : (says : Option told.Told) (packet : List ℕ) (place : Place) (stands : List Stand) (number : ℕ) (fields : List Field) (r : Reading) →
     AreKnown number fields r.account.seen → AreKnown number fields (read_by says packet place stands r).account.seen
 read_known None packet place stands number fields r known = known
-read_known (Some (told.Housekeeping mode count rules)) packet place stands number fields r known = known
+read_known (Some (told.Housekeeping mode count rules)) packet place stands number fields r known =
+    adopted_known (has_changed r.account.bands) place number fields (record r.account { figures = record r.account.figures { housekeeping = one_more r.account.figures.housekeeping } }) known
 read_known (Some (told.Request sequence)) packet place stands number fields r known = known
 read_known (Some (told.Event moment sender id kind text)) packet place stands number fields r known =
     let a : Account = record r.account { figures = with_event kind r.account.figures } in
@@ -166,9 +181,12 @@ reads_known (packet ∷ packets) place stands number fields r known =
 step_known : (fields : List Field) (step : Step) (a : Account) → AreKnown step.place.«record» fields a.seen →
     AreKnown (step.place.«record» + 1) fields (account_with step a).seen
 step_known fields step a known =
-    let came : Account = come step.bytes step.place a in
-    reads_known (packets_of step.written) step.place step.stands (step.place.«record» + 1) fields (record { account = sampled step.place step.stands came; from = 0 })
-    (record_known (brings step.bytes) step.place fields a known)
+    let counting : Account = sampled step.place step.stands (came step a) in
+    let after : Account = written step.written step.place step.stands counting in
+    left_known (how_left step.mode after.bands) step.place (step.place.«record» + 1) fields (record after { before = before_with step.stands 0 after.before })
+    (reads_known (packets_of step.written) step.place step.stands (step.place.«record» + 1) fields (record { account = counting; from = 0 })
+    (shown_known (is_asked step.bytes step.written) step.force step.types (step.place.«record» + 1) fields (come step.bytes step.place a)
+    (record_known (brings step.bytes) step.place fields a known)))
 
 pub fields_come : FieldsCome
 fields_come = record {

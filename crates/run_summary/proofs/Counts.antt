@@ -11,12 +11,14 @@ use Rattle.packet_listing.specs.Told.{told_in}
 use Rattle.run_summary.specs.declared.figures.Figures.{Figures}
 use Rattle.run_summary.specs.declared.place.Place.{Place}
 use Rattle.run_summary.specs.declared.place.Stand.{Stand}
-use Rattle.run_summary.specs.Account.{Account, Reading, Step, account_behind, account_with, come, come_by, read, read_all, read_by, sampled}
-use Rattle.run_summary.specs.Brought.{Brings, Command, File, Half, Load, Telemetry, Tick, brings}
+use Rattle.run_summary.specs.Account.{Account, Reading, Step, account_behind, account_with, came, come_by, read, read_all, read_by, sampled, written}
+use Rattle.run_summary.specs.Bands.{has_changed}
+use Rattle.run_summary.specs.Brought.{Brings, Command, File, Telemetry, Tick, brings}
 use Rattle.run_summary.specs.Figures.{one_more, with_event, with_packet, with_record}
 use Rattle.run_summary.specs.Packets.{packets_of}
 use Rattle.run_summary.specs.Run.{Packet, TellsFigures, brought_in, counted, figures_by, is_command, is_critical, is_debug, is_error, is_file, is_housekeeping, is_information, is_request, is_telemetry, is_tick, nothing_told, number_behind, numbered, packets_from, stopped}
-use Rattle.run_summary.proofs.Sends.{in_force_counts}
+use Rattle.run_summary.proofs.Sends.{housed, in_force_counts, stood_before}
+use Rattle.run_summary.proofs.Staying.{Staying, adopted_stays, again_stays, came_stays}
 
 -- ---- one more
 
@@ -61,9 +63,7 @@ record_more brought said b = by_kind b ∙ sym (λ i. record (figures_by brought
     by_kind (Telemetry packet) = refl
     by_kind Tick = refl
     by_kind Command = refl
-    by_kind (Load name) = refl
-    by_kind (File name) = refl
-    by_kind (Half name text) = refl
+    by_kind File = refl
 
 -- ---- a packet more
 
@@ -102,7 +102,8 @@ kind_more moment sender id kind.Critical text f = refl
 read_more : (says : Option told.Told) (packet : List ℕ) (place : Place) (stands : List Stand) (r : Reading) →
     (read_by says packet place stands r).account.figures ≡ with_said says r.account.figures
 read_more None packet place stands r = refl
-read_more (Some (told.Housekeeping mode count rules)) packet place stands r = refl
+read_more (Some (told.Housekeeping mode count rules)) packet place stands r =
+    ap (λ (s : Staying). s.figures) (adopted_stays (has_changed r.account.bands) place (housed r.account))
 read_more (Some (told.Request sequence)) packet place stands r = refl
 read_more (Some (told.Event moment sender id kind text)) packet place stands r =
     in_force_counts sender id text place (record r.account { figures = with_event kind r.account.figures })
@@ -127,17 +128,18 @@ come_figures : (brought : Brings) (place : Place) (a : Account) → (come_by bro
 come_figures (Telemetry packet) place a = refl
 come_figures Tick place a = refl
 come_figures Command place a = refl
-come_figures (Load name) place a = refl
-come_figures (File name) place a = refl
-come_figures (Half name text) place a = refl
+come_figures File place a = refl
 
 step_more : (step : Step) (a : Account) (brought : List Brings) (said : List (Option told.Told)) → a.figures ≡ figures_by brought said →
     (account_with step a).figures ≡ figures_by (brought ++ brings step.bytes ∷ []) (said ++ map told_in (packets_of step.written))
 step_more step a brought said is =
-    let came : Account = come step.bytes step.place a in
-    reads_more (packets_of step.written) step.place step.stands (record { account = sampled step.place step.stands came; from = 0 })
+    let sampling : Account = sampled step.place step.stands (came step a) in
+    ap (λ (s : Staying). s.figures)
+    (again_stays step.place step.mode (stood_before step.stands (written step.written step.place step.stands sampling)))
+    ∙ reads_more (packets_of step.written) step.place step.stands (record { account = sampling; from = 0 })
     (brought ++ brings step.bytes ∷ []) said
-    (come_figures (brings step.bytes) step.place a
+    (ap (λ (s : Staying). s.figures) (came_stays step a)
+    ∙ come_figures (brings step.bytes) step.place a
     ∙ ap (λ (f : Figures). with_record (brings step.bytes) f) is
     ∙ record_more brought said (brings step.bytes))
 

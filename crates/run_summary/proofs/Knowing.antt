@@ -2,11 +2,11 @@
 use Rattle.std.proofs.Common.{◌≡◌, ℕ, Bool, true, false, nat_lt, List, [], ◌∷◌, length, map, refl, ap, sym, ◌∙◌, Option, Some, None, if◌then◌else◌, bytes_eq, arith}
 use Rattle.std.specs.Prelude.{◌==◌, is_some, not}
 use Rattle.std.specs.List.{cons_option}
-use Rattle.std.proofs.lemmas.List.Sums.{take_while-cons}
 use Rattle.lc_model.specs.Name.{lc_name}
 use Rattle.lc_model.specs.Packet.{message_id}
 use Rattle.packet_listing.specs.Told as told
 use Rattle.packet_listing.specs.Told.{told_in}
+use Rattle.lc_model.specs.declared.mode.LcMode.{LcMode}
 use Rattle.run_summary.specs.declared.bands.How.{How}
 use Rattle.run_summary.specs.declared.bands.How.TheVariants as how
 use Rattle.run_summary.specs.declared.place.Place.{Place}
@@ -14,25 +14,27 @@ use Rattle.run_summary.specs.declared.place.Stand.{Stand}
 use Rattle.run_summary.specs.declared.seen.Met.{Met}
 use Rattle.run_summary.specs.declared.seen.Seen.{Seen}
 use Rattle.run_summary.specs.declared.texts.Field.{Field}
-use Rattle.run_summary.specs.Account.{Account, Reading, Step, account_behind, account_with, come, come_by, enforced_so, read, read_all, read_by, sampled, started_with_tables}
-use Rattle.run_summary.specs.Brought.{Brings, Command, File, Half, Load, Telemetry, Tick, brings}
+use Rattle.run_summary.specs.Account.{Account, Reading, Step, account_behind, account_with, adopted_if, before_with, came, come, come_by, enforced_so, is_asked, left_by, read, read_all, read_by, sampled, shown_if, started_with_tables, stood_again, written}
+use Rattle.run_summary.specs.Bands.{has_changed, how_left}
+use Rattle.run_summary.specs.Brought.{Brings, Command, File, Telemetry, Tick, brings}
 use Rattle.run_summary.specs.Fields.{forgotten, met_in, seen_by, unseen}
 use Rattle.run_summary.specs.Figures.{one_more, with_event, with_packet}
-use Rattle.run_summary.specs.Happened.{Came, Happened, Over, Sent, TellsFields, behind_packets, behind_record, happened_from, how_told, is_enforcing, newest_met, packets_led_to, seen_behind, since_enforced, value_came, values_came}
+use Rattle.run_summary.specs.Happened.{Came, Happened, Over, Sent, Shown, TellsFields, behind_coming, behind_packets, behind_record, happened_from, how_enforced, how_told, newest_met, packets_led_to, seen_behind, shown_to, since_enforced, value_came, values_came}
 use Rattle.run_summary.specs.Packets.{packets_of}
 use Rattle.run_summary.specs.Run.{Packet, nothing_told, number_behind, numbered, stopped}
+use Rattle.run_summary.proofs.Following.{Follows, changed_so, coming_follows, follows_nothing, left_so, over_follows, read_follows}
 
 -- ---- one thing more
 
 -- it isn't that tables come into force
-no_enforcing : (it : Happened) (happened : List Happened) → is_enforcing it ≡ false → since_enforced (it ∷ happened) ≡ it ∷ since_enforced happened
-no_enforcing it happened isnt = take_while-cons (λ it. not (is_enforcing it)) it happened ∙ rw isnt refl
+no_enforcing : (it : Happened) (happened : List Happened) → is_some (how_enforced it happened) ≡ false → since_enforced (it ∷ happened) ≡ it ∷ since_enforced happened
+no_enforcing it happened isnt = rw isnt refl
 
-enforcing : (it : Happened) (happened : List Happened) → is_enforcing it ≡ true → since_enforced (it ∷ happened) ≡ []
-enforcing it happened is = take_while-cons (λ it. not (is_enforcing it)) it happened ∙ rw is refl
+enforcing : (it : Happened) (happened : List Happened) → is_some (how_enforced it happened) ≡ true → since_enforced (it ∷ happened) ≡ []
+enforcing it happened is = rw is refl
 
 -- it brings nothing of the field
-nothing_more : (it : Happened) (happened : List Happened) (field : Field) → is_enforcing it ≡ false → value_came field it ≡ None →
+nothing_more : (it : Happened) (happened : List Happened) (field : Field) → is_some (how_enforced it happened) ≡ false → value_came field it ≡ None →
     seen_behind (it ∷ happened) field ≡ seen_behind happened field
 nothing_more it happened field isnt none =
     let same : (before : List Happened) → values_came field (it ∷ before) ≡ values_came field before =
@@ -45,7 +47,7 @@ nothing_more it happened field isnt none =
     }
 
 -- .. or this
-value_more : (it : Happened) (happened : List Happened) (field : Field) (met : Met) → is_enforcing it ≡ false → value_came field it ≡ Some met →
+value_more : (it : Happened) (happened : List Happened) (field : Field) (met : Met) → is_some (how_enforced it happened) ≡ false → value_came field it ≡ Some met →
     seen_behind (it ∷ happened) field
     ≡ record { field = field; packets = one_more (stopped (length (values_came field happened))); last = met.place; met = met }
 value_more it happened field met isnt is =
@@ -60,7 +62,7 @@ value_more it happened field met isnt is =
     }
 
 -- tables come into force
-forgotten_more : (it : Happened) (happened : List Happened) (field : Field) → is_enforcing it ≡ true → value_came field it ≡ None →
+forgotten_more : (it : Happened) (happened : List Happened) (field : Field) → is_some (how_enforced it happened) ≡ true → value_came field it ≡ None →
     seen_behind (it ∷ happened) field ≡ forgotten (seen_behind happened field)
 forgotten_more it happened field is none =
     let same : values_came field (it ∷ happened) ≡ values_came field happened = ap (λ value. cons_option value (values_came field happened)) none in
@@ -109,7 +111,7 @@ telemetry_seen place packet happened (field ∷ fields) =
     parted true x y xs ys = refl
     parted false x y xs ys = refl
 
-pub none_more : (it : Happened) (happened : List Happened) (fields : List Field) → is_enforcing it ≡ false → ((field : Field) → value_came field it ≡ None) →
+pub none_more : (it : Happened) (happened : List Happened) (fields : List Field) → is_some (how_enforced it happened) ≡ false → ((field : Field) → value_came field it ≡ None) →
     map (seen_behind happened) fields ≡ map (seen_behind (it ∷ happened)) fields
 none_more it happened [] isnt none = refl
 none_more it happened (field ∷ fields) isnt none =
@@ -121,9 +123,7 @@ come_seen (Telemetry packet) place a happened fields is =
     ap (λ (all : List Seen). if nat_lt (length packet) 2 then all else map (seen_by packet place) all) is ∙ telemetry_seen place packet happened fields
 come_seen Tick place a happened fields is = is ∙ none_more (Came place Tick) happened fields refl (λ field. refl)
 come_seen Command place a happened fields is = is ∙ none_more (Came place Command) happened fields refl (λ field. refl)
-come_seen (Load name) place a happened fields is = is ∙ none_more (Came place (Load name)) happened fields refl (λ field. refl)
-come_seen (File name) place a happened fields is = is ∙ none_more (Came place (File name)) happened fields refl (λ field. refl)
-come_seen (Half name text) place a happened fields is = is ∙ none_more (Came place (Half name text)) happened fields refl (λ field. refl)
+come_seen File place a happened fields is = is ∙ none_more (Came place File) happened fields refl (λ field. refl)
 
 -- ---- a packet
 
@@ -139,57 +139,105 @@ in_force_seen true true d place begins a = refl
 in_force_seen true false true place begins a = refl
 in_force_seen true false false place begins a = refl
 
-pub read_seen : (says : Option told.Told) (packet : List ℕ) (place : Place) (stands : List Stand) (r : Reading) →
-    (read_by says packet place stands r).account.seen ≡ forgotten_if (is_some (how_told says)) r.account.seen
+adopted_seen : (b : Bool) (place : Place) (a : Account) → (adopted_if b place a).seen ≡ forgotten_if (is_some (if b then Some how.Adopted else None)) a.seen
+adopted_seen true place a = refl
+adopted_seen false place a = refl
+
+read_seen : (says : Option told.Told) (packet : List ℕ) (place : Place) (stands : List Stand) (r : Reading) →
+    (read_by says packet place stands r).account.seen ≡ forgotten_if (is_some (how_told (has_changed r.account.bands) says)) r.account.seen
 read_seen None packet place stands r = refl
-read_seen (Some (told.Housekeeping mode count rules)) packet place stands r = refl
+read_seen (Some (told.Housekeeping mode count rules)) packet place stands r =
+    adopted_seen (has_changed r.account.bands) place
+    (record r.account { figures = record r.account.figures { housekeeping = one_more r.account.figures.housekeeping } })
 read_seen (Some (told.Request sequence)) packet place stands r = refl
 read_seen (Some (told.Event moment sender id kind text)) packet place stands r =
     in_force_seen (bytes_eq sender lc_name) (id == 2) (id == 1) place (if bytes_eq text started_with_tables then how.Started else how.None)
     (record r.account { figures = with_event kind r.account.figures })
 
-all_forgotten : (packet : Packet) (happened : List Happened) (fields : List Field) → is_enforcing (Sent packet) ≡ true →
-    map forgotten (map (seen_behind happened) fields) ≡ map (seen_behind (Sent packet ∷ happened)) fields
-all_forgotten packet happened [] is = refl
-all_forgotten packet happened (field ∷ fields) is =
-    λ i. sym (forgotten_more (Sent packet) happened field is refl) i ∷ all_forgotten packet happened fields is i
+all_forgotten : (it : Happened) (happened : List Happened) (fields : List Field) → is_some (how_enforced it happened) ≡ true →
+    ((field : Field) → value_came field it ≡ None) → map forgotten (map (seen_behind happened) fields) ≡ map (seen_behind (it ∷ happened)) fields
+all_forgotten it happened [] is none = refl
+all_forgotten it happened (field ∷ fields) is none =
+    λ i. sym (forgotten_more it happened field is (none field)) i ∷ all_forgotten it happened fields is none i
 
-pub packet_seen : (packet : Packet) (happened : List Happened) (fields : List Field) →
-    forgotten_if (is_some (how_told (told_in packet.bytes))) (map (seen_behind happened) fields) ≡ map (seen_behind (Sent packet ∷ happened)) fields
-packet_seen packet happened fields = by_test (is_some (how_told (told_in packet.bytes))) refl
+-- tables come into force, or not
+seen_then : (it : Happened) (happened : List Happened) (fields : List Field) → ((field : Field) → value_came field it ≡ None) →
+    forgotten_if (is_some (how_enforced it happened)) (map (seen_behind happened) fields) ≡ map (seen_behind (it ∷ happened)) fields
+seen_then it happened fields none = by_test (is_some (how_enforced it happened)) refl
   where
-    by_test : (b : Bool) → is_some (how_told (told_in packet.bytes)) ≡ b →
-        forgotten_if (is_some (how_told (told_in packet.bytes))) (map (seen_behind happened) fields) ≡ map (seen_behind (Sent packet ∷ happened)) fields
-    by_test true is = rw is refl ∙ all_forgotten packet happened fields is
-    by_test false is = rw is refl ∙ none_more (Sent packet) happened fields is (λ field. refl)
+    by_test : (b : Bool) → is_some (how_enforced it happened) ≡ b →
+        forgotten_if (is_some (how_enforced it happened)) (map (seen_behind happened) fields) ≡ map (seen_behind (it ∷ happened)) fields
+    by_test true is = rw is refl ∙ all_forgotten it happened fields is none
+    by_test false is = rw is refl ∙ none_more it happened fields is none
+
+-- a packet is read
+pub packet_seen : (packet : Packet) (place : Place) (stands : List Stand) (r : Reading) (happened : List Happened) (fields : List Field) → Follows happened r.account.bands →
+    r.account.seen ≡ map (seen_behind happened) fields →
+    (read_by (told_in packet.bytes) packet.bytes place stands r).account.seen ≡ map (seen_behind (Sent packet ∷ happened)) fields
+packet_seen packet place stands r happened fields f is =
+    let says : Option told.Told = told_in packet.bytes in
+    read_seen says packet.bytes place stands r
+    ∙ (λ i. forgotten_if (is_some (how_told (changed_so r.account.bands happened f i) says)) (is i))
+    ∙ seen_then (Sent packet) happened fields (λ field. refl)
+
+left_seen : (begins : Option How) (place : Place) (a : Account) → (left_by begins place a).seen ≡ forgotten_if (is_some begins) a.seen
+left_seen None place a = refl
+left_seen (Some begins) place a = refl
+
+-- a record is over
+pub over_seen : (place : Place) (mode : Option LcMode) (a : Account) (happened : List Happened) (fields : List Field) → Follows happened a.bands →
+    a.seen ≡ map (seen_behind happened) fields →
+    (stood_again place mode a).seen ≡ map (seen_behind (Over place mode ∷ happened)) fields
+over_seen place mode a happened fields f is =
+    left_seen (how_left mode a.bands) place a
+    ∙ (λ i. forgotten_if (is_some (left_so place mode a.bands happened f i)) (is i))
+    ∙ seen_then (Over place mode) happened fields (λ field. refl)
+
+-- the host is asked, or not
+shown_seen : (b : Bool) (step : Step) (a : Account) (happened : List Happened) (fields : List Field) → a.seen ≡ map (seen_behind happened) fields →
+    (shown_if b step.force step.types a).seen ≡ map (seen_behind (shown_to b step happened)) fields
+shown_seen true step a happened fields is = is ∙ none_more (Shown step.force step.types) happened fields refl (λ field. refl)
+shown_seen false step a happened fields is = is
+
+pub coming_seen : (step : Step) (a : Account) (happened : List Happened) (fields : List Field) → a.seen ≡ map (seen_behind happened) fields →
+    (came step a).seen ≡ map (seen_behind (behind_coming step happened)) fields
+coming_seen step a happened fields is =
+    shown_seen (is_asked step.bytes step.written) step (come step.bytes step.place a) (Came step.place (brings step.bytes) ∷ happened) fields
+    (come_seen (brings step.bytes) step.place a happened fields is)
 
 reads_seen : (packets : List (List ℕ)) (place : Place) (stands : List Stand) (r : Reading) (number : ℕ) (happened : List Happened) (fields : List Field) →
-    r.account.seen ≡ map (seen_behind happened) fields →
-    (read_all packets place stands r).account.seen ≡ map (seen_behind (behind_packets (numbered number place packets) happened)) fields
-reads_seen [] place stands r number happened fields is = is
-reads_seen (bytes ∷ packets) place stands r number happened fields is =
+    Follows happened r.account.bands → r.account.seen ≡ map (seen_behind happened) fields →
+    ((read_all packets place stands r).account.seen ≡ map (seen_behind (behind_packets (numbered number place packets) happened)) fields)
+    × Follows (behind_packets (numbered number place packets) happened) (read_all packets place stands r).account.bands
+reads_seen [] place stands r number happened fields f is = (is, f)
+reads_seen (bytes ∷ packets) place stands r number happened fields f is =
     let packet : Packet = record { number = one_more number; place = place; bytes = bytes } in
+    let counted : Reading = record r { account = record r.account { figures = with_packet r.account.figures } } in
     reads_seen packets place stands (read bytes place stands r) (one_more number) (Sent packet ∷ happened) fields
-    (read_seen (told_in bytes) bytes place stands (record r { account = record r.account { figures = with_packet r.account.figures } })
-    ∙ ap (λ (all : List Seen). forgotten_if (is_some (how_told (told_in bytes))) all) is
-    ∙ packet_seen packet happened fields)
+    (read_follows packet place stands counted happened f)
+    (packet_seen packet place stands counted happened fields f is)
 
 -- ---- a run
 
-run_seen : (steps : List Step) (a : Account) (number : ℕ) (happened : List Happened) (fields : List Field) → a.seen ≡ map (seen_behind happened) fields →
-    (account_behind a steps).seen ≡ map (seen_behind (happened_from happened number steps)) fields
-run_seen [] a number happened fields is = is
-run_seen (step ∷ steps) a number happened fields is =
+run_seen : (steps : List Step) (a : Account) (number : ℕ) (happened : List Happened) (fields : List Field) → Follows happened a.bands →
+    a.seen ≡ map (seen_behind happened) fields → (account_behind a steps).seen ≡ map (seen_behind (happened_from happened number steps)) fields
+run_seen [] a number happened fields f is = is
+run_seen (step ∷ steps) a number happened fields f is =
     let own : List (List ℕ) = packets_of step.written in
-    let now : List Happened = Came step.place (brings step.bytes) ∷ happened in
+    let now : List Happened = behind_coming step happened in
+    let counting : Account = sampled step.place step.stands (came step a) in
+    let over = reads_seen own step.place step.stands (record { account = counting; from = 0 }) number now fields
+    (coming_follows step a happened f) (coming_seen step a happened fields is) in
+    let behind : List Happened = behind_packets (packets_led_to number step) now in
+    let after : Account = written step.written step.place step.stands counting in
+    let stood_now : Account = record after { before = before_with step.stands 0 after.before } in
     run_seen steps (account_with step a) (number_behind number own) (behind_record number step happened) fields
-    (reads_seen own step.place step.stands (record { account = sampled step.place step.stands (come step.bytes step.place a); from = 0 }) number now fields
-    (come_seen (brings step.bytes) step.place a happened fields is)
-    ∙ none_more (Over step.place step.mode) (behind_packets (packets_led_to number step) now) fields refl (λ field. refl))
+    (over_follows step.place step.mode stood_now behind over.1)
+    (over_seen step.place step.mode stood_now behind fields over.1 over.0)
 
 pub unseen_all : (fields : List Field) → map unseen fields ≡ map (seen_behind []) fields
 unseen_all [] = refl
 unseen_all (field ∷ fields) = ap (λ (all : List Seen). unseen field ∷ all) (unseen_all fields)
 
 pub tells_fields : TellsFields
-tells_fields texts steps = run_seen steps (nothing_told texts) 0 [] texts.fields (unseen_all texts.fields)
+tells_fields texts steps = run_seen steps (nothing_told texts) 0 [] texts.fields follows_nothing (unseen_all texts.fields)

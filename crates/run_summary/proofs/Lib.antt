@@ -3,7 +3,6 @@ pub mod Arriving
 pub mod Asks
 pub mod Coming
 pub mod Counts
-pub mod Files
 pub mod Following
 pub mod Found
 pub mod KeptEnds
@@ -15,5 +14,6 @@ pub mod Rows
 pub mod Sends
 pub mod SmallRun
 pub mod Stands
+pub mod Staying
 pub mod Turning
 pub mod Uplinking

@@ -1,36 +1,43 @@
 -- The requests of an account, record by record.
-use Rattle.std.proofs.Common.{◌≡◌, ℕ, zero, suc, ◌+◌, ◌-◌, ◌<◌, true, false, nat_le, min, if◌then◌else◌, List, [], ◌∷◌, ◌++◌, length, map, take, replicate, refl, ap, sym, ◌∙◌, subst, Option, Some, None, append_assoc, length-append, arith}
-use Rattle.std.specs.Prelude.{◌&&◌, is_none, is_some, option_map, slice_get}
+use Rattle.std.proofs.Common.{◌≡◌, ℕ, Bool, bytes_eq, zero, suc, ◌+◌, ◌-◌, ◌<◌, true, false, nat_le, min, if◌then◌else◌, List, [], ◌∷◌, ◌++◌, length, map, take, replicate, refl, ap, sym, ◌∙◌, subst, Option, Some, None, append_assoc, length-append, arith}
+use Rattle.std.specs.Prelude.{◌&&◌, ◌==◌, not, is_none, is_some, option_map, slice_get}
 use Rattle.std.proofs.lemmas.List.{append-nil}
 use Rattle.std.proofs.Math.Seq.{take-append_seam}
 use Rattle.lc_model.specs.declared.rule.EventKind.{EventKind}
+use Rattle.lc_model.specs.Name.{lc_name}
 use Rattle.packet_listing.specs.Told as told
 use Rattle.packet_listing.specs.Told.{told_in}
+use Rattle.run_summary.specs.declared.bands.How.{How}
+use Rattle.run_summary.specs.declared.bands.How.TheVariants as how
 use Rattle.run_summary.specs.declared.figures.Figures.{Figures}
+use Rattle.run_summary.specs.declared.holds.Hold.{Hold}
 use Rattle.run_summary.specs.declared.place.Place.{Place}
 use Rattle.run_summary.specs.declared.place.Stand.{Stand}
 use Rattle.run_summary.specs.declared.seen.Seen.{Seen}
 use Rattle.run_summary.specs.About.{rule_of}
-use Rattle.run_summary.specs.Account.{Account, Reading, Step, account_behind, account_with, before_with, come, come_by, count_of, read, read_all, read_by, rows_with, rule_asking, said, sampled, stood_so, written}
+use Rattle.run_summary.specs.Account.{Account, Reading, Step, account_behind, account_with, adopted_if, before_with, came, come, come_by, count_of, enforced_so, hold_by, is_asked, left_by, read, read_all, read_by, rows_with, rule_asking, said, sampled, shown_if, started_with_tables, stood_again, stood_so, written}
 use Rattle.run_summary.specs.Asking.{Counted, asking, behind_rule, counted_by, row_asked}
-use Rattle.run_summary.specs.Brought.{brings}
+use Rattle.run_summary.specs.Bands.{has_changed, how_left}
+use Rattle.run_summary.specs.Brought.{Brings, Command, File, Telemetry, Tick, brings}
 use Rattle.run_summary.specs.Ends.{Ends}
 use Rattle.run_summary.specs.Figures.{one_more, with_event, with_packet}
 use Rattle.run_summary.specs.Packets.{packets_of}
-use Rattle.run_summary.specs.Plans.{Planned}
-use Rattle.run_summary.specs.Happened.{Came, Happened, Over, Sent, behind_packets, behind_record, how_told, packets_led_to, seen_behind, text_in_force}
-use Rattle.run_summary.specs.Requests.{Taken, TellsRequests, counted_of, own_event, request_by, request_if, requests_from, requests_in, requests_of, rule_by, samples_of, sequence_by, stands_before, stands_behind, taken_by, told_if, with_its_event, with_samples}
+use Rattle.run_summary.specs.Plans.{Planned, planned_at}
+use Rattle.run_summary.specs.Happened.{Came, Happened, Over, Sent, behind_coming, behind_packets, behind_record, packets_led_to, seen_behind, shown_to, text_in_force, types_shown}
+use Rattle.run_summary.specs.Holds.{hold_of}
+use Rattle.run_summary.specs.Requests.{Taken, TellsRequests, counted_of, hold_behind, own_event, request_by, request_if, requests_from, requests_in, requests_of, rule_by, samples_of, sequence_by, stands_before, stands_behind, taken_by, told_if, types_behind, with_its_event, with_samples}
 use Rattle.run_summary.specs.Run.{OfTexts, Packet, ends_of, event_by, event_in, is_request, nothing_told, number_behind, numbered, packets_from}
 use Rattle.run_summary.specs.Samples.{Row, Sampled, no_row}
 use Rattle.run_summary.specs.Sent.{Requested, Said, Sending, before_newest, hears, most_parts, nothing_sent, parts_in, requested_more, requests_kept}
 use Rattle.run_summary.specs.Standing.{absent, stand_at}
-use Rattle.run_summary.proofs.Again.{OfRules, come_keeps, of_rules, read_keeps}
+use Rattle.run_summary.proofs.Again.{come_keeps, read_keeps}
 use Rattle.run_summary.proofs.Asks.{asking_alike, asking_below, counted_newest, counted_requests, event_then, finished, found_or, hears_so, own_front, own_stops, then_none}
-use Rattle.run_summary.proofs.Following.{Follows, come_follows, follows_nothing, over_follows, read_follows}
-use Rattle.run_summary.proofs.Knowing.{come_seen, forgotten_if, none_more, packet_seen, read_seen, unseen_all}
+use Rattle.run_summary.proofs.Following.{Follows, coming_follows, follows_nothing, over_follows, read_follows}
+use Rattle.run_summary.proofs.Knowing.{coming_seen, over_seen, packet_seen, unseen_all}
 use Rattle.run_summary.proofs.KeptEnds.{kept_of, kept_one}
 use Rattle.run_summary.proofs.Rows.{AreRows, CountsSo, counts_so, no_rows, rows_more}
-use Rattle.run_summary.proofs.Sends.{come_counts, come_sends, in_force_counts, in_force_sends, kind_counts, read_counts}
+use Rattle.run_summary.proofs.Sends.{came_counts, came_sends, housed, in_force_counts, in_force_sends, kind_counts, read_counts, stood_before}
+use Rattle.run_summary.proofs.Staying.{OfRules, Staying, adopted_stays, again_stays, came_stays, of_rules, staying}
 
 abbrev record_of : Requested → ℕ
 record_of request = request.place.«record»
@@ -147,6 +154,7 @@ record Known (texts : OfTexts) (before : List Stand) (records : List Taken) (hap
   rows : AreRows texts records 0 (of_rules a).rows
   seen : a.seen ≡ map (seen_behind happened) texts.fields
   follows : Follows happened a.bands
+  types : a.types ≡ types_shown happened
   sent : a.figures.packets ≡ number
 
 abbrev Between : OfTexts → List Taken → List Happened → ℕ → Account → Type 0
@@ -155,6 +163,7 @@ Between texts records happened number a = Known texts (stands_behind records) re
 -- .. while the packets of the newest are read
 record Inside (texts : OfTexts) (records : List Taken) (happened : List Happened) (number from : ℕ) (r : Reading) : Type 0 where
   known : Known texts (stands_before records) records happened number r.account
+  shown : types_shown happened ≡ types_behind records
   next : r.from ≡ from
 
 -- the rule that is looked for
@@ -194,7 +203,8 @@ module _ (texts : OfTexts) (records : List Taken) (happened : List Happened) (nu
 
 -- a request, as it is told
 same_request : (texts : OfTexts) (records : List Taken) (packet : Packet) (sequence : ℕ) (rule other text before : Option ℕ) (number counted parts : ℕ) (samples : List Sampled)
-    (behind : List Packet) → number ≡ packet.number → rule ≡ other → text ≡ before → counted ≡ counted_of other records →
+    (hold : Option Hold) (behind : List Packet) → number ≡ packet.number → rule ≡ other → text ≡ before → counted ≡ counted_of other records →
+    hold ≡ hold_behind texts records other before →
     samples ≡ (if nat_le (parts + parts_in (samples_of texts other records)) most_parts && is_some before then samples_of texts other records else []) →
     told_if (nat_le (parts + parts_in (samples_of texts other records)) most_parts && is_some before)
     (with_its_event (request_by texts records packet sequence other before) behind)
@@ -206,10 +216,11 @@ same_request : (texts : OfTexts) (records : List Taken) (packet : Packet) (seque
       sequence = sequence;
       count = count_of packet.bytes;
       event = None;
+      hold = hold;
       counted = counted;
       samples = samples;
     })
-same_request texts records packet sequence rule other text before number counted parts samples behind is_number is_rule is_text is_counted is_samples = sym (λ i. record {
+same_request texts records packet sequence rule other text before number counted parts samples hold behind is_number is_rule is_text is_counted is_hold is_samples = sym (λ i. record {
   packet = is_number i;
   place = packet.place;
   rule = is_rule i;
@@ -217,9 +228,17 @@ same_request texts records packet sequence rule other text before number counted
   sequence = sequence;
   count = count_of packet.bytes;
   event = own_event (request_by texts records packet sequence (is_rule i) (is_text i)) behind;
+  hold = is_hold i;
   counted = is_counted i;
   samples = is_samples i;
 })
+
+-- what holds back the event of a rule
+hold_so : (rule : Option ℕ) (texts : OfTexts) (records : List Taken) (happened : List Happened) (number from : ℕ) (r : Reading) →
+    Inside texts records happened number from r → hold_by rule r.account ≡ hold_behind texts records rule (text_in_force happened)
+hold_so None texts records happened number from r inside = refl
+hold_so (Some rule) texts records happened number from r inside =
+    λ i. hold_of (planned_at (inside.known.stays.plans i) (inside.known.follows.text i) rule) ((inside.known.types ∙ inside.shown) i)
 
 -- an event, as it is told
 said_newest : (place : Place) (sender : List ℕ) (id : ℕ) (kind : EventKind) (text : List ℕ) (a : Account) →
@@ -266,7 +285,9 @@ read_goes : (texts : OfTexts) (records : List Taken) (happened : List Happened) 
 read_goes texts records happened from packet behind parts to_come wanted None r is inside g =
     quiet_goes wanted packet behind parts to_come r.account.sending (ap is_request is) (ap (λ says. event_by packet.number packet.place says) is) g
 read_goes texts records happened from packet behind parts to_come wanted (Some (told.Housekeeping mode count rules)) r is inside g =
-    quiet_goes wanted packet behind parts to_come r.account.sending (ap is_request is) (ap (λ says. event_by packet.number packet.place says) is) g
+    subst (λ (s : Sending). Going wanted behind parts to_come s)
+    (sym (ap (λ (s : Staying). s.sending) (adopted_stays (has_changed r.account.bands) packet.place (housed r.account))))
+    (quiet_goes wanted packet behind parts to_come r.account.sending (ap is_request is) (ap (λ says. event_by packet.number packet.place says) is) g)
 read_goes texts records happened from packet behind parts to_come wanted (Some (told.Event moment sender id kind text)) r is inside g =
     let event : ℕ → Said = λ number.
     record { packet = number; place = packet.place; rule = rule_of sender id text; sender = sender; id = id; kind = kind; text = text } in
@@ -297,19 +318,43 @@ read_goes texts records happened from packet behind parts to_come wanted (Some (
       sequence = sequence;
       count = count_of packet.bytes;
       event = None;
+      hold = hold_by rule r.account;
       counted = told_now.counted;
       samples = told_now.samples;
     })
     behind parts to_come r.account.sending told_now.sending (ap is_request is)
     (same_request texts records packet sequence rule other r.account.bands.text (text_in_force happened) r.account.figures.packets told_now.counted parts
-    told_now.samples behind inside.known.sent same text
+    told_now.samples (hold_by rule r.account) behind inside.known.sent same text
     (counts.counted ∙ ap (λ one. counted_of one records) same)
+    (hold_so rule texts records happened packet.number from r inside ∙ ap (λ one. hold_behind texts records one (text_in_force happened)) same)
     (counts.samples
     ∙ (λ i. if nat_le (parts + parts_in (samples_of texts (same i) records)) most_parts && is_some (text i) then samples_of texts (same i) records else [])))
     (counted_requests row r.account.bands.text r.account.sending)
     (counted_newest row r.account.bands.text r.account.sending)
     (counts.met ∙ ap (λ one. min (parts + parts_in (samples_of texts one records)) (most_parts + 1)) same)
     g
+
+-- the types of events that are on aren't read
+in_force_types : (b c d : Bool) (a x y : Account) → x.types ≡ a.types → y.types ≡ a.types →
+    (if not b then a else if c then x else if d then y else a).types ≡ a.types
+in_force_types false c d a x y p q = refl
+in_force_types true true d a x y p q = p
+in_force_types true false true a x y p q = q
+in_force_types true false false a x y p q = refl
+
+adopted_types : (b : Bool) (place : Place) (a : Account) → (adopted_if b place a).types ≡ a.types
+adopted_types true place a = refl
+adopted_types false place a = refl
+
+read_types : (says : Option told.Told) (packet : List ℕ) (place : Place) (stands : List Stand) (r : Reading) →
+    (read_by says packet place stands r).account.types ≡ r.account.types
+read_types None packet place stands r = refl
+read_types (Some (told.Housekeeping mode count rules)) packet place stands r = adopted_types (has_changed r.account.bands) place (housed r.account)
+read_types (Some (told.Request sequence)) packet place stands r = refl
+read_types (Some (told.Event moment sender id kind text)) packet place stands r =
+    let a : Account = record r.account { figures = with_event kind r.account.figures } in
+    in_force_types (bytes_eq sender lc_name) (id == 2) (id == 1) a (enforced_so place how.Adopted a)
+    (enforced_so place (if bytes_eq text started_with_tables then how.Started else how.None) a) refl refl
 
 -- and what stays does
 read_stays : (texts : OfTexts) (records : List Taken) (happened : List Happened) (from : ℕ) (packet : Packet) (r : Reading) →
@@ -325,12 +370,12 @@ read_stays texts records happened from packet r inside =
       known = record {
         stays = subst (λ (rules : OfRules). Stays texts (stands_before records) rules) same inside.known.stays;
         rows = subst (λ (rules : OfRules). AreRows texts records 0 rules.rows) same inside.known.rows;
-        seen = read_seen says packet.bytes packet.place stands r
-            ∙ ap (λ (all : List Seen). forgotten_if (is_some (how_told says)) all) inside.known.seen
-            ∙ packet_seen packet happened texts.fields;
+        seen = packet_seen packet packet.place stands r happened texts.fields inside.known.follows inside.known.seen;
         follows = read_follows packet packet.place stands r happened inside.known.follows;
+        types = read_types says packet.bytes packet.place stands r ∙ inside.known.types;
         sent = read_counts says packet.bytes packet.place stands r ∙ inside.known.sent;
       };
+      shown = inside.shown;
       next = read_from says packet.bytes packet.place stands r
           ∙ (λ i. behind_rule (rule_so texts records happened packet.number from r inside says i) (inside.next i));
     }
@@ -344,8 +389,10 @@ with_one texts records happened number from r inside = record {
     rows = inside.known.rows;
     seen = inside.known.seen;
     follows = inside.known.follows;
+    types = inside.known.types;
     sent = ap one_more inside.known.sent;
   };
+  shown = inside.shown;
   next = inside.next;
 }
 
@@ -398,55 +445,89 @@ before_stood stands n [] k within = absurd (omega (arith, within))
 before_stood stands n (one ∷ before) zero within = ap (λ k. stand_at k stands) (omega arith)
 before_stood stands n (one ∷ before) (suc k) within = before_stood stands (n + 1) before k (omega (arith, within)) ∙ ap (λ k. stand_at k stands) (omega arith)
 
+-- the host was asked, or not
+shown_types : (b : Bool) (step : Step) (a : Account) (happened : List Happened) → a.types ≡ types_shown happened →
+    (shown_if b step.force step.types a).types ≡ types_shown (shown_to b step happened)
+shown_types true step a happened is = refl
+shown_types false step a happened is = is
+
+come_types : (brought : Brings) (place : Place) (a : Account) → (come_by brought place a).types ≡ a.types
+come_types (Telemetry packet) place a = refl
+come_types Tick place a = refl
+come_types Command place a = refl
+come_types File place a = refl
+
 -- its samples were taken
 begins_inside : (texts : OfTexts) (past : List Taken) (happened : List Happened) (number : ℕ) (step : Step) (a : Account) → Between texts past happened number a →
-    Inside texts (taken_by step happened ∷ past) (Came step.place (brings step.bytes) ∷ happened) number 0
-    (record { account = sampled step.place step.stands (come step.bytes step.place a); from = 0 })
+    Inside texts (taken_by step happened ∷ past) (behind_coming step happened) number 0
+    (record { account = sampled step.place step.stands (came step a); from = 0 })
 begins_inside texts past happened number step a between =
-    let came : Account = come step.bytes step.place a in
+    let now_come : Account = came step a in
+    let now : List Happened = behind_coming step happened in
     let kept : Account = come_by (brings step.bytes) step.place a in
-    let now : List Happened = Came step.place (brings step.bytes) ∷ happened in
     let same : of_rules a ≡ of_rules kept = sym (come_keeps (brings step.bytes) step.place a) in
-    let stays : Stays texts (stands_behind past) (of_rules kept) = subst (λ (rules : OfRules). Stays texts (stands_behind past) rules) same between.stays in
-    let follows : Follows now came.bands = come_follows (brings step.bytes) step.place a happened between.follows in
-    let seen : came.seen ≡ map (seen_behind now) texts.fields = come_seen (brings step.bytes) step.place a happened texts.fields between.seen in
+    let asked : of_rules (come step.bytes step.place a) ≡ of_rules now_come = sym (ap (λ (s : Staying). s.rules) (came_stays step a)) in
+    let stays_kept : Stays texts (stands_behind past) (of_rules kept) = subst (λ (rules : OfRules). Stays texts (stands_behind past) rules) same between.stays in
+    let stays_come : Stays texts (stands_behind past) (of_rules (come step.bytes step.place a)) = record {
+      plans = stays_kept.plans;
+      lanes = stays_kept.lanes;
+      rows = stays_kept.rows;
+      count = stays_kept.count;
+      stood = stays_kept.stood;
+    } in
+    let stays : Stays texts (stands_behind past) (of_rules now_come) = subst (λ (rules : OfRules). Stays texts (stands_behind past) rules) asked stays_come in
+    let rows_come : AreRows texts past 0 (of_rules (come step.bytes step.place a)).rows =
+    subst (λ (rules : OfRules). AreRows texts past 0 rules.rows) same between.rows in
+    let follows : Follows now now_come.bands = coming_follows step a happened between.follows in
+    let seen : now_come.seen ≡ map (seen_behind now) texts.fields = coming_seen step a happened texts.fields between.seen in
     record {
       known = record {
         stays = record {
           plans = stays.plans;
           lanes = stays.lanes;
-          rows = rows_length step.place step.stands came.plans came.bands.text came.seen 0 came.rows ∙ stays.rows;
+          rows = rows_length step.place step.stands now_come.plans now_come.bands.text now_come.seen 0 now_come.rows ∙ stays.rows;
           count = stays.count;
           stood = stays.stood;
         };
-        rows = rows_more texts step.place step.stands came.plans came.bands.text came.seen now past stays.plans follows.text seen 0 came.rows
-            (subst (λ (rules : OfRules). AreRows texts past 0 rules.rows) same between.rows);
+        rows = rows_more texts step.place step.stands now_come.plans now_come.bands.text now_come.seen now past stays.plans follows.text seen 0 now_come.rows
+            (subst (λ (rules : OfRules). AreRows texts past 0 rules.rows) asked rows_come);
         seen = seen;
         follows = follows;
-        sent = come_counts (brings step.bytes) step.place a ∙ between.sent;
+        types = shown_types (is_asked step.bytes step.written) step (come step.bytes step.place a) (Came step.place (brings step.bytes) ∷ happened)
+            (come_types (brings step.bytes) step.place a ∙ between.types);
+        sent = came_counts step a ∙ between.sent;
       };
+      shown = refl;
       next = refl;
     }
+
+left_types : (begins : Option How) (place : Place) (a : Account) → (left_by begins place a).types ≡ a.types
+left_types None place a = refl
+left_types (Some begins) place a = refl
 
 -- it is over
 ends_between : (texts : OfTexts) (before : List Stand) (records : List Taken) (happened : List Happened) (number : ℕ) (step : Step) (a : Account) →
     Known texts before records happened number a → stands_behind records ≡ step.stands →
     Between texts records (Over step.place step.mode ∷ happened) number (stood_so step.place step.mode step.stands a)
-ends_between texts before records happened number step a known is = record {
-  stays = record {
-    plans = known.stays.plans;
-    lanes = known.stays.lanes;
-    rows = known.stays.rows;
-    count = before_length step.stands 0 a.before ∙ known.stays.count;
-    stood = λ rule within. before_stood step.stands 0 a.before rule (omega (arith, within, known.stays.count))
-        ∙ ap (λ k. stand_at k step.stands) (omega arith)
-        ∙ ap (λ stands. stand_at rule stands) (sym is);
-  };
-  rows = known.rows;
-  seen = known.seen ∙ none_more (Over step.place step.mode) happened texts.fields refl (λ field. refl);
-  follows = over_follows step.place step.mode a.bands happened known.follows;
-  sent = known.sent;
-}
+ends_between texts before records happened number step a known is =
+    let now : Account = stood_before step.stands a in
+    let same : staying now ≡ staying (stood_again step.place step.mode now) = sym (again_stays step.place step.mode now) in
+    record {
+      stays = subst (λ (s : Staying). Stays texts (stands_behind records) s.rules) same (record {
+        plans = known.stays.plans;
+        lanes = known.stays.lanes;
+        rows = known.stays.rows;
+        count = before_length step.stands 0 a.before ∙ known.stays.count;
+        stood = λ rule within. before_stood step.stands 0 a.before rule (omega (arith, within, known.stays.count))
+            ∙ ap (λ k. stand_at k step.stands) (omega arith)
+            ∙ ap (λ stands. stand_at rule stands) (sym is);
+      });
+      rows = subst (λ (s : Staying). AreRows texts records 0 s.rules.rows) same known.rows;
+      seen = over_seen step.place step.mode now happened texts.fields known.follows known.seen;
+      follows = over_follows step.place step.mode now happened known.follows;
+      types = left_types (how_left step.mode now.bands) step.place now ∙ known.types;
+      sent = sym (ap (λ (s : Staying). s.figures.packets) same) ∙ known.sent;
+    }
 
 -- ---- a run
 
@@ -463,18 +544,20 @@ run_goes texts wanted (step ∷ steps) past happened number parts a between g =
     let own : List (List ℕ) = packets_of step.written in
     let behind : ℕ = number_behind number own in
     let others : List Packet = packets_from behind steps in
-    let now : List Happened = Came step.place (brings step.bytes) ∷ happened in
+    let now : List Happened = behind_coming step happened in
     let records : List Taken = taken_by step happened ∷ past in
-    let counting : Account = sampled step.place step.stands (come step.bytes step.place a) in
+    let counting : Account = sampled step.place step.stands (came step a) in
+    let after : Account = written step.written step.place step.stands counting in
     let over = reads_go texts records others (requests_from texts records (behind_record number step happened) behind steps) wanted step.place own now number 0 parts
     (record { account = counting; from = 0 })
     (begins_inside texts past happened number step a between)
     (subst (λ (s : Sending). Going wanted (packets_from number (step ∷ steps)) parts (requests_from texts past happened number (step ∷ steps)) s)
-    (sym (come_sends (brings step.bytes) step.place a)) g) in
+    (sym (came_sends step a)) g) in
     run_goes texts wanted steps records (behind_record number step happened) behind
     (parts_behind parts (requests_in texts records others 0 now (packets_led_to number step))) (account_with step a)
-    (ends_between texts (stands_behind past) records (behind_packets (packets_led_to number step) now) behind step (written step.written step.place step.stands counting) over.1 refl)
-    over.0
+    (ends_between texts (stands_behind past) records (behind_packets (packets_led_to number step) now) behind step after over.1 refl)
+    (subst (λ (s : Sending). Going wanted others (parts_behind parts (requests_in texts records others 0 now (packets_led_to number step))) (requests_from texts records (behind_record number step happened) behind steps) s)
+    (sym (ap (λ (s : Staying). s.sending) (again_stays step.place step.mode (stood_before step.stands after)))) over.0)
 
 -- nothing happened
 replicated : {T : Type 0} (n : ℕ) (x : T) → length (replicate n x) ≡ n
@@ -498,6 +581,7 @@ begins_between texts = record {
     stood = λ rule within. all_absent texts.lanes rule;
   };
   follows = follows_nothing;
+  types = refl;
   sent = refl;
 }
 

@@ -13,9 +13,10 @@ use Rattle.run_summary.specs.declared.figures.Figures.{Figures}
 use Rattle.run_summary.specs.declared.place.Place.{Place}
 use Rattle.run_summary.specs.declared.place.Stand.{Stand}
 use Rattle.run_summary.specs.About.{rule_of}
-use Rattle.run_summary.specs.Account.{Account, Reading, Step, account_behind, account_with, come, come_by, enforced_so, in_force_by, read, read_all, read_by, rule_asking, said, sampled, started_with_tables}
+use Rattle.run_summary.specs.Account.{Account, Reading, Step, account_behind, account_with, before_with, came, come_by, enforced_so, in_force_by, read, read_all, read_by, rule_asking, said, sampled, started_with_tables, written}
 use Rattle.run_summary.specs.Asking.{counted_by, row_asked}
-use Rattle.run_summary.specs.Brought.{Brings, Command, File, Half, Load, Telemetry, Tick, brings}
+use Rattle.run_summary.specs.Bands.{has_changed}
+use Rattle.run_summary.specs.Brought.{Brings, Command, File, Telemetry, Tick, brings}
 use Rattle.run_summary.specs.Ends.{Ends, kept}
 use Rattle.run_summary.specs.Figures.{one_more, with_event, with_packet}
 use Rattle.run_summary.specs.Packets.{packets_of}
@@ -23,6 +24,7 @@ use Rattle.run_summary.specs.Run.{Packet, TellsEvents, all_kept, event_by, event
 use Rattle.run_summary.specs.Samples.{Row}
 use Rattle.run_summary.specs.Sent.{Said, Sending, events_kept}
 use Rattle.run_summary.proofs.KeptEnds.{all_kept-append, kept_of}
+use Rattle.run_summary.proofs.Staying.{Staying, adopted_stays, again_stays, came_stays}
 
 -- of which record an event is
 abbrev record_of : Said → ℕ
@@ -34,17 +36,19 @@ pub come_sends : (brought : Brings) (place : Place) (a : Account) → (come_by b
 come_sends (Telemetry packet) place a = refl
 come_sends Tick place a = refl
 come_sends Command place a = refl
-come_sends (Load name) place a = refl
-come_sends (File name) place a = refl
-come_sends (Half name text) place a = refl
+come_sends File place a = refl
 
 pub come_counts : (brought : Brings) (place : Place) (a : Account) → (come_by brought place a).figures.packets ≡ a.figures.packets
 come_counts (Telemetry packet) place a = refl
 come_counts Tick place a = refl
 come_counts Command place a = refl
-come_counts (Load name) place a = refl
-come_counts (File name) place a = refl
-come_counts (Half name text) place a = refl
+come_counts File place a = refl
+
+pub came_sends : (step : Step) (a : Account) → (came step a).sending ≡ a.sending
+came_sends step a = ap (λ (s : Staying). s.sending) (came_stays step a) ∙ come_sends (brings step.bytes) step.place a
+
+pub came_counts : (step : Step) (a : Account) → (came step a).figures.packets ≡ a.figures.packets
+came_counts step a = ap (λ (s : Staying). s.figures.packets) (came_stays step a) ∙ come_counts (brings step.bytes) step.place a
 
 -- ---- a packet
 
@@ -110,11 +114,16 @@ said_counts : (place : Place) (sender : List ℕ) (id : ℕ) (kind : EventKind) 
 said_counts place sender id kind text a =
     ap (λ (f : Figures). f.packets) (in_force_counts sender id text place (record a { figures = with_event kind a.figures })) ∙ kind_counts kind a.figures
 
+-- housekeeping is counted
+abbrev pub housed : Account → Account
+housed a = record a { figures = record a.figures { housekeeping = one_more a.figures.housekeeping } }
+
 -- what a packet says
 read_sends : (says : Option told.Told) (packet : List ℕ) (place : Place) (stands : List Stand) (r : Reading) →
     (read_by says packet place stands r).account.sending.events ≡ all_kept record_of (events_by (event_by r.account.figures.packets place says)) r.account.sending.events
 read_sends None packet place stands r = refl
-read_sends (Some (told.Housekeeping mode count rules)) packet place stands r = refl
+read_sends (Some (told.Housekeeping mode count rules)) packet place stands r =
+    ap (λ (s : Staying). s.sending.events) (adopted_stays (has_changed r.account.bands) place (housed r.account))
 read_sends (Some (told.Event moment sender id kind text)) packet place stands r = said_sends place sender id kind text r.account
 read_sends (Some (told.Request sequence)) packet place stands r =
     counted_events (row_asked (rule_asking stands sequence r) r.account.rows) r.account.bands.text r.account.sending
@@ -122,7 +131,8 @@ read_sends (Some (told.Request sequence)) packet place stands r =
 pub read_counts : (says : Option told.Told) (packet : List ℕ) (place : Place) (stands : List Stand) (r : Reading) →
     (read_by says packet place stands r).account.figures.packets ≡ r.account.figures.packets
 read_counts None packet place stands r = refl
-read_counts (Some (told.Housekeeping mode count rules)) packet place stands r = refl
+read_counts (Some (told.Housekeeping mode count rules)) packet place stands r =
+    ap (λ (s : Staying). s.figures.packets) (adopted_stays (has_changed r.account.bands) place (housed r.account))
 read_counts (Some (told.Event moment sender id kind text)) packet place stands r = said_counts place sender id kind text r.account
 read_counts (Some (told.Request sequence)) packet place stands r = refl
 
@@ -158,18 +168,26 @@ reads_count (bytes ∷ packets) place stands r =
 
 -- ---- a record, and a run
 
+-- the rules after it are known
+abbrev pub stood_before : List Stand → Account → Account
+stood_before stands a = record a { before = before_with stands 0 a.before }
+
 step_sends : (step : Step) (a : Account) →
     (account_with step a).sending.events ≡ all_kept record_of (filter_map event_in (numbered a.figures.packets step.place (packets_of step.written))) a.sending.events
 step_sends step a =
-    let sampling : Account = sampled step.place step.stands (come step.bytes step.place a) in
-    reads_send (packets_of step.written) step.place step.stands (record { account = sampling; from = 0 })
-    ∙ (λ i. all_kept record_of (filter_map event_in (numbered (come_counts (brings step.bytes) step.place a i) step.place (packets_of step.written))) ((come_sends (brings step.bytes) step.place a i).events))
+    let sampling : Account = sampled step.place step.stands (came step a) in
+    ap (λ (s : Staying). s.sending.events)
+    (again_stays step.place step.mode (stood_before step.stands (written step.written step.place step.stands sampling)))
+    ∙ reads_send (packets_of step.written) step.place step.stands (record { account = sampling; from = 0 })
+    ∙ (λ i. all_kept record_of (filter_map event_in (numbered (came_counts step a i) step.place (packets_of step.written))) ((came_sends step a i).events))
 
 step_counts : (step : Step) (a : Account) → (account_with step a).figures.packets ≡ number_behind a.figures.packets (packets_of step.written)
 step_counts step a =
-    let sampling : Account = sampled step.place step.stands (come step.bytes step.place a) in
-    reads_count (packets_of step.written) step.place step.stands (record { account = sampling; from = 0 })
-    ∙ ap (λ n. number_behind n (packets_of step.written)) (come_counts (brings step.bytes) step.place a)
+    let sampling : Account = sampled step.place step.stands (came step a) in
+    ap (λ (s : Staying). s.figures.packets)
+    (again_stays step.place step.mode (stood_before step.stands (written step.written step.place step.stands sampling)))
+    ∙ reads_count (packets_of step.written) step.place step.stands (record { account = sampling; from = 0 })
+    ∙ ap (λ n. number_behind n (packets_of step.written)) (came_counts step a)
 
 run_sends : (steps : List Step) (a : Account) →
     (account_behind a steps).sending.events ≡ all_kept record_of (filter_map event_in (packets_from a.figures.packets steps)) a.sending.events

@@ -1,14 +1,17 @@
 -- A small run, computed: a half of a rule text comes, and the Limit Checker starts with it; the text's one rule fails twice, and requests
--- sequence 7.
+-- sequence 7. Then another text is in force, which no packet reported.
 use Rattle.std.proofs.Common.{◌≡◌, ℕ, ◌-◌, List, [], ◌∷◌, ◌++◌, refl, replicate, Some, None, codes, length, map, pos}
 use Rattle.lc_model.specs.declared.mode.LcMode.TheVariants.{Active}
 use Rattle.lc_model.specs.declared.field.FieldType.TheVariants as field
 use Rattle.lc_model.specs.declared.field.CmpOp.TheVariants as cmp
+use Rattle.lc_model.specs.declared.rule.EventKind.TheVariants as kind
 use Rattle.run_summary.specs.declared.bands.How.TheVariants as how
+use Rattle.run_summary.specs.declared.holds.Hold.TheVariants.{Filter}
 use Rattle.run_summary.specs.declared.place.Place.{Place}
 use Rattle.run_summary.specs.declared.texts.Field.{Field}
 use Rattle.run_summary.specs.Account.{Step}
 use Rattle.run_summary.specs.Happened.{happened_in, seen_behind, text_in_force}
+use Rattle.run_summary.specs.Holds.{all_on}
 use Rattle.run_summary.specs.Packets.{packets_within}
 use Rattle.run_summary.specs.Requests.{requests_of}
 use Rattle.run_summary.specs.Turns.{all_modes, all_tables}
@@ -38,16 +41,17 @@ abbrev one : Field
 one = record { name = record { ref_ptr = (0, 0); now = codes "v" }; packet = record { ref_ptr = (0, 0); now = codes "p" }; mid = 2288; kind = field.U8; at = 12; mask = None; bits = 255; stale = pos 0 }
 
 abbrev read : OfTexts
-read = record { texts = []; plans = (record { sequence = pos 7; parts = record { field = 0; op = cmp.Greater; number = pos 50; at = 0 } ∷ [] } ∷ []) ∷ []; lanes = 1; fields = one ∷ [] }
+read = record { texts = []; plans = (record { sequence = pos 7; kind = kind.Information; parts = record { field = 0; op = cmp.Greater; number = pos 50; at = 0 } ∷ [] } ∷ []) ∷ []; lanes = 1; fields = one ∷ [] }
 
 abbrev steps : List Step
 steps =
-    record { place = at 1; bytes = half; written = event 0 1 (codes "started with tables"); mode = Some Active; stands = record { result = 2; state = 1; fails = 0 } ∷ [] }
-    ∷ record { place = at 2; bytes = telemetry 99; written = []; mode = Some Active; stands = record { result = 32; state = 1; fails = 1 } ∷ [] }
-    ∷ record { place = at 3; bytes = telemetry 100; written = request ++ event 3 232 (codes "v is high: AP = 0"); mode = Some Active; stands = record { result = 32; state = 2; fails = 2 } ∷ [] }
+    record { place = at 1; bytes = half; written = event 0 1 (codes "started with tables"); mode = Some Active; stands = record { result = 2; state = 1; fails = 0 } ∷ []; force = Some 0; types = all_on }
+    ∷ record { place = at 2; bytes = telemetry 99; written = []; mode = Some Active; stands = record { result = 32; state = 1; fails = 1 } ∷ []; force = Some 0; types = all_on }
+    ∷ record { place = at 3; bytes = telemetry 100; written = request ++ event 3 232 (codes "v is high: AP = 0"); mode = Some Active; stands = record { result = 32; state = 2; fails = 2 } ∷ []; force = Some 0; types = all_on }
+    ∷ record { place = at 4; bytes = half; written = []; mode = Some Active; stands = record { result = 2; state = 1; fails = 0 } ∷ []; force = Some 1; types = all_on }
     ∷ []
 
-pub small_text : text_in_force (happened_in steps) ≡ Some 0
+pub small_text : text_in_force (happened_in steps) ≡ Some 1
 unfolding packets_within
 small_text = refl
 
@@ -59,6 +63,7 @@ pub small_requests : requests_of read steps ≡ record {
   sequence = 7;
   count = 5;
   event = Some 3;
+  hold = Some Filter;
   counted = 2;
   samples = record { place = at 2; met = record { value = Some (pos 99); place = Some (at 2) } ∷ [] } ∷ record { place = at 3; met = record { value = Some (pos 100); place = Some (at 3) } ∷ [] } ∷ [];
 } ∷ []
@@ -66,16 +71,16 @@ unfolding packets_within
 small_requests = refl
 
 pub small_fields : map (seen_behind (happened_in steps)) read.fields
-    ≡ record { field = one; packets = 2; last = Some (at 3); met = record { value = Some (pos 100); place = Some (at 3) } } ∷ []
+    ≡ record { field = one; packets = 2; last = Some (at 3); met = record { value = None; place = None } } ∷ []
 unfolding packets_within
 small_fields = refl
 
 pub small_figures : figures_by (brought_in steps) (said_in steps)
-    ≡ record { records = 3; telemetry = 2; commands = 0; ticks = 0; files = 1; packets = 3; requests = 1; housekeeping = 0; critical = 0; error = 0; info = 2; debug = 0; other = 0 }
+    ≡ record { records = 4; telemetry = 2; commands = 0; ticks = 0; files = 2; packets = 3; requests = 1; housekeeping = 0; critical = 0; error = 0; info = 2; debug = 0; other = 0 }
 unfolding packets_within
 small_figures = refl
 
-pub small_tables : all_tables (happened_in steps) ≡ record { place = at 1; text = Some 0; how = Some how.Started } ∷ []
+pub small_tables : all_tables (happened_in steps) ≡ record { place = at 1; text = Some 0; how = Some how.Started } ∷ record { place = at 4; text = Some 1; how = Some how.Adopted } ∷ []
 unfolding packets_within
 small_tables = refl
 

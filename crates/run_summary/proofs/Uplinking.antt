@@ -2,18 +2,19 @@
 use Rattle.std.proofs.Common.{◌≡◌, ℕ, Bool, true, false, if◌then◌else◌, List, [], ◌∷◌, refl, ap, sym, ◌∙◌, arith}
 use Rattle.run_summary.specs.declared.place.Place.{Place}
 use Rattle.run_summary.specs.declared.place.Stand.{Stand}
-use Rattle.run_summary.specs.Account.{Account, Reading, Step, account_behind, account_with, come, read, read_all, sampled, written}
+use Rattle.run_summary.specs.Account.{Account, Reading, Step, account_behind, account_with, before_with, came, read, read_all, sampled, written}
 use Rattle.run_summary.specs.Brought.{brings, is_uplink}
 use Rattle.run_summary.specs.Commands.{TellsUplinks, uplink_in, uplinks_from, uplinks_of}
 use Rattle.run_summary.specs.Ends.{Ends, kept}
 use Rattle.run_summary.specs.Figures.{one_more, with_packet}
-use Rattle.run_summary.specs.Happened.{Came, Happened, Sent, behind_packets, behind_record, packets_led_to, text_in_force}
+use Rattle.run_summary.specs.Happened.{Happened, Sent, behind_coming, behind_packets, behind_record, packets_led_to, text_in_force}
 use Rattle.run_summary.specs.Packets.{packets_of}
 use Rattle.run_summary.specs.Run.{Packet, all_kept, nothing_told, number_behind, numbered}
 use Rattle.run_summary.specs.Uplinks.{Uplinked, record_of, uplink_of, uplinks_kept, with_uplink}
-use Rattle.run_summary.proofs.Again.{OfRules, written_keeps}
-use Rattle.run_summary.proofs.Following.{Follows, come_follows, follows_nothing, over_follows, read_follows}
+use Rattle.run_summary.proofs.Again.{written_keeps}
+use Rattle.run_summary.proofs.Following.{Follows, coming_follows, follows_nothing, over_follows, read_follows}
 use Rattle.run_summary.proofs.KeptEnds.{all_kept-append, kept_of}
+use Rattle.run_summary.proofs.Staying.{OfRules, Staying, again_stays, came_stays}
 
 -- ---- the text in force
 
@@ -30,20 +31,22 @@ reads_follow (bytes ∷ packets) place stands r number happened f =
 step_follows : (step : Step) (a : Account) (number : ℕ) (happened : List Happened) → Follows happened a.bands →
     Follows (behind_record number step happened) (account_with step a).bands
 step_follows step a number happened f =
-    let now : List Happened = Came step.place (brings step.bytes) ∷ happened in
-    let counting : Account = sampled step.place step.stands (come step.bytes step.place a) in
+    let now : List Happened = behind_coming step happened in
+    let counting : Account = sampled step.place step.stands (came step a) in
     let after : Account = written step.written step.place step.stands counting in
-    over_follows step.place step.mode after.bands (behind_packets (packets_led_to number step) now)
-    (reads_follow (packets_of step.written) step.place step.stands (record { account = counting; from = 0 }) number now
-    (come_follows (brings step.bytes) step.place a happened f))
+    over_follows step.place step.mode (record after { before = before_with step.stands 0 after.before }) (behind_packets (packets_led_to number step) now)
+    (reads_follow (packets_of step.written) step.place step.stands (record { account = counting; from = 0 }) number now (coming_follows step a happened f))
 
 -- ---- a record, and a run
 
 step_keeps : (step : Step) (a : Account) →
     (account_with step a).uplinks ≡ with_uplink (brings step.bytes) (uplink_of step.place a.bands.text step.bytes) a.uplinks
 step_keeps step a =
-    ap (λ (rules : OfRules). rules.uplinks)
-    (written_keeps step.written step.place step.stands (sampled step.place step.stands (come step.bytes step.place a)))
+    let counting : Account = sampled step.place step.stands (came step a) in
+    let after : Account = written step.written step.place step.stands counting in
+    ap (λ (s : Staying). s.rules.uplinks) (again_stays step.place step.mode (record after { before = before_with step.stands 0 after.before }))
+    ∙ ap (λ (rules : OfRules). rules.uplinks) (written_keeps step.written step.place step.stands counting)
+    ∙ ap (λ (s : Staying). s.rules.uplinks) (came_stays step a)
 
 kept_if : (b : Bool) (uplink : Uplinked) (e : Ends Uplinked) →
     (if b then kept record_of uplink e else e) ≡ all_kept record_of (if b then uplink ∷ [] else []) e

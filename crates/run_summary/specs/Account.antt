@@ -1,6 +1,6 @@
 -- The account of a run, record by record, as plain data: what each record brings, what counts of its samples, what it led to, and how
 -- the rules stand behind it. This project's own.
-use Rattle.std.specs.Prelude.{ℕ, ◌+◌, ◌%◌, List, [], ◌∷◌, codes, bytes_eq, length, map, nat_lt, not, ◌==◌, if◌then◌else◌, Option, Some, None}
+use Rattle.std.specs.Prelude.{ℕ, ◌+◌, ◌%◌, List, [], ◌∷◌, codes, bytes_eq, length, map, nat_lt, not, ◌==◌, if◌then◌else◌, Option, Some, None, Bool, true, false, ◌||◌}
 use Rattle.lc_model.specs.declared.mode.LcMode.{LcMode}
 use Rattle.lc_model.specs.declared.rule.EventKind.{EventKind}
 use Rattle.lc_model.specs.Bytes.{u16_at}
@@ -12,16 +12,19 @@ use Rattle.packet_listing.specs.Told.{told_in}
 use Rattle.run_summary.specs.declared.bands.How.{How}
 use Rattle.run_summary.specs.declared.bands.How.TheVariants as how
 use Rattle.run_summary.specs.declared.figures.Figures.{Figures}
+use Rattle.run_summary.specs.declared.holds.Hold.{Hold}
+use Rattle.run_summary.specs.declared.holds.TypesOn.{TypesOn}
 use Rattle.run_summary.specs.declared.place.Place.{Place}
 use Rattle.run_summary.specs.declared.place.Stand.{Stand}
 use Rattle.run_summary.specs.declared.seen.Seen.{Seen}
 use Rattle.run_summary.specs.declared.account.Account.{Account as Held}
 use Rattle.run_summary.specs.About.{rule_of}
 use Rattle.run_summary.specs.Asking.{Counted, asking, behind_rule, counted_by, row_asked}
-use Rattle.run_summary.specs.Bands.{InForce, enforced, loaded, stored, stood}
-use Rattle.run_summary.specs.Brought.{Brings, Command, File, Half, Load, Telemetry, Tick, brings}
+use Rattle.run_summary.specs.Bands.{InForce, begun, enforced, has_changed, how_left, in_mode}
+use Rattle.run_summary.specs.Brought.{Brings, Command, File, Telemetry, Tick, brings, is_uplink}
 use Rattle.run_summary.specs.Fields.{all_seen, forgotten}
 use Rattle.run_summary.specs.Figures.{one_more, with_event, with_packet, with_record}
+use Rattle.run_summary.specs.Holds.{hold_of}
 use Rattle.run_summary.specs.Packets.{packets_of}
 use Rattle.run_summary.specs.Plans.{Planned, parts_by, planned_at}
 use Rattle.run_summary.specs.Samples.{Row, met_by_parts, row_with}
@@ -43,6 +46,8 @@ pub record Account : Type 0 where
   pub rows : List Row
   pub before : List Stand
   pub bands : InForce
+  -- the types of events that the host had on for the Limit Checker when it was asked last
+  pub types : TypesOn
   pub sending : Sending
   pub uplinks : Ends Uplinked
   pub figures : Figures
@@ -57,6 +62,7 @@ account_of held = record {
   rows = held.rows.items;
   before = held.before.items;
   bands = held.bands;
+  types = held.types;
   sending = held.sending;
   uplinks = held.uplinks;
   figures = held.figures;
@@ -69,9 +75,7 @@ abbrev pub brought_by : Brings → Place → Account → Account
 brought_by (Telemetry packet) place a = record a { seen = all_seen packet place a.seen }
 brought_by Tick place a = a
 brought_by Command place a = a
-brought_by (Load name) place a = record a { bands = loaded name a.bands }
-brought_by (File name) place a = record a { bands = stored name None a.bands }
-brought_by (Half name text) place a = record a { bands = stored name (Some text) a.bands }
+brought_by File place a = a
 
 -- and counted
 abbrev pub come_by : Brings → Place → Account → Account
@@ -81,6 +85,21 @@ come_by brings place a = brought_by brings place (record a { figures = with_reco
 abbrev pub come : List ℕ → Place → Account → Account
 come bytes place a =
     record (come_by (brings bytes) place a) { uplinks = with_uplink (brings bytes) (uplink_of place a.bands.text bytes) a.uplinks }
+
+-- ---- what the host shows
+
+-- whether the host is asked after a record: the record is a command, a file or a half, or it led to packets
+abbrev pub is_asked : (bytes written : List ℕ) → Bool
+is_asked bytes written = is_uplink (brings bytes) || not (length written == 0)
+
+-- the host has this text in force, and these types of events on for the Limit Checker
+abbrev pub shown : Option ℕ → TypesOn → Account → Account
+shown force types a = record a { types = types; bands = record a.bands { force = force } }
+
+-- .. if it is asked
+abbrev pub shown_if : Bool → Option ℕ → TypesOn → Account → Account
+shown_if true force types a = shown force types a
+shown_if false force types a = a
 
 -- ---- its samples
 
@@ -106,6 +125,11 @@ pub record Reading : Type 0 where
 abbrev pub count_of : List ℕ → ℕ
 count_of packet = if nat_lt (length packet) 4 then 0 else u16_at packet 2 % count_end
 
+-- what holds back the event of a rule, by the text in force and the types of events that are on
+abbrev pub hold_by : Option ℕ → Account → Option Hold
+hold_by None a = None
+hold_by (Some rule) a = hold_of (planned_at a.plans a.bands.text rule) a.types
+
 -- a request by this rule, with these samples
 abbrev pub request_of : List ℕ → Place → ℕ → Option ℕ → Counted → Account → Requested
 request_of packet place sequence rule told a = record {
@@ -116,6 +140,7 @@ request_of packet place sequence rule told a = record {
   sequence = sequence;
   count = count_of packet;
   event = None;
+  hold = hold_by rule a;
   counted = told.counted;
   samples = told.samples;
 }
@@ -175,12 +200,20 @@ abbrev pub said : Place → List ℕ → ℕ → EventKind → List ℕ → Acco
 said place sender id kind text a =
     told_by place sender id kind text (in_force_by sender id text place (record a { figures = with_event kind a.figures }))
 
+-- housekeeping, which every adoption ends with: if the host shows another text, it was adopted
+abbrev pub adopted_if : Bool → Place → Account → Account
+adopted_if true place a = enforced_so place how.Adopted a
+adopted_if false place a = a
+
+abbrev pub housekept : Place → Account → Account
+housekept place a =
+    adopted_if (has_changed a.bands) place (record a { figures = record a.figures { housekeeping = one_more a.figures.housekeeping } })
+
 -- what a packet says
 abbrev pub read_by : Option told.Told → List ℕ → Place → List Stand → Reading → Reading
 read_by (Some (told.Request sequence)) packet place stands r = asked packet place stands sequence r
 read_by (Some (told.Event moment sender id kind text)) packet place stands r = record r { account = said place sender id kind text r.account }
-read_by (Some (told.Housekeeping mode count rules)) packet place stands r =
-    record r { account = record r.account { figures = record r.account.figures { housekeeping = one_more r.account.figures.housekeeping } } }
+read_by (Some (told.Housekeeping mode count rules)) packet place stands r = record r { account = housekept place r.account }
 read_by None packet place stands r =
     record r { account = record r.account { figures = record r.account.figures { other = one_more r.account.figures.other } } }
 
@@ -205,28 +238,43 @@ abbrev pub before_with : List Stand → ℕ → List Stand → List Stand
 before_with stands rule [] = []
 before_with stands rule (before ∷ more) = stand_at rule stands ∷ before_with stands (rule + 1) more
 
-abbrev pub stood_so : Place → Option LcMode → List Stand → Account → Account
-stood_so place mode stands a = record a { before = before_with stands 0 a.before; bands = stood place mode a.bands }
+-- the tables in force: a change that no packet reported is told now. An adoption of the text that was in force before, whose event 2 a
+-- filter holds back, isn't seen.
+abbrev pub left_by : Option How → Place → Account → Account
+left_by None place a = record a { bands = begun place a.bands }
+left_by (Some how) place a = enforced_so place how a
 
--- if the rules are as after the record before, only the mode may change
+abbrev pub moded : Place → Option LcMode → Account → Account
+moded place mode a = record a { bands = in_mode place mode a.bands }
+
+-- if the rules are as after the record before, only the tables and the mode may change
 abbrev pub stood_again : Place → Option LcMode → Account → Account
-stood_again place mode a = record a { bands = stood place mode a.bands }
+stood_again place mode a = moded place mode (left_by (how_left mode a.bands) place a)
+
+abbrev pub stood_so : Place → Option LcMode → List Stand → Account → Account
+stood_so place mode stands a = stood_again place mode (record a { before = before_with stands 0 a.before })
 
 -- ---- a run
 
--- a record of a run: its place, its bytes, the packets that it led to, and how the Limit Checker stands behind it: its mode, where one
--- runs, and its rules
+-- a record of a run: its place, its bytes, the packets that it led to, how the Limit Checker stands after it (its mode, if one runs, and
+-- its rules), and what the host shows then: the text in force, and the types of events that are on for the Limit Checker
 pub record Step : Type 0 where
   pub place : Place
   pub bytes : List ℕ
   pub written : List ℕ
   pub mode : Option LcMode
   pub stands : List Stand
+  pub force : Option ℕ
+  pub types : TypesOn
+
+-- the account once a record has come and the host was asked, if it is
+abbrev pub came : Step → Account → Account
+came step a = shown_if (is_asked step.bytes step.written) step.force step.types (come step.bytes step.place a)
 
 -- the account after one more record
 abbrev pub account_with : Step → Account → Account
 account_with step a =
-    stood_so step.place step.mode step.stands (written step.written step.place step.stands (sampled step.place step.stands (come step.bytes step.place a)))
+    stood_so step.place step.mode step.stands (written step.written step.place step.stands (sampled step.place step.stands (came step a)))
 
 -- .. and after all records, from the account before the first
 abbrev pub account_behind : Account → List Step → Account

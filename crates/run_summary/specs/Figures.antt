@@ -2,7 +2,7 @@
 use Rattle.std.specs.Prelude.{ℕ, ◌+◌, ◌-◌, ◌^◌, min}
 use Rattle.lc_model.specs.declared.rule.EventKind.{EventKind}
 use Rattle.lc_model.specs.declared.rule.EventKind.TheVariants as kind
-use Rattle.run_summary.specs.Brought.{Brings, Command, File, Half, Load, Telemetry, Tick}
+use Rattle.run_summary.specs.Brought.{Brings, Command, File, Telemetry, Tick}
 use Rattle.run_summary.specs.declared.figures.Figures.{Figures}
 
 -- a count increased by one, up to 2^64 - 1
@@ -18,9 +18,7 @@ abbrev pub with_record : Brings → Figures → Figures
 with_record (Telemetry packet) f = record f { records = one_more f.records; telemetry = one_more f.telemetry }
 with_record Tick f = record f { records = one_more f.records; ticks = one_more f.ticks }
 with_record Command f = record f { records = one_more f.records; commands = one_more f.commands }
-with_record (Load name) f = record f { records = one_more f.records; commands = one_more f.commands }
-with_record (File name) f = record f { records = one_more f.records; files = one_more f.files }
-with_record (Half name text) f = record f { records = one_more f.records; files = one_more f.files }
+with_record File f = record f { records = one_more f.records; files = one_more f.files }
 
 -- the counts with one more packet, of any kind
 abbrev pub with_packet : Figures → Figures

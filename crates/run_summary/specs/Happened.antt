@@ -1,31 +1,40 @@
--- The events of a run in the order in which they happened, and what follows from them: the known files, the text in force, and what is
--- known of fields. This project's own.
-use Rattle.std.specs.Prelude.{◌≡◌, ℕ, Bool, false, not, ◌||◌, List, [], ◌∷◌, bytes_eq, filter_map, is_some, length, map, nat_le, Option, Some, None, ◌==◌, if◌then◌else◌}
-use Rattle.std.specs.List.{list_any, take_while}
+-- The events of a run in the order in which they happened, and what follows from them: the text in force, how its tables came into force,
+-- and what is known of fields. This project's own.
+use Rattle.std.specs.Prelude.{◌≡◌, ℕ, Bool, not, List, [], ◌∷◌, bytes_eq, filter_map, is_some, length, map, Option, Some, None, ◌==◌, if◌then◌else◌}
 use Rattle.lc_model.specs.declared.mode.LcMode.{LcMode}
-use Rattle.lc_model.specs.Name.{Name, lc_name}
+use Rattle.lc_model.specs.Name.{lc_name}
 use Rattle.packet_listing.specs.Told as told
 use Rattle.packet_listing.specs.Told.{told_in}
 use Rattle.run_summary.specs.declared.bands.How.{How}
 use Rattle.run_summary.specs.declared.bands.How.TheVariants as how
+use Rattle.run_summary.specs.declared.holds.TypesOn.{TypesOn}
 use Rattle.run_summary.specs.declared.place.Place.{Place}
 use Rattle.run_summary.specs.declared.seen.Met.{Met}
 use Rattle.run_summary.specs.declared.seen.Seen.{Seen}
 use Rattle.run_summary.specs.declared.texts.Field.{Field}
-use Rattle.run_summary.specs.Account.{Step, account_behind, started_with_tables}
-use Rattle.run_summary.specs.Bands as bands
-use Rattle.run_summary.specs.Bands.{default_file}
-use Rattle.run_summary.specs.Brought.{Brings, File, Half, Load, brings}
+use Rattle.run_summary.specs.Account.{Step, account_behind, is_asked, started_with_tables}
+use Rattle.run_summary.specs.Bands.{how_over, is_text, text_enforced}
+use Rattle.run_summary.specs.Brought.{Brings, brings}
 use Rattle.run_summary.specs.Fields.{brought_of, nothing}
+use Rattle.run_summary.specs.Holds.{all_on}
 use Rattle.run_summary.specs.Packets.{packets_of}
 use Rattle.run_summary.specs.Run.{OfTexts, Packet, nothing_told, number_behind, numbered, stopped}
 
--- `Came`: the record at this place came and brings this. `Sent`: a packet was sent. `Over`: the record at this place is done, and the Limit
+-- `Came`: the record at this place came and brings this. `Shown`: the host was asked after that record, and shows this text in force and
+-- these types of events on for the Limit Checker. `Sent`: a packet was sent. `Over`: the record at this place is done, and the Limit
 -- Checker has this mode; `None` if none runs. In lists the newest is the first.
 pub data Happened : Type 0 where
   Came : (place : Place) (brought : Brings) → Happened
+  Shown : (force : Option ℕ) (types : TypesOn) → Happened
   Sent : (packet : Packet) → Happened
   Over : (place : Place) (mode : Option LcMode) → Happened
+
+-- a record came, and the host was asked if that record is one at which it is
+abbrev pub shown_to : Bool → Step → List Happened → List Happened
+shown_to b step before = if b then Shown step.force step.types ∷ before else before
+
+abbrev pub behind_coming : Step → List Happened → List Happened
+behind_coming step before = shown_to (is_asked step.bytes step.written) step (Came step.place (brings step.bytes) ∷ before)
 
 -- the packets of a record were sent, one after the other
 abbrev pub behind_packets : List Packet → List Happened → List Happened
@@ -38,7 +47,7 @@ packets_led_to number step = numbered number step.place (packets_of step.written
 
 -- a record is over
 abbrev pub behind_record : ℕ → Step → List Happened → List Happened
-behind_record number step before = Over step.place step.mode ∷ behind_packets (packets_led_to number step) (Came step.place (brings step.bytes) ∷ before)
+behind_record number step before = Over step.place step.mode ∷ behind_packets (packets_led_to number step) (behind_coming step before)
 
 -- all that happened in these records, after a number of packets and what happened before
 abbrev pub happened_from : List Happened → ℕ → List Step → List Happened
@@ -50,52 +59,23 @@ happened_from before number (step ∷ steps) =
 abbrev pub happened_in : List Step → List Happened
 happened_in steps = happened_from [] 0 steps
 
--- ---- files
+-- ---- what the host showed
 
--- the file that was stored, if one was
-abbrev pub file_stored : Happened → Option bands.File
-file_stored (Came place (File name)) = Some (record { name = name; text = None })
-file_stored (Came place (Half name text)) = Some (record { name = name; text = Some text })
-file_stored other = None
+-- the text in force as the host showed it last
+abbrev pub force_shown : List Happened → Option ℕ
+force_shown [] = None
+force_shown (Came place brought ∷ before) = force_shown before
+force_shown (Shown force types ∷ before) = force
+force_shown (Sent packet ∷ before) = force_shown before
+force_shown (Over place mode ∷ before) = force_shown before
 
--- the name of the file that was loaded, if one was
-abbrev pub file_loaded : Happened → Option Name
-file_loaded (Came place (Load name)) = Some name
-file_loaded other = None
-
-abbrev pub is_named : Name → List Name → Bool
-is_named name names = list_any (λ one. bytes_eq one name) names
-
--- the names of the files that are known: the first 500 that were stored
-abbrev pub names_with : Option bands.File → List Name → List Name
-names_with None names = names
-names_with (Some file) names = if is_named file.name names || nat_le bands.most (length names) then names else file.name ∷ names
-
-abbrev pub names_known : List Happened → List Name
-names_known [] = []
-names_known (it ∷ before) = names_with (file_stored it) (names_known before)
-
--- the text of which the last file of this name is a half
-abbrev pub text_with : Name → Option bands.File → Option ℕ → Option ℕ
-text_with name None text = text
-text_with name (Some file) text = if bytes_eq file.name name then file.text else text
-
-abbrev pub last_stored : Name → List Happened → Option ℕ
-last_stored name [] = None
-last_stored name (it ∷ before) = text_with name (file_stored it) (last_stored name before)
-
--- the same, if a file of this name is known; else none
-abbrev pub text_of_file : Name → List Happened → Option ℕ
-text_of_file name happened = if is_named name (names_known happened) then last_stored name happened else None
-
--- the text of the file that was loaded last, as it was at that load
-abbrev pub loaded_by : Option Name → List Happened → Option ℕ → Option ℕ
-loaded_by None before text = text
-loaded_by (Some name) before text = text_of_file name before
-
-abbrev pub text_loaded : List Happened → Option ℕ
-text_loaded [] = None
-text_loaded (it ∷ before) = loaded_by (file_loaded it) before (text_loaded before)
+-- the types of events that were on for the Limit Checker then
+abbrev pub types_shown : List Happened → TypesOn
+types_shown [] = all_on
+types_shown (Came place brought ∷ before) = types_shown before
+types_shown (Shown force types ∷ before) = types
+types_shown (Sent packet ∷ before) = types_shown before
+types_shown (Over place mode ∷ before) = types_shown before
 
 -- ---- the text in force
 
@@ -107,35 +87,69 @@ how_by sender id text =
     else if id == 1 then Some (if bytes_eq text started_with_tables then how.Started else how.None)
     else None
 
-abbrev pub how_told : Option told.Told → Option How
-how_told (Some (told.Event moment sender id kind text)) = how_by sender id text
-how_told (Some (told.Request sequence)) = None
-how_told (Some (told.Housekeeping mode count rules)) = None
-how_told None = None
+-- .. if a packet reports it: housekeeping does where the text in force has changed
+abbrev pub how_told : Bool → Option told.Told → Option How
+how_told changed (Some (told.Event moment sender id kind text)) = how_by sender id text
+how_told changed (Some (told.Request sequence)) = None
+how_told changed (Some (told.Housekeeping mode count rules)) = if changed then Some how.Adopted else None
+how_told changed None = None
 
--- the same of anything that happened: after a record without a running Limit Checker no tables are in force
-abbrev pub how_enforced : Happened → Option How
-how_enforced (Came place brought) = None
-how_enforced (Sent packet) = how_told (told_in packet.bytes)
-how_enforced (Over place None) = Some how.None
-how_enforced (Over place (Some mode)) = None
+-- the text in force after tables came into force so, if they did: the one that the host shows after the record
+abbrev pub text_then : Option How → (force text : Option ℕ) → Option ℕ
+text_then None force text = text
+text_then (Some begins) force text = text_enforced begins force
 
--- the text in force after that: at a start that of the default file, at an adoption that of the file that was loaded last
-abbrev pub text_then : Option How → List Happened → Option ℕ → Option ℕ
-text_then None before text = text
-text_then (Some how.None) before text = None
-text_then (Some how.Started) before text = text_of_file default_file before
-text_then (Some how.Adopted) before text = text_loaded before
-
+-- the text in force. It changes where a packet reports that tables came into force, and at the end of a record: then the host's text is
+-- in force, or none if no Limit Checker runs.
 abbrev pub text_in_force : List Happened → Option ℕ
 text_in_force [] = None
-text_in_force (it ∷ before) = text_then (how_enforced it) before (text_in_force before)
+text_in_force (Came place brought ∷ before) = text_in_force before
+text_in_force (Shown force types ∷ before) = text_in_force before
+text_in_force (Sent packet ∷ before) =
+    text_then (how_told (not (is_text (text_in_force before) (force_shown before))) (told_in packet.bytes)) (force_shown before) (text_in_force before)
+text_in_force (Over place None ∷ before) = None
+text_in_force (Over place (Some mode) ∷ before) = force_shown before
+
+-- whether the host showed another text than the one in force
+abbrev pub text_differs : List Happened → Bool
+text_differs happened = not (is_text (text_in_force happened) (force_shown happened))
+
+-- ---- how its tables came into force
+
+-- the mode after the last record
+abbrev pub mode_behind : List Happened → Option LcMode
+mode_behind [] = None
+mode_behind (Came place brought ∷ before) = mode_behind before
+mode_behind (Shown force types ∷ before) = mode_behind before
+mode_behind (Sent packet ∷ before) = mode_behind before
+mode_behind (Over place mode ∷ before) = mode
+
+-- tables come into force so, if they do
+abbrev pub how_then : Option How → How → How
+how_then None before = before
+how_then (Some begins) before = begins
+
+abbrev pub how_in_force : List Happened → How
+how_in_force [] = how.None
+how_in_force (Came place brought ∷ before) = how_in_force before
+how_in_force (Shown force types ∷ before) = how_in_force before
+how_in_force (Sent packet ∷ before) = how_then (how_told (text_differs before) (told_in packet.bytes)) (how_in_force before)
+how_in_force (Over place mode ∷ before) =
+    how_then (how_over (mode_behind before) mode (how_in_force before) (text_differs before)) (how_in_force before)
+
+-- how tables come into force by what happens now, after what happened before
+abbrev pub how_enforced : Happened → List Happened → Option How
+how_enforced (Came place brought) before = None
+how_enforced (Shown force types) before = None
+how_enforced (Sent packet) before = how_told (text_differs before) (told_in packet.bytes)
+how_enforced (Over place mode) before = how_over (mode_behind before) mode (how_in_force before) (text_differs before)
 
 -- ---- fields
 
 -- the value of the field in what came, if it is a packet of the field's message id
 abbrev pub value_came : Field → Happened → Option Met
 value_came field (Came place brought) = brought_of field place brought
+value_came field (Shown force types) = None
 value_came field (Sent packet) = None
 value_came field (Over place mode) = None
 
@@ -143,15 +157,10 @@ value_came field (Over place mode) = None
 abbrev pub values_came : Field → List Happened → List Met
 values_came field happened = filter_map (value_came field) happened
 
--- whether it is an event of the Limit Checker that reports tables in force, or that none are
-abbrev pub is_enforcing : Happened → Bool
-is_enforcing (Sent packet) = is_some (how_told (told_in packet.bytes))
-is_enforcing (Came place brought) = false
-is_enforcing (Over place mode) = false
-
--- what happened since the last such event
+-- what happened since tables came into force, or none were any more
 abbrev pub since_enforced : List Happened → List Happened
-since_enforced happened = take_while (λ it. not (is_enforcing it)) happened
+since_enforced [] = []
+since_enforced (it ∷ before) = if is_some (how_enforced it before) then [] else it ∷ since_enforced before
 
 -- the newest of some values, which is the first, and its place
 abbrev pub newest_met : List Met → Met

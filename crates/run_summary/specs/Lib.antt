@@ -8,6 +8,7 @@ pub mod Ends
 pub mod Fields
 pub mod Figures
 pub mod Happened
+pub mod Holds
 pub mod Packets
 pub mod Plans
 pub mod Requests

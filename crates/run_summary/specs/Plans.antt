@@ -1,11 +1,13 @@
 -- The rules of texts, as far as requests and samples need them. This project's own.
 use Rattle.std.specs.Prelude.{ℕ, Bool, true, List, [], Option, Some, None, ℤ, pos, slice_get}
 use Rattle.std.specs.Ordering.{int_eq}
+use Rattle.lc_model.specs.declared.rule.EventKind.{EventKind}
 use Rattle.run_summary.specs.declared.plans.Part.{Part}
 
--- a rule: the sequence that it requests, and its comparisons, from the left
+-- a rule: the sequence that it requests, the type of its event, and its comparisons, from the left
 pub record Planned : Type 0 where
   pub sequence : ℤ
+  pub kind : EventKind
   pub parts : List Part
 
 -- the rule of this number in a text's rules, if there is one

@@ -1,15 +1,17 @@
--- All requests of a run: for each the rule that made it, the text in force, the packet of its event, and the samples that counted. This
--- project's own.
+-- All requests of a run: for each the rule that made it, the text in force, the packet of its event or what held that back, and the
+-- samples that counted. This project's own.
 use Rattle.std.specs.Prelude.{◌≡◌, ℕ, ◌+◌, ◌-◌, Bool, not, ◌&&◌, ◌||◌, List, [], ◌∷◌, ◌++◌, drop, filter_map, find, is_some, length, map, nat_le, nat_lt, slice_get, take, ◌==◌, if◌then◌else◌, Option, Some, None, option_map}
 use Rattle.std.specs.List.{take_while}
 use Rattle.packet_listing.specs.Told as told
 use Rattle.packet_listing.specs.Told.{told_in}
+use Rattle.run_summary.specs.declared.holds.Hold.{Hold}
+use Rattle.run_summary.specs.declared.holds.TypesOn.{TypesOn}
 use Rattle.run_summary.specs.declared.place.Place.{Place}
 use Rattle.run_summary.specs.declared.place.Stand.{Stand}
 use Rattle.run_summary.specs.Account.{Step, account_behind, count_of}
 use Rattle.run_summary.specs.Asking.{asking, behind_rule}
-use Rattle.run_summary.specs.Brought.{brings}
-use Rattle.run_summary.specs.Happened.{Came, Happened, Sent, behind_record, packets_led_to, seen_behind, text_in_force}
+use Rattle.run_summary.specs.Happened.{Happened, Sent, behind_coming, behind_record, packets_led_to, seen_behind, text_in_force, types_shown}
+use Rattle.run_summary.specs.Holds.{all_on, hold_of}
 use Rattle.run_summary.specs.Packets.{packets_of}
 use Rattle.run_summary.specs.Plans.{parts_by, planned_at}
 use Rattle.run_summary.specs.Run.{OfTexts, Packet, ends_of, event_in, is_request, last_of, nothing_told, number_behind, packets_from}
@@ -19,7 +21,8 @@ use Rattle.run_summary.specs.Standing.{stand_at}
 
 -- ---- records that came
 
--- a record: its place, the rules after it, and what had happened up to its coming. In lists the newest record is the first.
+-- a record: its place, the rules after it, and what had happened up to its coming, with what the host showed if it was asked. In lists
+-- the newest record is the first.
 pub record Taken : Type 0 where
   pub place : Place
   pub stands : List Stand
@@ -84,6 +87,16 @@ own_event request packets =
     option_map (λ (event : Said). event.packet)
     (find (λ (event : Said). is_own event request) (filter_map event_in (take_while is_no_request packets)))
 
+-- what holds back a rule's event if it doesn't come, by the rule's type in the text in force, and the types of events that were on for
+-- the Limit Checker after the newest record; not known if the rule isn't
+abbrev pub types_behind : List Taken → TypesOn
+types_behind [] = all_on
+types_behind (taken ∷ before) = types_shown taken.happened
+
+abbrev pub hold_behind : OfTexts → List Taken → (rule text : Option ℕ) → Option Hold
+hold_behind read records None text = None
+hold_behind read records (Some rule) text = hold_of (planned_at read.plans text rule) (types_behind records)
+
 -- a request without its event: this packet of the newest record, this sequence, this rule, and this text in force
 abbrev pub request_by : OfTexts → List Taken → Packet → ℕ → (rule text : Option ℕ) → Requested
 request_by read records packet sequence rule text = record {
@@ -94,6 +107,7 @@ request_by read records packet sequence rule text = record {
   sequence = sequence;
   count = count_of packet.bytes;
   event = None;
+  hold = hold_behind read records rule text;
   counted = counted_of rule records;
   samples = samples_of read rule records;
 }
@@ -132,14 +146,14 @@ requests_in read records others from happened (packet ∷ packets) =
 
 -- the record of a step
 abbrev pub taken_by : Step → List Happened → Taken
-taken_by step happened = record { place = step.place; stands = step.stands; happened = Came step.place (brings step.bytes) ∷ happened }
+taken_by step happened = record { place = step.place; stands = step.stands; happened = behind_coming step happened }
 
 -- the requests of these records, after these earlier records, events and number of packets
 abbrev pub requests_from : OfTexts → List Taken → List Happened → ℕ → List Step → List Requested
 requests_from read before happened number [] = []
 requests_from read before happened number (step ∷ steps) =
     requests_in read (taken_by step happened ∷ before) (packets_from (number_behind number (packets_of step.written)) steps) 0
-    (Came step.place (brings step.bytes) ∷ happened) (packets_led_to number step)
+    (behind_coming step happened) (packets_led_to number step)
     ++ requests_from read (taken_by step happened ∷ before) (behind_record number step happened) (number_behind number (packets_of step.written)) steps
 
 -- a request with its samples, or without them if they aren't kept

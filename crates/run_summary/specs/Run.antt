@@ -8,16 +8,18 @@ use Rattle.packet_listing.specs.Told as told
 use Rattle.packet_listing.specs.Told.{told_in}
 use Rattle.run_summary.specs.declared.ends.Left.{Left}
 use Rattle.run_summary.specs.declared.figures.Figures.{Figures}
+use Rattle.run_summary.specs.declared.holds.TypesOn.{TypesOn}
 use Rattle.run_summary.specs.declared.place.Place.{Place}
 use Rattle.run_summary.specs.declared.place.Stand.{Stand}
 use Rattle.run_summary.specs.declared.texts.Field.{Field}
 use Rattle.run_summary.specs.About.{rule_of}
-use Rattle.run_summary.specs.Account.{Account, Step, account_behind, account_with, before_with, come, sampled, stood_again, stood_so, written}
+use Rattle.run_summary.specs.Account.{Account, Step, account_behind, account_with, before_with, come, sampled, shown, stood_again, stood_so, written}
 use Rattle.run_summary.specs.Bands.{nothing_in_force}
 use Rattle.run_summary.specs.Ends.{Ends, kept, no_items}
-use Rattle.run_summary.specs.Brought.{Brings, Command, File, Half, Load, Telemetry, Tick, brings}
+use Rattle.run_summary.specs.Brought.{Brings, Command, File, Telemetry, Tick, brings}
 use Rattle.run_summary.specs.Fields.{AreKnown, all_brought, come_in, unseen}
 use Rattle.run_summary.specs.Figures.{none, one_more}
+use Rattle.run_summary.specs.Holds.{all_on}
 use Rattle.run_summary.specs.Packets.{packets_of}
 use Rattle.run_summary.specs.Plans.{Planned}
 use Rattle.run_summary.specs.Samples.{Row, no_row}
@@ -50,6 +52,7 @@ nothing_told read = record {
   rows = replicate read.lanes no_row;
   before = replicate read.lanes absent;
   bands = nothing_in_force;
+  types = all_on;
   sending = nothing_sent;
   uplinks = no_items uplinks_kept uplinks_kept;
   figures = none;
@@ -123,7 +126,6 @@ is_telemetry other = false
 
 abbrev pub is_command : Brings → Bool
 is_command Command = true
-is_command (Load name) = true
 is_command other = false
 
 abbrev pub is_tick : Brings → Bool
@@ -131,8 +133,7 @@ is_tick Tick = true
 is_tick other = false
 
 abbrev pub is_file : Brings → Bool
-is_file (File name) = true
-is_file (Half name text) = true
+is_file File = true
 is_file other = false
 
 -- the kinds of packets
@@ -231,11 +232,12 @@ pub record StoodLast (stands : List Stand) (a : Account) : Type 0 where
 
 -- ---- the laws
 
--- The rules that a record leaves are the account's rules after it, and still are when the next record has come. If that one leaves the
--- same rules, none of its samples counts, and only the mode may change.
+-- The rules that a record leaves are the account's rules after it, and still are when the next record has come and the host was asked. If
+-- that one leaves the same rules, none of its samples counts, and only the tables in force and the mode may change.
 pub record StandAgain : Type 0 where
   pub behind : (step : Step) (a : Account) → StoodLast step.stands (account_with step a)
   pub comes : (stands : List Stand) (bytes : List ℕ) (place : Place) (a : Account) → StoodLast stands a → StoodLast stands (come bytes place a)
+  pub asked : (stands : List Stand) (force : Option ℕ) (types : TypesOn) (a : Account) → StoodLast stands a → StoodLast stands (shown force types a)
   pub again : (stands : List Stand) (bytes : List ℕ) (place : Place) (mode : Option LcMode) (a : Account) → StoodLast stands a →
       stood_so place mode stands (written bytes place stands (sampled place stands a)) ≡ stood_again place mode (written bytes place stands a)
 

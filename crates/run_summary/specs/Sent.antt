@@ -2,13 +2,16 @@
 use Rattle.std.specs.Prelude.{ℕ, ◌+◌, Bool, false, ◌&&◌, List, length, map, min, nat_le, ◌-◌, true, ◌==◌, if◌then◌else◌, Option, Some, None, is_none, option_map}
 use Rattle.std.specs.List.{sum}
 use Rattle.lc_model.specs.declared.rule.EventKind.{EventKind}
+use Rattle.run_summary.specs.declared.holds.Hold.{Hold}
 use Rattle.run_summary.specs.declared.place.Place.{Place}
 use Rattle.run_summary.specs.Ends.{Ends, kept, no_items}
 use Rattle.run_summary.specs.Fields.{is_place}
+use Rattle.run_summary.specs.Holds.{hold_unless}
 use Rattle.run_summary.specs.Samples.{Sampled}
 
 -- a request for a command sequence: the number of its packet, its place, the rule that made it, the text in force, the sequence, its
--- sequence count, the packet of the rule's event, how many samples counted, and those that are told
+-- sequence count, the packet of the rule's event, what holds that event back if it doesn't come, how many samples counted, and those that
+-- are told
 pub record Requested : Type 0 where
   pub packet : ℕ
   pub place : Place
@@ -17,6 +20,7 @@ pub record Requested : Type 0 where
   pub sequence : ℕ
   pub count : ℕ
   pub event : Option ℕ
+  pub hold : Option Hold
   pub counted : ℕ
   pub samples : List Sampled
 
@@ -52,6 +56,10 @@ most_parts = 3072
 -- nothing was sent
 abbrev pub nothing_sent : Sending
 nothing_sent = record { requests = no_items requests_kept (requests_kept - 1); newest = None; events = no_items events_kept events_kept; parts = 0 }
+
+-- what held back the event of a request; nothing if it came
+abbrev pub hold_told : Requested → Option Hold
+hold_told request = hold_unless request.event request.hold
 
 -- ---- events
 

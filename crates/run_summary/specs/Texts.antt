@@ -172,10 +172,11 @@ part_of fields c field = record {
 abbrev pub part_in : List Item → List Compared → Comparison → Option Part
 part_in items fields c = option_map (part_of fields c) (field_compared items c)
 
--- a rule: its sequence, and its comparisons from the left
+-- a rule: its sequence, the type of its event, and its comparisons from the left
 abbrev pub planned_of : List Item → List Compared → RuleItem → Planned
 planned_of items fields rule = record {
   sequence = rule.sequence.value;
+  kind = rule.event_kind;
   parts = filter_map (part_in items fields) (comparisons_in rule.condition);
 }
 

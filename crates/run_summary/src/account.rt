@@ -2,7 +2,7 @@
 
 ghost use Rattle.std.specs.Prelude.{◌≡◌, IfOk, List, OnOk, map, replicate, ℕ};
 ghost use Rattle.rpn_compiler.specs.TextParts.{AreTextsOf, items_in};
-ghost use Rattle.run_summary.specs.Account.{account_of, before_with, brought_by, come, rows_with, sampled, stood_again, stood_so};
+ghost use Rattle.run_summary.specs.Account.{account_of, before_with, brought_by, come, enforced_so, left_by, rows_with, sampled, shown, stood_again, stood_so};
 ghost use Rattle.run_summary.specs.Brought.{brings_of};
 ghost use Rattle.run_summary.specs.Plans.{parts_by, planned_at};
 ghost use Rattle.run_summary.specs.Run.{TellsNothing};
@@ -10,14 +10,15 @@ ghost use Rattle.run_summary.specs.Samples.{no_row};
 ghost use Rattle.run_summary.specs.Standing.{absent};
 ghost use Rattle.run_summary.specs.Texts.{most_rules};
 
-use crate::bands::Bands;
+use crate::bands::{Bands, How};
 use crate::brought::{Brought, read_record};
 use crate::ends::Ends;
 use crate::figures::Figures;
+use crate::holds::{ALL_ON, TypesOn};
 use crate::place::{ABSENT, Place, Stand, stand_in};
 use crate::plans::{Part, RulePlans, parts_at, plans_of};
 use crate::samples::FailRun;
-use crate::seen::{Seen, all_unseen, see_all};
+use crate::seen::{Seen, all_unseen, forget_all, see_all};
 use crate::sent::Sending;
 use crate::texts::{fields_of, rule_count};
 use crate::uplinks::{UPLINKS, Uplink, keep_uplink};
@@ -41,6 +42,7 @@ pub struct Account<'a> {
     pub(crate) before: Vec<Stand>,
     /// The changes of tables and modes.
     pub bands: Bands,
+    pub(crate) types: TypesOn,
     /// The requests and events that are kept.
     pub sending: Sending,
     /// The ground commands, files and halves of rule texts that are kept.
@@ -88,7 +90,7 @@ fn take_rows(
     place: Place,
     stands: &[Stand],
     plans: &[RulePlans],
-    text: Option<u16>,
+    text: Option<usize>,
     seen: &[Seen<'_>],
     rows: &mut Vec<FailRun>,
 ) -> Result<(), AllocError>
@@ -132,6 +134,7 @@ impl<'a> Account<'a> {
             rows,
             before,
             bands: Bands::new(alloc),
+            types: ALL_ON,
             sending: Sending::new(alloc),
             uplinks: Ends::new(alloc, UPLINKS, UPLINKS),
             figures: Figures::new(),
@@ -139,13 +142,13 @@ impl<'a> Account<'a> {
     }
 
     /// The comparisons of the rule with this number in the text with this number, from left to right; empty if there is no such rule.
-    pub fn parts(&self, text: Option<u16>, rule: usize) -> &[Part]
+    pub fn parts(&self, text: Option<usize>, rule: usize) -> &[Part]
         ensures { result.now ≡ parts_by (planned_at (account_of self.now).plans text rule) }
     {
         parts_at(self.plans.as_slice(), text, rule)
     }
 
-    /// Takes a record: counts and keeps what it brings. Call it before `sample`, `write` and `stand` for that record. `Seen::come_in`
+    /// Takes a record: counts and keeps what it brings. Call it before `show`, `sample`, `write` and `stand` for that record. `Seen::come_in`
     /// then has the field values that it brought (`laws::fields_that_come`). The only error is a lack of memory.
     pub fn add_record(&mut self, bytes: &[u8], place: Place) -> Result<(), AllocError>
         ensures { OnOk result (account_of self.new ≡ come bytes.now place (account_of self.old)) }
@@ -156,28 +159,30 @@ impl<'a> Account<'a> {
             let text = self.bands.text();
             keep_uplink(self.alloc, &mut self.uplinks, place, text, bytes)?;
         }
-        self.bring(brings, place)
+        self.bring(brings, place);
+        Ok(())
     }
 
     /// Keeps what a record brings.
-    fn bring(&mut self, brings: Brought<'_>, place: Place) -> Result<(), AllocError>
-        ensures { OnOk result (account_of self.new ≡
-            brought_by (brings_of brings.entry) place (account_of self.old)) }
+    fn bring(&mut self, brings: Brought<'_>, place: Place)
+        ensures { account_of self.new ≡
+            brought_by (brings_of brings.entry) place (account_of self.old) }
     {
         match brings {
-            Brought::Telemetry(packet) => {
-                see_all(&mut self.seen, packet, place);
-                Ok(())
-            }
-            Brought::Tick => Ok(()),
-            Brought::Command => Ok(()),
-            Brought::Load(name) => {
-                self.bands.load(name);
-                Ok(())
-            }
-            Brought::File(name) => self.bands.store(self.alloc, name, None),
-            Brought::Half(name, text) => self.bands.store(self.alloc, name, Some(text)),
+            Brought::Telemetry(packet) => see_all(&mut self.seen, packet, place),
+            Brought::Tick => {}
+            Brought::Command => {}
+            Brought::File => {}
         }
+    }
+
+    /// Takes what the host shows after the record: the number of the text in force, and the types of events that are on for the Limit
+    /// Checker. Call it after `add_record` and before `sample` and `write` where `is_asked` says so.
+    pub fn show(&mut self, force: Option<usize>, types: TypesOn)
+        ensures { account_of self.new ≡ shown force types (account_of self.old) }
+    {
+        self.types = types;
+        self.bands.show(force);
     }
 
     /// Takes the record's samples, by the rules after it. Call it before `write`. The only error is a lack of memory.
@@ -197,6 +202,25 @@ impl<'a> Account<'a> {
         )
     }
 
+    /// Takes that tables came into force, and clears what comparisons meet. The only error is a lack of memory.
+    pub(crate) fn enforce(&mut self, place: Place, how: How) -> Result<(), AllocError>
+        ensures { OnOk result (account_of self.new ≡
+            enforced_so place how (account_of self.old)) }
+    {
+        forget_all(&mut self.seen);
+        self.bands.enforce(place, how)
+    }
+
+    /// Takes a change of the tables in force that no packet of the record reported.
+    fn take_left(&mut self, place: Place, how: Option<How>) -> Result<(), AllocError>
+        ensures { OnOk result (account_of self.new ≡ left_by how place (account_of self.old)) }
+    {
+        match how {
+            None => self.bands.begin(place),
+            Some(how) => self.enforce(place, how),
+        }
+    }
+
     /// Takes the mode and the rules after a record. Call it after `write`. The only error is a lack of memory.
     pub fn stand(
         &mut self,
@@ -208,7 +232,7 @@ impl<'a> Account<'a> {
             stood_so place mode stands.now (account_of self.old)) }
     {
         take_stands(stands, &mut self.before);
-        self.bands.stand(place, mode)
+        self.stand_again(place, mode)
     }
 
     /// Takes the mode after a record that left all rules as they were. Then `sample` would do nothing, and `stand` would do the same as
@@ -217,6 +241,8 @@ impl<'a> Account<'a> {
         ensures { OnOk result (account_of self.new ≡
             stood_again place mode (account_of self.old)) }
     {
-        self.bands.stand(place, mode)
+        let how = self.bands.how_left(mode);
+        self.take_left(place, how)?;
+        self.bands.take_mode(place, mode)
     }
 }

@@ -13,7 +13,7 @@ use std::alloc::{AllocError, Global};
 #[derive(Clone, Copy)]
 pub(crate) struct Around<'a> {
     pub(crate) plans: &'a [RulePlans],
-    pub(crate) text: Option<u16>,
+    pub(crate) text: Option<usize>,
     pub(crate) before: &'a [Stand],
     pub(crate) stands: &'a [Stand],
 }
@@ -83,7 +83,7 @@ fn copy_samples(alloc: Global, samples: &[Sample]) -> Result<Vec<Sample>, AllocE
 pub(crate) fn count_samples(
     alloc: Global,
     row: Option<&FailRun>,
-    text: Option<u16>,
+    text: Option<usize>,
     sending: &mut Sending,
 ) -> Result<(u16, Vec<Sample>), AllocError>
     ensures { IfOk result (λ told. counted_by (option_map (λ row. row.now) row.entry) text sending.old ≡

@@ -1,19 +1,15 @@
 //! The tables in force and the Limit Checker's mode, over the run.
 
-ghost use Rattle.std.specs.Prelude.{◌≡◌, ◌<◌, bytes_eq, find, length, IfOk, IfSome, OnOk, option_map};
-ghost use Rattle.run_summary.specs.Bands.{File, enforced, file_place, filed, filed_at, in_force, in_mode, is_none_in_force, loaded, mode_number, mode_told, nothing_in_force, stood, stored, tables_told, text_enforced, text_in, told_more};
+ghost use Rattle.std.specs.Prelude.{◌≡◌, OnOk};
+ghost use Rattle.run_summary.specs.Bands.{begun, enforced, has_changed, how_left, how_unsaid, in_mode, is_none_in_force, is_text, mode_number, mode_told, nothing_in_force, text_enforced, told_more};
 
-use crate::about::is;
 use crate::place::Place;
 use lc_model::LcMode;
 use std::alloc::{AllocError, Global};
 use std::marker::Model;
 
-/// The most entries of a band, and the most files that are kept.
+/// The most entries of a band.
 const MOST: usize = 500;
-
-/// The file with the watchpoints from which the Limit Checker starts.
-const DEFAULT: &[u8] = b"/cf/lc_def_wdt.tbl";
 
 /// How tables came into force.
 #[derive(Clone, Copy)]
@@ -45,7 +41,7 @@ pub struct TablesFrom {
     /// The place from which on they are in force.
     pub place: Place,
     /// The number of their rule text; `None` if there are no tables or their text isn't known.
-    pub text: Option<u16>,
+    pub text: Option<usize>,
     /// How they came into force.
     pub how: Option<How>,
 }
@@ -59,75 +55,38 @@ pub struct ModeFrom {
     pub mode: Option<Option<LcMode>>,
 }
 
-/// A stored file: its name, and the rule text of which it is a half; `None` for a raw file.
-#[derive(Drop)]
-struct Stored {
-    name: Vec<u8>,
-    text: Option<u16>,
-}
-
-impl Model for Stored {
-    ghost use Rattle.run_summary.specs.Bands.{File};
-
-    ghost Value = { File };
-
-    ghost view = { λ s. record { name = s.name.items; text = s.text } };
-}
-
-impl Stored {
-    /// A stored file. The only error is a lack of memory.
-    fn new(alloc: Global, name: &[u8], text: Option<u16>) -> Result<Stored, AllocError>
-        ensures { IfOk result (λ file. file ≡ record { name = name.now; text = text }) }
-    {
-        let name = Vec::from_slice(alloc, name)?;
-        Ok(Stored { name, text })
-    }
-
-    fn is_named(&self, name: &[u8]) -> bool
-        ensures { result ≡ bytes_eq self.now.name name.now }
-    {
-        is(self.name.as_slice(), name)
-    }
-
-    fn text(&self) -> Option<u16>
-        ensures { result ≡ self.now.text }
-    {
-        self.text
-    }
-}
-
-/// The index of the file of this name.
-fn file_place(files: &[Stored], name: &[u8]) -> Option<usize>
-    ensures place { result ≡ file_place name.now files.now }
-    ensures inside { IfSome result (λ place. place < length files.now) }
+/// Whether two texts are the same, or both are unknown.
+fn is_text(one: Option<usize>, other: Option<usize>) -> bool
+    ensures { result ≡ is_text one other }
 {
-    files.iter().position(|file| file.is_named(name))
-}
-
-/// Stores a file in the place of one of its name, or after all others unless there are too many. The only error is a lack of memory.
-fn store_at(files: &mut Vec<Stored>, place: Option<usize>, file: Stored) -> Result<(), AllocError>
-    requires { IfSome place (λ place. place < length files.old.items) }
-    ensures { OnOk result (files.new.items ≡ filed_at place file files.old.items) }
-{
-    match place {
-        Some(place) => files[place] = file,
-        None => if files.len() < MOST {
-            files.push(file)?;
+    match one {
+        None => other.is_none(),
+        Some(one) => match other {
+            None => false,
+            Some(other) => one == other,
         },
     }
-    Ok(())
 }
 
-/// The text of the first file of this name.
-fn text_in(files: &[Stored], name: &[u8]) -> Option<u16>
-    ensures { result ≡ text_in name.now files.now }
+/// The text in force if tables came into force so, and the host shows this one after them.
+fn text_enforced(how: How, force: Option<usize>) -> Option<usize>
+    ensures { result ≡ text_enforced how force }
 {
-    for file in files {
-        if file.is_named(name) {
-            return file.text();
-        }
+    match how {
+        How::None => None,
+        How::Started => force,
+        How::Adopted => force,
     }
-    None
+}
+
+/// How tables came into force that no packet reported, by the mode before the record.
+fn how_unsaid(mode: Option<LcMode>) -> How
+    ensures { result ≡ how_unsaid mode }
+{
+    match mode {
+        None => How::Started,
+        Some(_) => How::Adopted,
+    }
 }
 
 /// Appends an entry; in the last place `untold`, which ends the list. The only error is a lack of memory.
@@ -158,9 +117,8 @@ fn mode_number(mode: Option<LcMode>) -> u16
 pub struct Bands {
     tables: Vec<TablesFrom>,
     modes: Vec<ModeFrom>,
-    files: Vec<Stored>,
-    waiting: Option<u16>,
-    text: Option<u16>,
+    force: Option<usize>,
+    text: Option<usize>,
     how: How,
     mode: Option<LcMode>,
 }
@@ -173,8 +131,7 @@ impl Model for Bands {
     ghost view = { λ b. record {
       tables = b.tables.items;
       modes = b.modes.items;
-      files = b.files.items;
-      waiting = b.waiting;
+      force = b.force;
       text = b.text;
       how = b.how;
       mode = b.mode;
@@ -188,8 +145,7 @@ impl Bands {
         Bands {
             tables: Vec::new(alloc),
             modes: Vec::new(alloc),
-            files: Vec::new(alloc),
-            waiting: None,
+            force: None,
             text: None,
             how: How::None,
             mode: None,
@@ -211,49 +167,49 @@ impl Bands {
     }
 
     /// The number of the rule text in force, if it is known.
-    pub fn text(&self) -> Option<u16>
+    pub fn text(&self) -> Option<usize>
         ensures { result ≡ self.now.text }
     {
         self.text
     }
 
-    /// Takes a stored file. The only error is a lack of memory.
-    pub(crate) fn store(
-        &mut self,
-        alloc: Global,
-        name: &[u8],
-        text: Option<u16>,
-    ) -> Result<(), AllocError>
-        ensures { OnOk result (self.new ≡ stored name.now text self.old) }
+    /// Takes the text in force that the host shows.
+    pub(crate) fn show(&mut self, force: Option<usize>)
+        ensures { self.new ≡ record self.old { force = force } }
     {
-        let file = Stored::new(alloc, name, text)?;
-        let place = file_place(self.files.as_slice(), name);
-        store_at(&mut self.files, place, file)
+        self.force = force;
     }
 
-    /// Takes the load of a file: its text comes into force at the next adoption.
-    pub(crate) fn load(&mut self, name: &[u8])
-        ensures { self.new ≡ loaded name.now self.old }
+    /// Whether the host showed another text than the one in force.
+    pub(crate) fn has_changed(&self) -> bool
+        ensures { result ≡ has_changed self.now }
     {
-        self.waiting = text_in(self.files.as_slice(), name);
+        !is_text(self.text, self.force)
     }
 
-    /// The text whose tables come into force in this way.
-    fn text_enforced(&self, how: How) -> Option<u16>
-        ensures { result ≡ text_enforced how self.now.files self.now.waiting }
+    /// How tables came into force that no packet of the last record reported, if they did; the mode is that after the record.
+    pub(crate) fn how_left(&self, mode: Option<LcMode>) -> Option<How>
+        ensures { result ≡ how_left mode self.now }
     {
-        match how {
-            How::None => None,
-            How::Started => text_in(self.files.as_slice(), DEFAULT),
-            How::Adopted => self.waiting,
+        match mode {
+            None => if self.how.is_none_in_force() {
+                None
+            } else {
+                Some(How::None)
+            },
+            Some(_) => if self.has_changed() {
+                Some(how_unsaid(self.mode))
+            } else {
+                None
+            },
         }
     }
 
-    /// Takes the report that the Limit Checker started with tables, or adopted some. The only error is a lack of memory.
+    /// Takes that tables came into force, or none are. The only error is a lack of memory.
     pub(crate) fn enforce(&mut self, place: Place, how: How) -> Result<(), AllocError>
         ensures { OnOk result (self.new ≡ enforced place how self.old) }
     {
-        let text = self.text_enforced(how);
+        let text = text_enforced(how, self.force);
         self.text = text;
         self.how = how;
         let told = TablesFrom {
@@ -283,8 +239,8 @@ impl Bands {
         tell_more(&mut self.modes, told, untold)
     }
 
-    /// Takes the mode after a record; it is appended at the first record and at each change.
-    fn take_mode(&mut self, place: Place, mode: Option<LcMode>) -> Result<(), AllocError>
+    /// Takes the mode after a record; it is appended at the first record and at each change. The only error is a lack of memory.
+    pub(crate) fn take_mode(&mut self, place: Place, mode: Option<LcMode>) -> Result<(), AllocError>
         ensures { OnOk result (self.new ≡ in_mode place mode self.old) }
     {
         if self.modes.len() == 0 || mode_number(self.mode) != mode_number(mode) {
@@ -293,21 +249,13 @@ impl Bands {
         Ok(())
     }
 
-    /// Appends that no tables are in force: at the first record if none came into force, and when no Limit Checker runs any more.
-    fn take_none(&mut self, place: Place, mode: Option<LcMode>) -> Result<(), AllocError>
-        ensures { OnOk result (self.new ≡ in_force place mode self.old) }
+    /// Appends that no tables are in force, if nothing was appended before. The only error is a lack of memory.
+    pub(crate) fn begin(&mut self, place: Place) -> Result<(), AllocError>
+        ensures { OnOk result (self.new ≡ begun place self.old) }
     {
-        if self.tables.len() == 0 || (mode.is_none() && !self.how.is_none_in_force()) {
+        if self.tables.len() == 0 {
             return self.enforce(place, How::None);
         }
         Ok(())
-    }
-
-    /// Takes the mode after a record. The only error is a lack of memory.
-    pub fn stand(&mut self, place: Place, mode: Option<LcMode>) -> Result<(), AllocError>
-        ensures { OnOk result (self.new ≡ stood place mode self.old) }
-    {
-        self.take_mode(place, mode)?;
-        self.take_none(place, mode)
     }
 }

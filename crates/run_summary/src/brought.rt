@@ -1,13 +1,11 @@
 //! What a record brings, as far as a page shows it.
 
-ghost use Rattle.std.specs.Prelude.{◌≡◌, ◌≤◌, length, take};
-ghost use Rattle.lc_model.specs.Host.Stream.{header_size};
-ghost use Rattle.lc_model.specs.Name.{name_in};
-ghost use Rattle.run_summary.specs.Brought.{body_brings, brings, brings_of, half_brings, is_uplink, name_in_front, packet_brings};
+ghost use Rattle.std.specs.Prelude.{◌≡◌};
+ghost use Rattle.run_summary.specs.Account.{is_asked};
+ghost use Rattle.run_summary.specs.Brought.{body_brings, brings, brings_of, is_uplink, packet_brings};
 
-use lc_model::packet::{function_code, message_id};
-use lc_model::stream::{HALF, HEADER, NAME};
-use lc_model::{mids, name_in, u16_at};
+use lc_model::packet::message_id;
+use lc_model::stream::HEADER;
 
 /// What a record brings.
 #[derive(Clone, Copy)]
@@ -16,12 +14,8 @@ pub(crate) enum Brought<'a> {
     Telemetry(&'a [u8]),
     Tick,
     Command,
-    /// A command that loads the table file of this name.
-    Load(&'a [u8]),
-    /// A raw file, by its name.
-    File(&'a [u8]),
-    /// The compiled half of a rule text, by its name and the text's number.
-    Half(&'a [u8], u16),
+    /// A raw file, or the compiled half of a rule text.
+    File,
 }
 
 impl Brought<'_> {
@@ -33,21 +27,9 @@ impl Brought<'_> {
             Brought::Telemetry(_) => false,
             Brought::Tick => false,
             Brought::Command => true,
-            Brought::Load(_) => true,
-            Brought::File(_) => true,
-            Brought::Half(..) => true,
+            Brought::File => true,
         }
     }
-}
-
-/// The name in the field at the front, or in all bytes if there are fewer.
-fn name_in_front(bytes: &[u8]) -> &[u8]
-    ensures { result.now ≡ name_in_front bytes.now }
-{
-    if bytes.len() < NAME {
-        return name_in(bytes);
-    }
-    name_in(&bytes[..NAME])
 }
 
 /// What a packet brings.
@@ -57,20 +39,7 @@ fn packet_brought(packet: &[u8]) -> Brought<'_>
     if packet.len() < 8 || message_id(packet) / 4096 % 2 != 1 {
         return Brought::Telemetry(packet);
     }
-    if message_id(packet) == mids::TABLE_SERVICES && function_code(packet) == 1 {
-        return Brought::Load(name_in_front(packet.split_at(8).1));
-    }
     Brought::Command
-}
-
-/// The half of a rule text in a record's body.
-fn half_brought(body: &[u8]) -> Brought<'_>
-    ensures { brings_of result ≡ half_brings body.now }
-{
-    if body.len() < HALF {
-        return Brought::File(name_in_front(body));
-    }
-    Brought::Half(name_in_front(body), u16_at(body, 41))
 }
 
 /// What a record of this kind with this body brings.
@@ -79,8 +48,8 @@ fn body_brought(kind: u8, body: &[u8]) -> Brought<'_>
 {
     match kind {
         2 => Brought::Tick,
-        3 => Brought::File(name_in_front(body)),
-        4 => half_brought(body),
+        3 => Brought::File,
+        4 => Brought::File,
         _ => packet_brought(body),
     }
 }
@@ -93,4 +62,12 @@ pub(crate) fn read_record(bytes: &[u8]) -> Brought<'_>
         return Brought::Telemetry(&[]);
     }
     body_brought(bytes[0], bytes.split_at(HEADER).1)
+}
+
+/// Whether `Account::show` has to be called at the record with these bytes, which led to these packets: it brings a command, a file or a
+/// half of a rule text, or led to packets.
+pub fn is_asked(bytes: &[u8], packets: &[u8]) -> bool
+    ensures { result ≡ is_asked bytes.now packets.now }
+{
+    read_record(bytes).is_uplink() || !packets.is_empty()
 }

@@ -76,9 +76,7 @@ impl Figures {
             Brought::Telemetry(_) => count(&mut self.telemetry),
             Brought::Tick => count(&mut self.ticks),
             Brought::Command => count(&mut self.commands),
-            Brought::Load(_) => count(&mut self.commands),
-            Brought::File(_) => count(&mut self.files),
-            Brought::Half(..) => count(&mut self.files),
+            Brought::File => count(&mut self.files),
         }
     }
 

@@ -9,6 +9,7 @@ mod bands;
 mod brought;
 mod ends;
 mod figures;
+mod holds;
 pub mod laws;
 mod packets;
 mod place;
@@ -22,8 +23,10 @@ mod values;
 
 pub use account::Account;
 pub use bands::{Bands, How, ModeFrom, TablesFrom};
+pub use brought::is_asked;
 pub use ends::{Ends, Left};
 pub use figures::Figures;
+pub use holds::{Hold, TypesOn};
 pub use place::{ABSENT, Place, Stand, result_bit, stand_in, state_bit};
 pub use plans::Part;
 pub use samples::{Sample, verdict};

@@ -2,15 +2,16 @@
 
 ghost use Rattle.std.specs.Prelude.{◌≡◌, IfOk, OnOk, Some};
 ghost use Rattle.packet_listing.specs.Told.{told_of};
-ghost use Rattle.run_summary.specs.Account.{account_of, asked, count_of, enforced_so, in_force_by, read, read_by, rule_asking, said, told_by, written};
+ghost use Rattle.run_summary.specs.Account.{account_of, adopted_if, asked, count_of, hold_by, housekept, in_force_by, read, read_by, rule_asking, said, told_by, written};
 
 use crate::about::{is, rule_of};
 use crate::account::Account;
 use crate::asking::{Around, asking, behind_rule, count_samples, row_asked};
 use crate::bands::How;
 use crate::figures::count;
+use crate::holds::{Hold, hold_of};
 use crate::place::{Place, Stand};
-use crate::seen::forget_all;
+use crate::plans::planned_at;
 use crate::sent::{Request, SeenEvent};
 use lc_model::packet::{COUNT_END, first_packet};
 use lc_model::u16_at;
@@ -43,6 +44,19 @@ impl<'a> Account<'a> {
         asking(around, self.lanes, from, sequence)
     }
 
+    /// What holds back the event of a rule if it doesn't come, if the rule is known.
+    fn hold_by(&self, rule: Option<usize>) -> Option<Hold>
+        ensures { result ≡ hold_by rule (account_of self.now) }
+    {
+        match rule {
+            None => None,
+            Some(rule) => {
+                let text = self.bands.text();
+                hold_of(planned_at(self.plans.as_slice(), text, rule), self.types)
+            }
+        }
+    }
+
     /// Takes a request. Returns the number from which the rule of the next request is searched. The only error is a lack of memory.
     fn request(
         &mut self,
@@ -58,6 +72,7 @@ impl<'a> Account<'a> {
     {
         let rule = self.rule_asking(from, sequence, stands);
         let text = self.bands.text();
+        let hold = self.hold_by(rule);
         let row = row_asked(self.rows.as_slice(), rule);
         let (counted, samples) = count_samples(self.alloc, row, text, &mut self.sending)?;
         count(&mut self.figures.requests);
@@ -69,19 +84,11 @@ impl<'a> Account<'a> {
             sequence,
             count: count_of(packet),
             event: None,
+            hold,
             counted,
             samples,
         })?;
         Ok(behind_rule(rule, from))
-    }
-
-    /// Takes that tables came into force, and clears what comparisons meet.
-    fn enforce(&mut self, place: Place, how: How) -> Result<(), AllocError>
-        ensures { OnOk result (account_of self.new ≡
-            enforced_so place how (account_of self.old)) }
-    {
-        forget_all(&mut self.seen);
-        self.bands.enforce(place, how)
     }
 
     /// Takes the tables in force from an event with this sender, id and text, if it reports any.
@@ -139,6 +146,26 @@ impl<'a> Account<'a> {
         self.tell_event(place, event)
     }
 
+    /// Takes that tables were adopted, if `is_adoption`. The only error is a lack of memory.
+    fn adopt_if(&mut self, place: Place, is_adoption: bool) -> Result<(), AllocError>
+        ensures { OnOk result (account_of self.new ≡
+            adopted_if is_adoption place (account_of self.old)) }
+    {
+        if is_adoption {
+            return self.enforce(place, How::Adopted);
+        }
+        Ok(())
+    }
+
+    /// Takes a housekeeping packet, with which every adoption ends. The only error is a lack of memory.
+    fn housekeep(&mut self, place: Place) -> Result<(), AllocError>
+        ensures { OnOk result (account_of self.new ≡ housekept place (account_of self.old)) }
+    {
+        count(&mut self.figures.housekeeping);
+        let has_changed = self.bands.has_changed();
+        self.adopt_if(place, has_changed)
+    }
+
     /// Takes the content of a packet.
     fn add_sent(
         &mut self,
@@ -159,7 +186,7 @@ impl<'a> Account<'a> {
                 Ok(from)
             }
             Sent::Housekeeping { .. } => {
-                count(&mut self.figures.housekeeping);
+                self.housekeep(place)?;
                 Ok(from)
             }
         }

@@ -7,7 +7,7 @@ ghost use Rattle.rpn_compiler.specs.TextParts.{items_in};
 ghost use Rattle.run_summary.specs.Texts.{compared_of, comparison_of, part_in, planned_of, text_planned, texts_planned};
 
 use crate::texts::{Field, comparisons_of, field_by_name, place_of};
-use lc_model::CmpOp;
+use lc_model::{CmpOp, EventKind};
 use rpn_compiler::RuleText;
 use rule_parser::{Comparison, Item, RuleItem};
 use std::alloc::{AllocError, Global};
@@ -26,10 +26,11 @@ pub struct Part {
     pub at: usize,
 }
 
-/// A rule: the sequence that it requests, and its comparisons from left to right.
+/// A rule: the sequence that it requests, the type of its event, and its comparisons from left to right.
 #[derive(Drop)]
 pub(crate) struct RulePlan {
     sequence: i64,
+    kind: EventKind,
     parts: Vec<Part>,
 }
 
@@ -38,7 +39,7 @@ impl Model for RulePlan {
 
     ghost Value = { Planned };
 
-    ghost view = { λ p. record { sequence = p.sequence; parts = p.parts.items } };
+    ghost view = { λ p. record { sequence = p.sequence; kind = p.kind; parts = p.parts.items } };
 }
 
 /// The rules of a text.
@@ -63,6 +64,13 @@ impl RulePlan {
         self.parts.as_slice()
     }
 
+    /// The type of its event.
+    pub(crate) fn kind(&self) -> EventKind
+        ensures { result ≡ self.now.kind }
+    {
+        self.kind
+    }
+
     /// Whether the rule requests this sequence.
     fn requests(&self, sequence: u16) -> bool
         ensures { result ≡ may_by sequence (Some self.now) }
@@ -81,12 +89,12 @@ impl RulePlans {
 }
 
 /// The rule of this number in the text of this number.
-fn planned_at(plans: &[RulePlans], text: Option<u16>, rule: usize) -> Option<&RulePlan>
+pub(crate) fn planned_at(plans: &[RulePlans], text: Option<usize>, rule: usize) -> Option<&RulePlan>
     ensures { option_map (λ rule. rule.now) result ≡ planned_at plans.now text rule }
 {
     match text {
         None => None,
-        Some(text) => match plans.get(usize::from(text)) {
+        Some(text) => match plans.get(text) {
             None => None,
             Some(plan) => plan.rule(rule),
         },
@@ -94,7 +102,7 @@ fn planned_at(plans: &[RulePlans], text: Option<u16>, rule: usize) -> Option<&Ru
 }
 
 /// The comparisons of the rule of this number in the text of this number.
-pub(crate) fn parts_at(plans: &[RulePlans], text: Option<u16>, rule: usize) -> &[Part]
+pub(crate) fn parts_at(plans: &[RulePlans], text: Option<usize>, rule: usize) -> &[Part]
     ensures { result.now ≡ parts_by (planned_at plans.now text rule) }
 {
     match planned_at(plans, text, rule) {
@@ -106,7 +114,7 @@ pub(crate) fn parts_at(plans: &[RulePlans], text: Option<u16>, rule: usize) -> &
 /// Whether the rule with this number in the text with this number may have requested a sequence; true if the rule isn't known.
 pub(crate) fn may_request(
     plans: &[RulePlans],
-    text: Option<u16>,
+    text: Option<usize>,
     rule: usize,
     sequence: u16,
 ) -> bool
@@ -179,6 +187,7 @@ fn rule_plan(
 {
     Ok(RulePlan {
         sequence: rule.sequence.value,
+        kind: rule.event_kind,
         parts: parts_of(alloc, text, rule, fields)?,
     })
 }

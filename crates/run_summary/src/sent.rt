@@ -3,9 +3,10 @@
 ghost use Rattle.std.specs.Prelude.{◌≡◌, ◌+◌, ◌-◌, ◌^◌, IfOk, OnOk, Some, length, map, min, nat_le, option_map};
 ghost use Rattle.run_summary.specs.Ends.{kept};
 ghost use Rattle.run_summary.specs.Samples.{Sampled};
-ghost use Rattle.run_summary.specs.Sent.{Requested, Said, before_newest, hears, is_own, is_rule, most_parts, nothing_sent, parts_in, parts_with, requested_more, said_more};
+ghost use Rattle.run_summary.specs.Sent.{Requested, Said, before_newest, hears, hold_told, is_own, is_rule, most_parts, nothing_sent, parts_in, parts_with, requested_more, said_more};
 
 use crate::ends::Ends;
+use crate::holds::{Hold, hold_unless};
 use crate::place::{Place, is_place};
 use crate::samples::Sample;
 use lc_model::EventKind;
@@ -33,13 +34,14 @@ pub struct Request {
     /// The number of the rule that made it, if it is known.
     pub rule: Option<usize>,
     /// The number of the text in force, if it is known.
-    pub text: Option<u16>,
+    pub text: Option<usize>,
     /// The number of the requested sequence.
     pub sequence: u16,
     /// The sequence count of its packet.
     pub count: u16,
     /// The packet number of the rule's event after it, if one came.
     pub event: Option<u64>,
+    pub(crate) hold: Option<Hold>,
     /// The number of samples that counted for it.
     pub counted: u16,
     /// The first three and the last three of these samples, or none.
@@ -59,6 +61,7 @@ impl Model for Request {
       sequence = r.sequence;
       count = r.count;
       event = r.event;
+      hold = r.hold;
       counted = r.counted;
       samples = r.samples.items;
     } };
@@ -113,6 +116,13 @@ fn is_rule(one: Option<usize>, other: Option<usize>) -> bool
 }
 
 impl Request {
+    /// What held back the rule's event; `None` if it came, or if the rule isn't known.
+    pub fn hold(&self) -> Option<Hold>
+        ensures { result ≡ hold_told self.now }
+    {
+        hold_unless(self.event, self.hold)
+    }
+
     /// Whether an event is the request's own.
     fn is_own(&self, event: &SeenEvent) -> bool
         ensures { result ≡ is_own event.now self.now }

@@ -25,7 +25,7 @@ pub struct Uplink {
     /// Its place.
     pub place: Place,
     /// The number of the text in force when it came, if it is known.
-    pub text: Option<u16>,
+    pub text: Option<usize>,
     /// All its bytes; empty if they are more than a command has (2,059).
     pub bytes: Vec<u8>,
     /// What a listing says of it, from its kind on.
@@ -89,7 +89,7 @@ impl Uplink {
     fn new(
         alloc: Global,
         place: Place,
-        text: Option<u16>,
+        text: Option<usize>,
         bytes: &[u8],
     ) -> Result<Uplink, AllocError>
         ensures { IfOk result (λ uplink. uplink ≡ uplink_of place text bytes.now) }
@@ -116,7 +116,7 @@ pub(crate) fn keep_uplink(
     alloc: Global,
     uplinks: &mut Ends<Uplink>,
     place: Place,
-    text: Option<u16>,
+    text: Option<usize>,
     bytes: &[u8],
 ) -> Result<(), AllocError>
     ensures { OnOk result (uplinks.new ≡

@@ -13,7 +13,7 @@ returns-clause-nothing c sources are =
       texts,
       nothing.items,
       nothing.are_read,
-      record {
+      λ pairs. record {
         first = c.new-3.ensures;
         small = omega (arith, c.new-3.ensures);
         lists_tell = nothing_yet texts (account_of c.in_ok-account.account) c.in_ok-lists.lists c.in_ok-account.account.lanes c.len.result

@@ -1,4 +1,4 @@
-use Rattle.std.proofs.Common.{◌≡◌, ◌∙◌, sym, subst, ap, pos, ◌-ℤ◌, List, map}
+use Rattle.std.proofs.Common.{◌≡◌, ◌∙◌, refl, sym, subst, ap, pos, ◌-ℤ◌, List, map}
 use Rattle.run_stepper.specs.Stepping.{engine_among, host_in}
 use Rattle.run_summary.specs.declared.place.Stand.{Stand}
 use Rattle.run_summary.specs.declared.seen.Seen.{Seen}
@@ -18,13 +18,13 @@ returns-clause-told c = λ fields lanes values known tells kept.
       «record» = c.next-place.ensures.number i;
       time = (c.next-place.ensures.time ∙ ap (λ ticks. pos ticks -ℤ pos c.next-place.new.self.start) c.ticks_in.ensures.ticks) i;
     } in
-    let place : c.next-place.result ≡ place_of c.take_behind.new.self.clock.start c.args.number c.args.record.now =
-    here ∙ ap (λ (clock : Clock). place_of clock.start c.args.number c.args.record.now) (sym c.take_behind.ensures.clock) in
-    told_and_kept c.fields_that_come.ensures c.take_behind.result c.args.record.now c.args.number (account_of c.args.self.now.account) (account_of c.add_record.new.self)
-    c.look.new.self c.take_behind.new.self.behind c.next-place.result (place_of c.take_behind.new.self.clock.start c.args.number c.args.record.now)
-    (stands_of (engine_among (host_in c.args.stepping.now).host.seats)) c.take_behind.new.self.lists fields lanes values
-    c.in_ok-add_record.ensures c.next-place.ensures.number known c.take_behind.ensures.behind place c.in_ok-is_new.ensures.rules
-    (c.take_behind.ensures.told lanes (values_more c.next-place.result (map (come_in c.next-place.result) (account_of c.add_record.new.self).seen) values)
+    let place : c.next-place.result ≡ place_of c.take_shown.new.self.clock.start c.args.number c.args.record.now =
+    here ∙ ap (λ (clock : Clock). place_of clock.start c.args.number c.args.record.now) (sym c.take_shown.ensures.clock) in
+    told_and_kept c.fields_that_come.ensures c.take_shown.result c.args.record.now c.args.number (account_of c.args.self.now.account) (account_of c.add_record.new.self)
+    c.look.new.self c.take_shown.new.self.behind c.next-place.result (place_of c.take_shown.new.self.clock.start c.args.number c.args.record.now)
+    (stands_of (engine_among (host_in c.args.stepping.now).host.seats)) c.take_shown.new.self.lists fields lanes values
+    c.in_ok-add_record.ensures c.next-place.ensures.number known c.take_shown.ensures.behind place c.in_ok-is_new.ensures.rules
+    (c.take_shown.ensures.told lanes (values_more c.next-place.result (map (come_in c.next-place.result) (account_of c.add_record.new.self).seen) values)
     (subst (λ (seen : List Seen). ListsTell c.tell_values.new.lists lanes (values_more c.next-place.result (map (come_in c.next-place.result) seen) values))
     c.as_slice.ensures.value (c.in_ok-tell_values.ensures lanes values tells))
     (λ same. subst (λ (rules : List Stand). SaidLast c.next-place.result 0 rules lanes) (sym (c.in_ok-is_new.ensures.same same))
@@ -36,14 +36,14 @@ returns-clause-account c = λ stood.
       «record» = c.next-place.ensures.number i;
       time = (c.next-place.ensures.time ∙ ap (λ ticks. pos ticks -ℤ pos c.next-place.new.self.start) c.ticks_in.ensures.ticks) i;
     } in
-    let place : c.next-place.result ≡ place_of c.take_behind.new.self.clock.start c.args.number c.args.record.now =
-    here ∙ ap (λ (clock : Clock). place_of clock.start c.args.number c.args.record.now) (sym c.take_behind.ensures.clock) in
-    on_ok_weaker c.take_behind.result
-    (λ led. record_taken c.rules_that_stand_as_before.ensures c.fields_that_come.ensures c.args.record.now (host_in c.args.stepping.now) c.packets.result.now (written_by c.args.stepping.now)
-    c.take_behind.new.self.clock.start c.args.number c.next-place.result c.look.new.self c.take_behind.new.self.behind
-    (account_of c.args.self.now.account) (account_of c.add_record.new.self) (account_of c.take_behind.new.self.account)
-    place c.in_ok-add_record.ensures c.in_ok-is_new.ensures.mode c.in_ok-is_new.ensures.rules c.packets.ensures c.take_behind.ensures.behind led)
-    (c.take_behind.ensures.account
+    let place : c.next-place.result ≡ place_of c.take_shown.new.self.clock.start c.args.number c.args.record.now =
+    here ∙ ap (λ (clock : Clock). place_of clock.start c.args.number c.args.record.now) (sym c.take_shown.ensures.clock) in
+    on_ok_weaker c.take_shown.result
+    (λ led. record_taken c.rules_that_stand_as_before.ensures c.fields_that_come.ensures c.args.pairs.now c.args.record.now (host_in c.args.stepping.now) (written_by c.args.stepping.now) (written_by c.args.stepping.now)
+    c.take_shown.new.self.clock.start c.args.number c.next-place.result c.look.new.self c.take_shown.new.self.behind
+    (account_of c.args.self.now.account) (account_of c.add_record.new.self) (account_of c.take_shown.new.self.account)
+    place c.in_ok-add_record.ensures c.in_ok-is_new.ensures.mode c.in_ok-is_new.ensures.rules refl c.take_shown.ensures.behind led)
+    (c.take_shown.ensures.account
     (λ same. still_stands c.rules_that_stand_as_before.ensures c.args.record.now c.next-place.result c.args.self.now.behind c.look.new.self
     (account_of c.args.self.now.account) (account_of c.add_record.new.self) c.in_ok-add_record.ensures (c.in_ok-is_new.ensures.same same)
     (stood (c.in_ok-is_new.ensures.looked same))))

@@ -1,6 +1,7 @@
 use Rattle.std.proofs.Common.{◌∙◌, ap, map, rules}
 use Rattle.rpn_compiler.specs.TextParts.{items_in}
 use Rattle.run_summary.specs.Fields.{unseen}
+use Rattle.run_summary.specs.Holds.{all_on}
 use Rattle.run_summary.proofs.Read.{have_items}
 use Rattle.run_summary.proofs.account.Account.new.Goals as goal
 
@@ -26,6 +27,7 @@ returns c sources are = record {
     rows = c.in_ok-rows.ensures i;
     before = c.in_ok-before.ensures i;
     bands = c.new.ensures i;
+    types = all_on;
     sending = c.new-2.ensures i;
     uplinks = c.new-3.ensures i;
     figures = c.new-4.ensures i;
