@@ -9,7 +9,14 @@ function make(tag, className, text, attributes = {}) {
   return element;
 }
 
-// A button with a name for who can't see it, which is its tip as well.
+// With names that may break after each _, / and ., and after each sixteen letters of longer words.
+function makeBroken(tag, className, text, attributes) {
+  const element = make(tag, className, undefined, attributes);
+  element.append(...text.split(/(?<=[_/.])(?=\w)|(?<=\w{16})(?=\w)/).flatMap(part => [part, make('wbr')]).slice(0, -1));
+  return element;
+}
+
+// A button with a name for a person who can't see it, which is its tip as well.
 function makeButton(className, text, name, click) {
   const button = make('button', className, text, { type: 'button', 'aria-label': name, title: name, tabindex: -1 });
   button.addEventListener('click', click);
@@ -23,6 +30,9 @@ function widthOf(text, size, weight = 400) {
   pen.font = `${weight} ${size}px ${family}`;
   return pen.measureText(text).width;
 }
+
+// The first of some texts that there is room for.
+const fitting = (texts, room, size, weight) => texts.find(text => widthOf(text, size, weight) <= room) ?? '';
 
 // Within a track the arrows go from button to button, by their places, and at the window's edge they move it.
 // The track is one stop of the tab key.
@@ -38,6 +48,22 @@ function walkable(track) {
     const next = buttons[Math.max(0, Math.min(buttons.length - 1, now + step))];
     setStop(track, next);
     next.focus({ preventScroll: true });
+  });
+}
+
+// A tap on a track opens what is below it, with what is near it and too narrow to be hit alone.
+const TARGET = 24; // px
+
+function tappable(track, open) {
+  track.addEventListener('click', event => {
+    if (!event.detail || event.target.closest('.mark') || !track.drawn) return;
+    const box = track.getBoundingClientRect();
+    const [x, y] = [event.clientX - box.left, event.clientY - box.top];
+    const near = track.drawn.filter(({ left, right, top }) => {
+      const room = right - left < TARGET ? TARGET / 2 : 0;
+      return left - room <= x && x <= right + room && (top === undefined || Math.abs(top - y) <= TARGET / 2);
+    });
+    if (near.length) open(near);
   });
 }
 

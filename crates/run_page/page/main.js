@@ -1,15 +1,24 @@
 // The page put together.
-const LEVELS = ['critical', 'error', 'info', 'debug'];
-
 function figure(name, value, more) {
   const box = make('div', '', name);
-  box.append(make('b', '', value), make('small', '', more));
+  box.append(make('b', '', value.toLocaleString('en')), make('small', '', more));
   return box;
+}
+
+// Which part of the run the page has.
+function tellPart() {
+  if (!run.window) return;
+  const { from, until, records, packets } = run.window;
+  const bounds = [from === null ? 'from the start' : `from second ${decimal(from)}`, until === null ? 'to the end' : `until second ${decimal(until)}`];
+  const which = run.figures.records ? `records ${FIRST} to ${END.record - 1}` : 'no record';
+  byId('part').textContent = `This page is a part of the run, ${bounds.join(' ')}: ${which}. `
+    + `${counted(records, 'record')} and ${counted(packets, 'packet')} before it are not on this page.`;
+  byId('part').hidden = false;
 }
 
 function tellFigures() {
   const all = run.figures;
-  const ended = run.ended.whole ? 'The stream ended behind a whole record' : 'The stream is cut short';
+  const ended = run.ended.whole ? 'The stream ended after a whole record' : 'The stream is cut short';
   const seconds = all.records ? ` Seconds ${secondOf(0)} to ${secondOf(run.end)}${run.epoch ? `, ${instantOf(0)} to ${instantOf(run.end)}` : ''}.` : '';
   byId('ended').textContent = `Ended with status ${run.ended.status}: ${run.ended.says}. ${ended}.${seconds}`
     + (run.ordered ? '' : ' Times go back in this stream, so the axis has its records.');
@@ -27,8 +36,8 @@ function tellFiles() {
   for (const file of run.files) {
     const row = make('tr');
     const sum = make('td');
-    sum.append(make('code', '', file.sha256));
-    row.append(make('td', 'word', file.role), make('td', '', file.name), make('td', 'number', file.bytes), sum);
+    sum.append(makeBroken('code', '', file.sha256));
+    row.append(make('td', '', file.role), makeBroken('td', '', file.name), make('td', 'number', file.bytes), sum);
     byId('file_rows').append(row);
   }
 }
@@ -54,33 +63,32 @@ function listenToControls() {
 function beforePrint() {
   document.body.classList.add('printing');
   if (drawn < found.length) drawRows(found.length);
-  byId('panel').replaceChildren(...run.requests.map(whyOf));
+  byId('reasons').replaceChildren(...run.requests.map(request => {
+    const article = whyOf(request);
+    article.prepend(make('h3', '', `Why sequence ${request.sequence}?`));
+    return article;
+  }));
   draw();
 }
 
 function afterPrint() {
   document.body.classList.remove('printing');
-  showFirst();
+  byId('reasons').replaceChildren();
   draw();
-}
-
-function showFirst() {
-  if (run.requests.length) showRequest(run.requests[0]);
-  else showText('Why', 'No sequence was requested.');
 }
 
 function start() {
   document.body.classList.toggle('no_epoch', run.epoch === null);
-  if (matchMedia('(max-width: 600px)').matches) byId('legend').open = false;
+  tellPart();
   tellFigures();
   tellFiles();
   fillUnits();
   makeLanes();
+  tellAnswers();
   fillFilters();
   [view.low, view.high] = wholeRun();
   find();
   draw();
-  showFirst();
   listenToControls();
   addEventListener('beforeprint', beforePrint);
   addEventListener('afterprint', afterPrint);

@@ -43,7 +43,7 @@ def expect_gap_to_scale(look):
 def expect_bands(look):
     """Which text was in force when, and why, of tables that are exchanged in flight."""
     look.show()
-    names = look.ask("[...document.querySelectorAll('.cell.band')].map(each => each.getAttribute('aria-label'))")
+    names = look.ask("[...document.querySelectorAll('#lanes .cell.band')].map(each => each.getAttribute('aria-label'))")
     look.expect(sum("text 0 (rules_0.txt)" in name for name in names) == 2 and sum("text 1" in name for name in names) == 1, f"bands: {names}")
     look.do("openLane(lanes[0], true)")
     expect_commands(look)
@@ -57,9 +57,9 @@ def expect_commands(look):
     """Each command is a mark that says its first word, and its words where it is opened; a rule has its name in the text in force."""
     says = look.ask("run.commands.map(([, , says]) => says)")
     look.expect({"start LC", "mode passive", "state FAST_1 disabled", "half wdt 1 /cf/w.tbl"} <= set(says), f"commands: {says}")
-    marks = look.ask("[...document.querySelectorAll('.mark.command')].map(each => each.textContent)")
+    marks = look.ask("[...document.querySelectorAll('#lanes .mark.command')].map(each => each.textContent)")
     look.expect("◆ state" in marks, f"marks of commands: {marks}")
-    look.do("[...document.querySelectorAll('.mark.command')].find(each => each.textContent === '◆ state').click()")
+    look.do("[...document.querySelectorAll('#lanes .mark.command')].find(each => each.textContent === '◆ state').click()")
     look.expect("command state FAST_1 disabled" in look.ask("byId('panel').textContent"), "a command's mark doesn't say its words")
 
 
@@ -86,7 +86,7 @@ def expect_plain_texts(look):
     look.show()
     look.expect(look.ask("document.querySelectorAll('#rows b, #panel b').length === 0"), "a text is taken for markup")
     look.expect("</script>" in look.ask("byId('rows').textContent + byId('panel').textContent"), "a text isn't told whole")
-    names = look.ask("[...document.querySelectorAll('.cell.band')].map(each => each.getAttribute('aria-label')).join()")
+    names = look.ask("[...document.querySelectorAll('#lanes .cell.band')].map(each => each.getAttribute('aria-label')).join()")
     look.expect("tables of no text" in names and "no Limit Checker" in names, f"bands: {names}")
 
 

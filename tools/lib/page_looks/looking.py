@@ -2,7 +2,7 @@
 
 import os
 
-SIZES = [(1400, 1000), (800, 1000), (420, 900)]
+SIZES = [(1400, 1000), (800, 1000), (360, 740)]
 HERE = os.path.dirname(os.path.abspath(__file__))
 
 
@@ -41,6 +41,10 @@ class Look:
         for fault in self.ask("looks.all()")[:6]:
             self.fault(f"{what}: {fault}")
 
+    def expect_none(self, script):
+        for fault in self.ask(script):
+            self.fault(fault)
+
     def close(self):
         for line in self.browser.said:
             self.fault(f"the console says: {line}")
@@ -62,6 +66,7 @@ def look_at(browser, path, folder):
         for dark in [False, True]:
             look.show(width, height, dark)
             look.check("first")
+            look.expect_none("looks.first()")
             look.picture(f"{width}_{'dark' if dark else 'light'}")
             open_some(look)
             look.check("opened")
@@ -94,7 +99,7 @@ def look_at_paper(look):
     look.check("print")
     look.expect(look.ask("lanes.every(lane => lane.row.hidden || !lane.spans.length || lane.track.querySelector('.cell'))"), "a lane isn't drawn")
     look.expect(look.ask("byId('rows').children.length === sent.length"), "rows are missing")
-    look.expect(look.ask("byId('panel').querySelectorAll('article').length === run.requests.length"), "reasons are missing")
+    look.expect(look.ask("byId('reasons').querySelectorAll('article').length === run.requests.length"), "reasons are missing")
     look.expect(look.ask("document.body.getBoundingClientRect().right <= 1047"), "wider than the paper")
     look.expect(look.ask("run.files.every(file => document.querySelector('#files').innerText.includes(file.sha256))"), "a file's SHA-256 is missing")
     small = "[...document.querySelectorAll('.track *, td, p')].filter(each => each.textContent).map(each => parseFloat(getComputedStyle(each).fontSize))"

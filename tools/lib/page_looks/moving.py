@@ -83,7 +83,7 @@ def moves(look):
 
 def fingers(look):
     """On a phone: one finger moves, two zoom, and what was below them stays."""
-    look.show(420, 900)
+    look.show(360, 740)
     look.do("zoom(0.3)")
     low, high = window(look)
     x, y, left, width = centre(look, "#lanes .row[role=group] .track")
@@ -128,7 +128,7 @@ def spans_by_keys(look, most=5):
     if not look.ask("lanes.some(lane => lane.spans.length)"):
         return
     beyond_the_window(look)
-    look.do("byId('words').focus()")
+    look.do("byId('unit').focus()")
     for _ in range(60):
         look.browser.key("Tab", 9)
         if look.ask("document.activeElement.closest('.track') && document.activeElement.closest('[role=group]') !== null"):
@@ -159,6 +159,7 @@ def filters(look):
     rules = look.ask("lanes.map(lane => nameOf(lane.rule))")
     if not rules:
         return
+    look.do("byId('finder').open = true")
     last = rules[-1]
     look.browser.click(*centre(look, "#words")[:2])
     look.browser.call("Input.insertText", text=last)
@@ -197,7 +198,7 @@ def links(look):
     look.expect(look.ask("lanes[run.requests.at(-1).rule].plots !== null"), "a row's link doesn't open its lane")
     look.expect(look.ask("byId('panel').textContent.includes('Why sequence ' + run.requests.at(-1).sequence)"), "a row's link doesn't say why")
     look.check("linked")
-    look.do("byId('panel').querySelector('button').click()")
+    look.do("[...byId('panel').querySelectorAll('button')].at(-1).click()")
     look.expect(look.ask(f"document.activeElement.closest('tr')?.dataset.packet === '{packet}'"), "the panel's link doesn't come to the row")
     lane = look.ask("run.requests.at(-1).rule")
     look.do(f"lanes[{lane}].track.querySelector('.mark.request').click()")
