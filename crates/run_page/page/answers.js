@@ -68,8 +68,8 @@ function answerOf(group) {
   const times = requests.length === 1 ? '' : `; ${counted(requests.length, 'time')}${run.requests_left_out ? ' at least' : ''}, last ${sinceStart(requests.at(-1).time)} s`;
   const list = make('dl');
   const why = rule ? valuesOf(first, rule).slice(0, 4).join(', ') : '';
-  list.append(term('when', `${when(first)}${times}`));
-  if (rule) list.append(term('why', make('span', '', `${why}${why && '; '}fails when `), make('code', '', short(rule.condition, 110))));
+  list.append(term('when', makeBroken('span', '', `${when(first)}${times}`)));
+  if (rule) list.append(term('why', makeBroken('span', '', `${why}${why && '; '}fails when `), make('code', '', short(rule.condition, 110))));
   list.append(term('is it over', sentence));
   item.append(title, list);
   return item;

@@ -9,10 +9,12 @@ function make(tag, className, text, attributes = {}) {
   return element;
 }
 
-// With names that may break after each _, / and ., and after each sixteen letters of longer words.
+// With names that may break after each _, / and ., and after each sixteen letters of longer words; an instant doesn't break.
 function makeBroken(tag, className, text, attributes) {
   const element = make(tag, className, undefined, attributes);
-  element.append(...text.split(/(?<=[_/.])(?=\w)|(?<=\w{16})(?=\w)/).flatMap(part => [part, make('wbr')]).slice(0, -1));
+  const instant = /(\d{4}-\d\d-\d\dT[\d:.]+Z)/;
+  element.append(...text.split(instant).flatMap((part, index) => (index % 2 ? [make('span', 'whole', part)]
+    : part.split(/(?<=[_/.])(?=\w)|(?<=\w{16})(?=\w)/).flatMap(piece => [make('wbr'), piece]).slice(1))));
   return element;
 }
 

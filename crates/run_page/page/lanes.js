@@ -1,6 +1,7 @@
 // Lanes: a row for each rule with the spans of its result and state, and rows for the tables, the mode, and marks alone.
 const LEAST = 4; // px: what is narrower is drawn together with its neighbours
 const CELL_WORDS = { fail: 'FAIL', error: 'error', stale: 'stale', pass: 'pass', none: 'none', absent: '' };
+const LETTERS = { fail: ['F'], error: ['E'], stale: ['S'] };
 const lanes = [];
 const markRows = {};
 
@@ -51,7 +52,7 @@ function place(element, cell, width) {
 function cellTexts(cell, worst, state) {
   const word = CELL_WORDS[worst];
   if (cell.pause) return [`${cell.pause}, was ${word}`, cell.pause, { 'LC disabled': 'LC off', 'off for good': 'off' }[cell.pause] ?? 'D'];
-  return state === 'passive' && word ? [`${word}, passive`, `${word} P`, word] : [word];
+  return [...(state === 'passive' && word ? [`${word}, passive`, `${word} P`] : []), word, ...(LETTERS[worst] ?? [])];
 }
 
 function openCell(lane, cell) {
@@ -132,7 +133,7 @@ function makeBand(label, parts, open) {
       return { ...part, left, right, name: `${label}: ${part.says}${open ? '' : ', ' + during(part)}` };
     });
     redraw(band.track, band.track.drawn.map(cell => {
-      const text = fitting(cell.texts, cell.right - cell.left - 10, 11, 600);
+      const text = fitting(cell.texts, cell.right - cell.left - 16, 11, 600);
       const element = makeButton(`cell band ${cell.look}`, '', cell.name, event => { if (!event.detail) show([cell]); });
       element.append(make('span', '', text));
       place(element, cell, width);

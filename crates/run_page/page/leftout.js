@@ -42,14 +42,22 @@ function showStretch(stretch, row) {
   const [low, high] = ['low', 'high'].map(end => view[end] * TICKS);
   const inside = view.unit !== 'record' && stretch.from.time < high && stretch.to.time > low;
   const part = inside ? [{ time: Math.max(low, stretch.from.time) }, { time: Math.min(high, stretch.to.time) }] : [stretch.from, stretch.to];
-  showAfter(row, `${stretch.kind} left out`, make('p', '', `${leftOutWords(stretch)}, between ${when(stretch.from)} and ${when(stretch.to)}. `
+  showAfter(row, `${stretch.kind} left out`, makeBroken('p', '', `${leftOutWords(stretch)}, between ${when(stretch.from)} and ${when(stretch.to)}. `
     + 'A page has the first and the last 300 requests and commands, and 1,000 events.'), ...moreAbout(...part));
 }
 
-// Hatched where something lies that the page leaves out.
+// Hatched where something of these kinds lies that the page leaves out; what overlaps is hatched once.
 function hatches(kinds, width) {
-  return stretches.filter(({ kind }) => kinds.includes(kind)).filter(({ from, to }) => shareOf(to) >= 0 && shareOf(from) <= 1).map(stretch => {
-    const [left, right] = [stretch.from, stretch.to].map(place => Math.max(0, Math.min(1, shareOf(place))));
+  const parts = [];
+  for (const { kind, from, to } of stretches) {
+    const last = parts.at(-1);
+    if (!kinds.includes(kind)) continue;
+    if (last && from.record <= last.to.record && last.from.record <= to.record) {
+      Object.assign(last, { from: from.record < last.from.record ? from : last.from, to: to.record > last.to.record ? to : last.to });
+    } else parts.push({ from, to });
+  }
+  return parts.filter(({ from, to }) => shareOf(to) >= 0 && shareOf(from) <= 1).map(({ from, to }) => {
+    const [left, right] = [from, to].map(place => Math.max(0, Math.min(1, shareOf(place))));
     const hatch = make('span', 'hatch', undefined, { 'aria-hidden': 'true' });
     hatch.style.left = left * 100 + '%';
     hatch.style.width = Math.max(2, (right - left) * width) / width * 100 + '%';

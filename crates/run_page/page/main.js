@@ -20,8 +20,9 @@ function tellFigures() {
   const all = run.figures;
   const ended = run.ended.whole ? 'The stream ended after a whole record' : 'The stream is cut short';
   const seconds = all.records ? ` Seconds ${secondOf(0)} to ${secondOf(run.end)}${run.epoch ? `, ${instantOf(0)} to ${instantOf(run.end)}` : ''}.` : '';
-  byId('ended').textContent = `Ended with status ${run.ended.status}: ${run.ended.says}. ${ended}.${seconds}`
+  const text = `Ended with status ${run.ended.status}: ${run.ended.says}. ${ended}.${seconds}`
     + (run.ordered ? '' : ' Times go back in this stream, so the axis has its records.');
+  byId('ended').append(...makeBroken('span', '', text).childNodes);
   byId('ended').classList.toggle('cut', run.ended.status !== 0);
   const events = LEVELS.reduce((sum, level) => sum + all[level], 0);
   byId('figures').append(

@@ -41,7 +41,7 @@ function partsTable(rule, [, time, parts]) {
     const age = record === null ? 'no packet came' : `${decimal(time - since)} s, record ${record}`;
     const holds = { true: '✔ true', false: '✘ false' }[verdict] ?? verdict;
     const row = make('tr');
-    row.append(makeBroken('td', '', `${run.fields[field].name} ${operator} ${number}`),
+    row.append(makeBroken('td', '', `${run.fields[field].name} ${operator}\u00a0${number}`),
       make('td', 'number', record === null ? '–' : valueText(field, value)), make('td', '', age), make('td', 'holds', holds));
     table.append(row);
   });
@@ -52,7 +52,8 @@ function partsTable(rule, [, time, parts]) {
 function sampleHeading(request, index) {
   const shown = request.samples.length;
   const number = index < shown - Math.min(3, shown) ? index + 1 : request.counted - (shown - 1 - index);
-  return `Failed sample ${number} of ${request.counted}, ${at(placeOf(request.samples[index]))}`;
+  const [record, time] = request.samples[index];
+  return `Failed sample ${number} of ${request.counted}: ${sinceStart(time)} s, record ${record}`;
 }
 
 function eventWords(request, rule) {
@@ -68,12 +69,12 @@ function whyOf(request) {
   if (!rule) {
     const who = request.rule === null ? 'Which rule requested it is not known.' : `Rule ${request.rule} failed in ${counted(request.counted, 'sample')} in a row.`;
     const why = request.text === null ? 'The tables in force were of none of the texts, so its condition is not known.' : '';
-    article.append(make('p', '', place), make('p', '', `${who} ${why}`));
+    article.append(makeBroken('p', '', place), make('p', '', `${who} ${why}`));
     return article;
   }
   const row = request.counted === 1 ? '1 sample' : `${request.counted} samples in a row`;
   const needs = request.counted === rule.fails ? ', as many as it needs' : `; it needs ${rule.fails}`;
-  article.append(make('p', '', place), makeBroken('p', '', `${rule.name} (rule ${request.rule}) failed in ${row}${needs}. ${delayOf(request, rule)}`),
+  article.append(makeBroken('p', '', place), makeBroken('p', '', `${rule.name} (rule ${request.rule}) failed in ${row}${needs}. ${delayOf(request, rule)}`),
     conditionOf(rule), makeBroken('p', 'soft', `In ${textName(request.text)}. ${eventWords(request, rule)}`));
   const samples = make('div', 'samples');
   samples.append(...request.samples.map((sample, index) => {

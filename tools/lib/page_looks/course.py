@@ -85,6 +85,7 @@ class Course:
 
     def record(self, kind, says=None):
         """A record of this kind; `says` is what a command, a file or a half says."""
+        self.last = self.time
         if self.count == 0:
             self.first = self.time
         if self.begins_later and self.time >= self.window[0] * TICK:
@@ -245,7 +246,7 @@ class Course:
             "files": [file_of("rules", f"rules_{text}.txt") for text in range(len(self.texts))]
             + [file_of("schedule", "schedule.txt"), file_of("stream", "out/run.stream")],
             "figures": self.figures, "start": self.first if self.figures["records"] else 0,
-            "end": self.here[1] if self.figures["records"] else 0, "ordered": self.ordered, "epoch": self.epoch,
+            "end": self.last - self.first if self.figures["records"] else 0, "ordered": self.ordered, "epoch": self.epoch,
             "texts": [{"rules": [rule_of(rule, names) for rule in rules]} for rules in self.texts],
             "fields": [self.field_of(name) for name in self.used],
             "lanes": [lane.written() for lane in self.lanes], "tables": self.tables, "mode": self.modes,
