@@ -96,7 +96,7 @@ function quietFailures(groups) {
 function headline(groups) {
   if (!run.figures.records) return 'There is no record.';
   if (!run.figures.requests) return 'No sequence was requested.';
-  const who = `${run.requests_left_out ? 'at least ' : ''}${counted(groups.length, 'rule')}`;
+  const who = `${run.requests_left_out && groups.length < lanes.length ? 'at least ' : ''}${counted(groups.length, 'rule')}`;
   const still = groups.filter(({ ending }) => ending[0] === 'still').length;
   const open = groups.filter(({ ending }) => ending[0] === 'unknown').length;
   const over = groups.length - still - open;

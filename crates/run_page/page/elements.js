@@ -12,9 +12,10 @@ function make(tag, className, text, attributes = {}) {
 // With names that may break after each _, / and ., and after each sixteen letters of longer words; an instant doesn't break.
 function makeBroken(tag, className, text, attributes) {
   const element = make(tag, className, undefined, attributes);
-  const instant = /(\d{4}-\d\d-\d\dT[\d:.]+Z)/;
-  element.append(...text.split(instant).flatMap((part, index) => (index % 2 ? [make('span', 'whole', part)]
-    : part.split(/(?<=[_/.])(?=\w)|(?<=\w{16})(?=\w)/).flatMap(piece => [make('wbr'), piece]).slice(1))));
+  text.split(/(\d{4}-\d\d-\d\dT[\d:.]+Z)/).forEach((part, index) => {
+    const pieces = part.split(/(?<=[_/])(?=\w)|(?<=\.)(?=[A-Za-z])/).flatMap(piece => piece.split(/([A-Za-z0-9]{16})(?=[A-Za-z0-9])/)).filter(piece => piece);
+    element.append(...(index % 2 ? [make('span', 'whole', part)] : pieces.flatMap(piece => [make('wbr'), piece]).slice(1)));
+  });
   return element;
 }
 

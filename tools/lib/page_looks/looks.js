@@ -179,29 +179,45 @@ looks.overlap = () => {
       }
     });
   };
-  for (const track of document.querySelectorAll('.row:not([hidden]) .track')) pairs(looks.hit().length > 4000 ? [] : [...track.querySelectorAll('.mark, .cell:not(.slim)')]);
+  for (const track of document.querySelectorAll('.row:not([hidden]) .track')) pairs([...track.querySelectorAll('.mark, .cell:not(.slim)')]);
   const texts = 'header p, h1, h2, h3, h4, #answers p, #answers dt, #answers dd, #controls label, #controls p, #panel p, #panel td, #panel th, footer p, footer td, #figures div, .signs span, .name';
   pairs([...document.querySelectorAll(texts)].concat(looks.hit().filter(each => !each.closest('.track'))).filter(each => looks.isSeen(each) && !each.closest('#axis')));
   return [...new Set(faults)];
 };
 
-// No word is broken, and none says null.
+// The texts of an element that stand beside each other, with <wbr> between them at most.
+looks.runsOf = element => {
+  const runs = [];
+  let run = null;
+  for (const node of element.childNodes) {
+    if (node.nodeType === 3) {
+      if (!run) runs.push(run = { text: '', nodes: [] });
+      run.nodes.push([node, run.text.length]);
+      run.text += node.data;
+    } else if (node.nodeName !== 'WBR') run = null;
+  }
+  return runs;
+};
+
+looks.inRun = (run, offset, isStart) => {
+  const [node, begin] = run.nodes.findLast(([, start]) => (isStart ? start <= offset : start < offset));
+  return [node, offset - begin];
+};
+
+// No word is broken (one of over sixteen letters may be, after each sixteen), and none says null.
 looks.words = () => {
   const faults = new Set();
   const areas = [...document.querySelectorAll('header, #answers, #controls, #panel, .name, footer, #sent h2, #sent p')].concat([...document.querySelectorAll('#rows tr')].slice(0, 60));
   const range = document.createRange();
   for (const area of areas.filter(looks.isSeen)) {
-    const walker = document.createTreeWalker(area, NodeFilter.SHOW_TEXT);
-    while (walker.nextNode()) {
-      const node = walker.currentNode;
-      if (node.parentElement.closest('.command_line, option')) continue;
-      for (const match of node.data.matchAll(/[A-Za-z0-9]{2,}/g)) {
-        range.setStart(node, match.index);
-        range.setEnd(node, match.index + match[0].length);
+    for (const element of [area, ...area.querySelectorAll('*:not(.command_line):not(option)')]) looks.runsOf(element).forEach(run => {
+      for (const match of run.text.matchAll(/\d+\.\d+|[A-Za-z0-9]{2,16}/g)) {
+        range.setStart(...looks.inRun(run, match.index, true));
+        range.setEnd(...looks.inRun(run, match.index + match[0].length, false));
         const tops = [...range.getClientRects()].map(rect => Math.round(rect.top));
-        if (new Set(tops).size > 1 && Math.max(...tops) - Math.min(...tops) > 4) faults.add(`broken: ${match[0]}`);
+        if (Math.max(...tops) - Math.min(...tops) > 4) faults.add(`broken: ${match[0]}`);
       }
-    }
+    });
   }
   const said = [document.body.innerText, ...[...document.querySelectorAll('[aria-label], [aria-valuetext]')].map(each => `${each.getAttribute('aria-label')} ${each.getAttribute('aria-valuetext') ?? ''}`)];
   for (const text of said) {

@@ -227,6 +227,28 @@ def saves(look):
     look.expect([row["text"] for row in rows] == says, "the CSV has other texts")
 
 
+def taps(look):
+    """A tap beside a span that is too narrow to be hit alone opens it, below its lane and on the screen."""
+    for width, height in [(1400, 1000), (360, 740)]:
+        look.show(width, height)
+        for number in range(3):
+            slim = look.ask(
+                "(() => { const all = [...document.querySelectorAll('#lanes .row[role=group] .slim')].filter(each => each.closest('.row').lane.seen && !each.matches('.many'));"
+                f" const each = all[Math.floor(all.length * {number} / 3)]; if (!each) return null; each.scrollIntoView({{block: 'center'}}); const box = each.getBoundingClientRect();"
+                " const track = each.closest('.track').getBoundingClientRect(); const x = box.left + box.width / 2;"
+                " return [x + 9 < track.right ? x + 9 : x - 9, box.top + box.height / 2, each.getAttribute('aria-label')]; })()"
+            )
+            if slim is None:
+                break
+            x, y, name = slim
+            look.browser.click(x, y)
+            look.expect(name in look.ask("byId('panel').textContent"), f"a tap beside a narrow span does not open {name}")
+            look.expect(look.ask("(() => { const box = byId('panel').getBoundingClientRect(); return box.top >= 0 && box.top < innerHeight - 60; })()"), "what a tap opens is not on the screen")
+            look.browser.key("Escape", 27)
+            look.expect(look.ask("byId('panel').hidden"), "Escape does not close what was opened")
+            look.do("showAll()")
+
+
 def plots_by_keys(look):
     """A plot's values are read by arrows, one after the other."""
     look.show()
@@ -243,6 +265,6 @@ def plots_by_keys(look):
 
 
 def move(look):
-    for step in [zooms, moves, fingers, spans_by_keys, filters, links, saves, plots_by_keys]:
+    for step in [zooms, moves, fingers, spans_by_keys, filters, links, saves, taps, plots_by_keys]:
         step(look)
         look.close()
