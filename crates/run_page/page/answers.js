@@ -120,7 +120,7 @@ function tellAnswers() {
   byId('answers').append(list);
   if (groups.length > SHOWN) {
     const more = make('details');
-    more.append(make('summary', '', `${groups.length - SHOWN} more`));
+    more.append(make('summary', '', `${counted(groups.length - SHOWN, 'more rule')} that requested`));
     more.addEventListener('toggle', () => {
       if (more.open && more.children.length === 1) more.append(make('ol'));
       if (more.open) more.lastChild.replaceChildren(...groups.slice(SHOWN).map(answerOf));

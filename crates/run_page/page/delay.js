@@ -26,12 +26,14 @@ function releaseAfter(rule, record, until) {
     .find(place => stateAt(rule, place.record) === 'active' && modeAt(place.record) === 'active');
 }
 
-// What ended it, in words: the command of that record, where the page has it.
-function releaseWords(rule, record, until) {
-  const place = releaseAfter(rule, record, until - 1);
-  if (!place) return ' What ended that is not on this page.';
-  const command = run.commands.find(([other]) => other === place.record);
-  return command ? ` The command “${command[2]}” ended that, ${at(place)}.` : ` That ended ${at(place)}, by what is not on this page.`;
+// What ended it, in words: the command of that record. Where the page hasn't each change, it is the last command that may have done it.
+function releaseWords(request, name, record) {
+  const place = releaseAfter(request.rule, record, request.record - 1);
+  const command = place && run.commands.find(([other]) => other === place.record);
+  if (command) return ` The command “${command[2]}” ended that, ${at(place)}.`;
+  const last = run.commands.findLast(([other, , says]) => other > record && other < request.record && [`state ${name} active`, 'mode active'].includes(says));
+  if (last) return ` The last command “${last[2]}” before this request came ${at(placeOf(last))}.`;
+  return place ? ` That ended ${at(place)}.` : ' What ended that is not on this page.';
 }
 
 // One sentence, and one on what ended it; none where the request came as early as it could.
@@ -45,14 +47,14 @@ function delayOf(request, rule) {
     && first && other.record >= first[0]);
   if (before) {
     return `It had requested sequence ${before.sequence} in this row of failures already, ${at(before)}, and was passive after that.`
-      + releaseWords(request.rule, before.record, request.record);
+      + releaseWords(request, rule.name, before.record);
   }
   const sample = sampleOf(request, number);
   if (!sample || sample[0] <= FIRST) return unknown;
   // A request at this sample, which the page may have left out, makes the rule passive at this record, and not before.
   const last = sample[0] - 1;
-  const passive = modeAt(last) === 'passive' ? 'the mode' : stateAt(request.rule, last) === 'passive' ? `the rule` : '';
+  const passive = modeAt(last) === 'passive' ? 'the mode' : stateAt(request.rule, last) === 'passive' ? 'the rule' : '';
   if (!passive) return unknown;
   return `It did not request at the ${nth}, ${at(placeOf(sample))}, because ${passive} was passive then.`
-    + releaseWords(request.rule, last, request.record);
+    + releaseWords(request, rule.name, last);
 }
