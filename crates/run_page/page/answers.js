@@ -105,6 +105,9 @@ function headline(groups) {
   return `${counted(run.figures.requests, 'request')} by ${who}. At ${ENDING} ${listed(parts)}.`;
 }
 
+// Writes the answers that are folded.
+let showRest = () => {};
+
 function tellAnswers() {
   const groups = requestsByRule();
   for (const group of groups) group.ending = standing(group);
@@ -120,11 +123,11 @@ function tellAnswers() {
   byId('answers').append(list);
   if (groups.length > SHOWN) {
     const more = make('details');
-    more.append(make('summary', '', `${counted(groups.length - SHOWN, 'more rule')} that requested`));
-    more.addEventListener('toggle', () => {
-      if (more.open && more.children.length === 1) more.append(make('ol'));
-      if (more.open) more.lastChild.replaceChildren(...groups.slice(SHOWN).map(answerOf));
-    });
+    more.append(make('summary', '', `${counted(groups.length - SHOWN, 'more rule')} that requested`), make('ol'));
+    showRest = () => {
+      if (!more.lastChild.children.length) more.lastChild.append(...groups.slice(SHOWN).map(answerOf));
+    };
+    more.addEventListener('toggle', showRest);
     byId('answers').append(more);
   }
   quietFailures(groups);

@@ -39,14 +39,15 @@ function find() {
 }
 
 function makeTableRow(item) {
-  const row = make('tr', item.packet === chosen ? 'chosen' : '', undefined, { 'data-packet': item.packet });
+  const row = make('tr', item.packet === chosen ? 'chosen' : '', undefined, { role: 'row', 'data-packet': item.packet });
   const label = item.rule === null ? 'show' : nameIn(textAt(item.at.record), item.rule);
   const link = makeBroken('button', item.rule === null ? 'unprinted' : '', label, { type: 'button', 'aria-label': `${label}: packet ${item.packet} in the lanes` });
   link.addEventListener('click', () => showInLanes(item));
   const rule = make('td', 'rule');
   rule.append(link);
   row.append(make('td', 'number', item.packet), make('td', 'number', secondOf(item.at.time)), make('td', 'instant', instantOf(item.at.time)),
-    make('td', 'number narrow', item.at.record), make('td', `ink_${item.kind}`, `${SHAPES[item.kind]} ${item.kind}`), rule, makeBroken('td', '', whatOf(item)));
+    make('td', 'number narrow', item.at.record), make('td', `whole kind ink_${item.kind}`, `${SHAPES[item.kind]} ${item.kind}`), rule, makeBroken('td', 'what', whatOf(item)));
+  for (const cell of row.children) cell.setAttribute('role', 'cell');
   return row;
 }
 

@@ -28,7 +28,7 @@ function tellFigures() {
   byId('figures').append(
     figure('records', all.records, `${all.telemetry} telemetry, ${all.ticks} ticks, ${all.commands} commands, ${all.files} files`),
     figure('packets written', all.packets, `${all.housekeeping} housekeeping${all.other ? `, ${all.other} others` : ''}`),
-    figure('requests', all.requests, `of ${new Set(run.requests.map(request => request.rule)).size} rules`),
+    figure('requests', all.requests, `of ${run.requests_left_out ? 'at least ' : ''}${new Set(run.requests.map(request => request.rule)).size} rules`),
     figure('events', events, LEVELS.map(level => `${all[level]} ${level}`).join(', ')));
 }
 
@@ -62,6 +62,8 @@ function listenToControls() {
 
 // On paper all lanes are drawn for its width, all rows are there, and each request says why.
 function beforePrint() {
+  showRest();
+  for (const more of document.querySelectorAll('#answers details')) more.open = true;
   document.body.classList.add('printing');
   if (drawn < found.length) drawRows(found.length);
   byId('reasons').replaceChildren(...run.requests.map(request => {
