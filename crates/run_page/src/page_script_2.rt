@@ -379,6 +379,4 @@ row.querySelector('button').focus({ preventScroll: true });
 function fillFilters() {
 byId('rule').append(make('option', '', 'all rules', { value: '' }));
 for (const lane of lanes) byId('rule').append(make('option', '', nameOf(lane.rule), { value: lane.rule }));
-byId('kind').append(make('option', '', 'all kinds', { value: '' }));
-for (const kind of ['request', ...LEVELS]) byId('kind').append(make('option', '', `${SHAPES[kind]} ${kind}`, { value: kind }));
 "#;

@@ -1,8 +1,9 @@
 //! The page behind its data, part 3. Written by tools/gate/page_constants.
 
 /// The page behind its data, part 3.
-pub const TEXT: &str =
-    r#"for (const id of ['words', 'rule', 'kind', 'failed']) byId(id).addEventListener('input', find);
+pub const TEXT: &str = r#"byId('kind').append(make('option', '', 'all kinds', { value: '' }));
+for (const kind of ['request', ...LEVELS]) byId('kind').append(make('option', '', `${SHAPES[kind]} ${kind}`, { value: kind }));
+for (const id of ['words', 'rule', 'kind', 'failed']) byId(id).addEventListener('input', find);
 atTheEnd.observe(byId('more'));
 }
 const COLUMNS = ['packet', 'second', 'utc', 'record', 'kind', 'rule', 'sender', 'id', 'sequence', 'count', 'text'];
