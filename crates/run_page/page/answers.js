@@ -6,7 +6,7 @@ const ENDING = run.window ? 'the end of this part' : 'the end';
 function requestsByRule() {
   const groups = new Map();
   for (const request of run.requests) {
-    const name = request.rule === null ? 'a rule that is not known' : nameIn(request.text, request.rule);
+    const name = request.rule === null ? 'unknown rule' : nameIn(request.text, request.rule);
     if (!groups.has(name)) groups.set(name, { name, rule: request.rule, requests: [] });
     groups.get(name).requests.push(request);
   }
@@ -21,6 +21,7 @@ function sinceWhen(spans, bits) {
 
 // How a rule stands at the end: a kind, one word for its sign, and a sentence.
 function standing({ name, rule }) {
+  if (rule === null) return ['unknown', '? not known', 'not known, since its rule is not known'];
   const spans = lanes[rule]?.spans ?? [];
   const span = spans.at(-1);
   const isThere = span && span.results !== 1 && nameIn(textAt(END.record), rule) === name;
@@ -94,7 +95,7 @@ function quietFailures(groups) {
 }
 
 function headline(groups) {
-  if (!run.figures.records) return 'There is no record.';
+  if (!run.figures.records) return run.window ? 'This part has no record.' : 'There is no record.';
   if (!run.figures.requests) return 'No sequence was requested.';
   const who = `${run.requests_left_out && groups.length < lanes.length ? 'at least ' : ''}${counted(groups.length, 'rule')}`;
   const still = groups.filter(({ ending }) => ending[0] === 'still').length;

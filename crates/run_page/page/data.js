@@ -25,8 +25,8 @@ function nameOf(number) {
   return names.length ? names.join(' / ') : `rule ${number}`;
 }
 
-// The name of a rule in the text that was in force, else all its names.
-const nameIn = (text, number) => ruleIn(text, number)?.name ?? nameOf(number);
+// The name of a rule in the text that was in force, else all its names; of tables that are of no text its number.
+const nameIn = (text, number) => ruleIn(text, number)?.name ?? (text === null ? `rule ${number} of tables of no text` : nameOf(number));
 
 const textName = text => {
   const file = run.files.filter(each => each.role === 'rules')[text];

@@ -150,7 +150,8 @@ function makeBands() {
   const how = { none: 'no tables', started: 'since the start', adopted: 'adopted in flight', untold: 'not recorded any more' };
   makeBand('tables in force', withEnds(run.tables).map(({ entry: [, , text, way], from, to }) => {
     const texts = way in { none: 0, untold: 0 } ? [how[way]] : text === null ? ['tables of no text', 'no text'] : [textName(text), `text ${text}`, `${text}`];
-    return { from, to, texts, says: how[way] === texts[0] ? texts[0] : `${texts[0]}, ${how[way]}`, look: 'tables' };
+    const came = run.window?.records && from.record === FIRST ? 'in force where this part begins' : how[way];
+    return { from, to, texts, says: came === texts[0] ? texts[0] : `${texts[0]}, ${came}`, look: 'tables' };
   }));
   makeBand('mode of the checker', withEnds(run.mode).map(({ entry: [, , mode], from, to }) => (
     { from, to, texts: MODES[mode], says: MODES[mode][0], look: `mode_${mode}` })));

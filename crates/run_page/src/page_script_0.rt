@@ -21,7 +21,7 @@ function nameOf(number) {
 const names = [...new Set(rulesOf(number).map(rule => rule.name))];
 return names.length ? names.join(' / ') : `rule ${number}`;
 }
-const nameIn = (text, number) => ruleIn(text, number)?.name ?? nameOf(number);
+const nameIn = (text, number) => ruleIn(text, number)?.name ?? (text === null ? `rule ${number} of tables of no text` : nameOf(number));
 const textName = text => {
 const file = run.files.filter(each => each.role === 'rules')[text];
 return file ? `text ${text} (${file.name.split('/').at(-1)})` : `text ${text}`;

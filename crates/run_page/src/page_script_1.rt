@@ -225,7 +225,8 @@ function makeBands() {
 const how = { none: 'no tables', started: 'since the start', adopted: 'adopted in flight', untold: 'not recorded any more' };
 makeBand('tables in force', withEnds(run.tables).map(({ entry: [, , text, way], from, to }) => {
 const texts = way in { none: 0, untold: 0 } ? [how[way]] : text === null ? ['tables of no text', 'no text'] : [textName(text), `text ${text}`, `${text}`];
-return { from, to, texts, says: how[way] === texts[0] ? texts[0] : `${texts[0]}, ${how[way]}`, look: 'tables' };
+const came = run.window?.records && from.record === FIRST ? 'in force where this part begins' : how[way];
+return { from, to, texts, says: came === texts[0] ? texts[0] : `${texts[0]}, ${came}`, look: 'tables' };
 }));
 makeBand('mode of the checker', withEnds(run.mode).map(({ entry: [, , mode], from, to }) => (
 { from, to, texts: MODES[mode], says: MODES[mode][0], look: `mode_${mode}` })));
@@ -380,5 +381,4 @@ const [top, bottom] = [heightOf(plot, step.high), heightOf(plot, step.low)];
 line += before === null ? `M${left} ${bottom}` : `H${left}V${bottom}`;
 if (step.changes > 1) boxes += `<rect class="between" x="${left}" y="${top}" width="${Math.max(1, right - left)}" height="${Math.max(1, bottom - top)}"/>`;
 else dots += `M${left} ${bottom}h0`;
-line += step.changes > 1 ? `M${right} ${bottom}` : `H${right}`;
 "#;

@@ -1,7 +1,8 @@
 //! The page behind its data, part 2. Written by tools/gate/page_constants.
 
 /// The page behind its data, part 2.
-pub const TEXT: &str = r#"before = step;
+pub const TEXT: &str = r#"line += step.changes > 1 ? `M${right} ${bottom}` : `H${right}`;
+before = step;
 }
 const few = dots.length < 6000;
 return `${boxes}<path class="line" d="${line}"/>${few ? `<path class="dots" d="${dots}"/>` : ''}`;
@@ -208,7 +209,7 @@ return line;
 function partsTable(rule, [, time, parts]) {
 const table = make('table');
 const head = make('tr');
-head.append(make('th', '', 'comparison'), make('th', 'number', 'value'), make('th', '', 'its age'), make('th', '', 'holds'));
+head.append(make('th', '', 'comparison'), make('th', 'number', 'value'), make('th', '', 'age'), make('th', '', 'holds'));
 table.append(head);
 parts.forEach(([value, record, since, verdict], index) => {
 const [field, operator, number] = rule.comparisons[index];
@@ -227,9 +228,9 @@ const number = index < shown - Math.min(3, shown) ? index + 1 : request.counted 
 const [record, time] = request.samples[index];
 return `Failed sample ${number} of ${request.counted}: ${sinceStart(time)} s, record ${record}`;
 }
-function eventWords(request, rule) {
-const held = { type: `, not sent: events of type ${rule.level} are off`, filter: ', not sent: held back by a filter' }[request.held] ?? ', not sent';
-return `Its event: ${rule.level} ${rule.event} “${rule.says}”${request.event === null ? held : `, packet ${request.event}`}.`;
+function eventWords(request, level) {
+if (request.event !== null) return `, packet ${request.event}.`;
+return { type: ` was not sent: events of ${level} are off.`, filter: ' was not sent: held back by a filter.' }[request.held] ?? ' was not sent.';
 }
 function whyOf(request) {
 const rule = ruleIn(request.text, request.rule);
@@ -238,13 +239,14 @@ const place = `Sequence ${request.sequence} was requested ${at(request)}, packet
 if (!rule) {
 const who = request.rule === null ? 'Which rule requested it is not known.' : `Rule ${request.rule} failed in ${counted(request.counted, 'sample')} in a row.`;
 const why = request.text === null ? 'The tables in force were of none of the texts, so its condition is not known.' : '';
-article.append(makeBroken('p', '', place), make('p', '', `${who} ${why}`));
+const event = request.rule === null ? '' : ` Its event${eventWords(request, 'its type')}`;
+article.append(makeBroken('p', '', place), make('p', '', `${who} ${why}${event}`));
 return article;
 }
 const row = request.counted === 1 ? '1 sample' : `${request.counted} samples in a row`;
 const needs = request.counted === rule.fails ? ', as many as it needs' : `; it needs ${rule.fails}`;
 article.append(makeBroken('p', '', place), makeBroken('p', '', `${rule.name} (rule ${request.rule}) failed in ${row}${needs}. ${delayOf(request, rule)}`),
-conditionOf(rule), makeBroken('p', 'soft', `In ${textName(request.text)}. ${eventWords(request, rule)}`));
+conditionOf(rule), makeBroken('p', 'soft', `In ${textName(request.text)}. Its event, ${rule.level} ${rule.event} “${rule.says}”${eventWords(request, `type ${rule.level}`)}`));
 const samples = make('div', 'samples');
 samples.append(...request.samples.map((sample, index) => {
 const part = make('section');

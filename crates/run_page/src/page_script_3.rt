@@ -26,7 +26,7 @@ const ENDING = run.window ? 'the end of this part' : 'the end';
 function requestsByRule() {
 const groups = new Map();
 for (const request of run.requests) {
-const name = request.rule === null ? 'a rule that is not known' : nameIn(request.text, request.rule);
+const name = request.rule === null ? 'unknown rule' : nameIn(request.text, request.rule);
 if (!groups.has(name)) groups.set(name, { name, rule: request.rule, requests: [] });
 groups.get(name).requests.push(request);
 }
@@ -37,6 +37,7 @@ const first = spans.findLastIndex(span => span.results !== bits || span.changes 
 return spans[first] ? (first === 0 ? ' all the time' : ` since ${sinceStart(spans[first].from.time)} s`) : '';
 }
 function standing({ name, rule }) {
+if (rule === null) return ['unknown', '? not known', 'not known, since its rule is not known'];
 const spans = lanes[rule]?.spans ?? [];
 const span = spans.at(-1);
 const isThere = span && span.results !== 1 && nameIn(textAt(END.record), rule) === name;
@@ -102,7 +103,7 @@ if (quiet.length > 4) line.append(`and ${counted(quiet.length - 4, 'other rule')
 byId('answers').append(line);
 }
 function headline(groups) {
-if (!run.figures.records) return 'There is no record.';
+if (!run.figures.records) return run.window ? 'This part has no record.' : 'There is no record.';
 if (!run.figures.requests) return 'No sequence was requested.';
 const who = `${run.requests_left_out && groups.length < lanes.length ? 'at least ' : ''}${counted(groups.length, 'rule')}`;
 const still = groups.filter(({ ending }) => ending[0] === 'still').length;

@@ -179,6 +179,27 @@ def foreign():
     return run.data()
 
 
+def unknown():
+    """Requests of which the page can't say the rule, the text or both; of these no word may say null."""
+    data = foreign()
+    first, record, end = data["requests"][0], data["figures"]["records"], data["end"]
+    packet = data["figures"]["packets"]
+    for rule, text in [(None, None), (0, None), (None, 0)]:
+        packet += 1
+        data["requests"].append(
+            {**first, "packet": packet, "record": record, "time": end, "rule": rule, "text": text, "event": None, "samples": [],
+             "held": None if rule is None else "type", "counted": 0 if rule is None else 3}
+        )  # fmt: skip
+        data["figures"]["packets"] += 1
+        data["figures"]["requests"] += 1
+    return data
+
+
+def empty_part():
+    """A part in which there is no record."""
+    return {**no_record(), "window": {"from": 7_000_000, "until": None, "records": 298, "packets": 57}}
+
+
 def storm():
     """5,612 requests: four rules that a procedure on the ground sets active again and again, and one whose event is a debug one."""
     fields = {name: field("BUS", 0x883, "i16be", 12 + 2 * place, 5) for place, name in enumerate(["TILT", "RATE", "VOLTS", "HEAT"])}
@@ -208,4 +229,4 @@ def storm():
     return run.data()
 
 
-EXAMPLES = [wheels, wheels_part, storm, cells, one_record, no_record, one_rule, many, full, back_in_time, foreign]
+EXAMPLES = [wheels, wheels_part, storm, unknown, empty_part, cells, one_record, no_record, one_rule, many, full, back_in_time, foreign]
