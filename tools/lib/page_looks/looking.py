@@ -38,7 +38,8 @@ class Look:
         self.browser.settle()
 
     def check(self, what):
-        for fault in self.ask("looks.all()")[:6]:
+        """All questions of looks.js; of each the first three faults."""
+        for fault in self.ask("looks.all()"):
             self.fault(f"{what}: {fault}")
 
     def expect_none(self, script):

@@ -256,4 +256,5 @@ looks.first = () => {
   return byId('answers').compareDocumentPosition(byId('lanes')) & 4 ? [] : ['the lanes are before the answers'];
 };
 
-looks.all = () => ['labels', 'names', 'truth', 'texts', 'contrast', 'graphics', 'targets', 'overlap', 'words', 'landmarks'].flatMap(look => looks[look]().map(fault => `${look}: ${fault}`));
+looks.all = () => ['labels', 'names', 'truth', 'texts', 'contrast', 'graphics', 'targets', 'overlap', 'words', 'landmarks']
+  .flatMap(look => looks[look]().slice(0, 3).map(fault => `${look}: ${fault}`));
