@@ -187,20 +187,20 @@ def links(look):
             break
         time.sleep(0.03)
     look.expect(look.ask("byId('rows').children.length") == sent, "not all rows are drawn at the table's end")
-    if not look.ask("run.requests.length"):
+    if not look.ask("run.requests.some(request => lanes[request.rule])"):
         return
-    look.do("zoom(0.02, view.high)")
-    packet = look.ask("run.requests.at(-1).packet")
+    look.do("globalThis.lastOne = run.requests.findLast(request => lanes[request.rule]); zoom(0.02, view.high)")
+    packet = look.ask("lastOne.packet")
     look.browser.click(*centre(look, f'#rows [data-packet="{packet}"] button')[:2])
     time.sleep(0.1)
     look.browser.settle()
-    look.expect(look.ask("shareOf(run.requests.at(-1)) >= 0 && shareOf(run.requests.at(-1)) <= 1"), "a row's link doesn't show its place")
-    look.expect(look.ask("lanes[run.requests.at(-1).rule].plots !== null"), "a row's link doesn't open its lane")
-    look.expect(look.ask("byId('panel').textContent.includes('Why sequence ' + run.requests.at(-1).sequence)"), "a row's link doesn't say why")
+    look.expect(look.ask("shareOf(lastOne) >= 0 && shareOf(lastOne) <= 1"), "a row's link doesn't show its place")
+    look.expect(look.ask("lanes[lastOne.rule].plots !== null"), "a row's link doesn't open its lane")
+    look.expect(look.ask("byId('panel').textContent.includes('Why sequence ' + lastOne.sequence)"), "a row's link doesn't say why")
     look.check("linked")
     look.do("[...byId('panel').querySelectorAll('button')].at(-1).click()")
     look.expect(look.ask(f"document.activeElement.closest('tr')?.dataset.packet === '{packet}'"), "the panel's link doesn't come to the row")
-    lane = look.ask("run.requests.at(-1).rule")
+    lane = look.ask("lastOne.rule")
     look.do(f"lanes[{lane}].track.querySelector('.mark.request').click()")
     look.expect(look.ask("/Why sequence|requests and events/.test(byId('panel').textContent)"), "a mark says nothing")
 
