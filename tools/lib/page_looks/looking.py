@@ -51,6 +51,14 @@ class Look:
             self.fault(f"the console says: {line}")
         self.browser.said = []
 
+    def attempt(self, step):
+        """Takes a step; one that stops in the middle is a fault."""
+        try:
+            step(self)
+        except (RuntimeError, TypeError, IndexError, ValueError) as error:
+            self.fault(f"{step.__name__} stops: {str(error).splitlines()[0]}")
+        self.close()
+
     def picture(self, what, whole=False):
         self.browser.picture(f"{self.folder}/{self.name}_{what}.png", whole)
 

@@ -266,5 +266,4 @@ def plots_by_keys(look):
 
 def move(look):
     for step in [zooms, moves, fingers, spans_by_keys, filters, links, saves, taps, plots_by_keys]:
-        step(look)
-        look.close()
+        look.attempt(step)
