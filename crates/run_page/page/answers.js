@@ -24,8 +24,10 @@ function standing({ name, rule }) {
   if (rule === null) return ['unknown', '? not known', 'not known, since its rule is not known'];
   const spans = lanes[rule]?.spans ?? [];
   const span = spans.at(-1);
-  const isThere = span && span.results !== 1 && nameIn(textAt(END.record), rule) === name;
-  if (!isThere) return ['unknown', '? not in force', `not in force at ${ENDING}`];
+  const text = textAt(END.record);
+  if (!span || span.results === 1 || nameIn(text, rule) !== name) {
+    return text === undefined ? ['unknown', '? not known', 'not known, since the tables in force are not'] : ['unknown', '? not in force', `not in force at ${ENDING}`];
+  }
   const [result] = wordsOf(span.results, RESULTS);
   const again = span.states === 2 ? '; passive: no more requests until it is set active' : '';
   if (span.pause) return ['unknown', '? not sampled', `not sampled at ${ENDING} (${span.pause}), last result ${result}`];
@@ -76,12 +78,12 @@ function answerOf(group) {
   return item;
 }
 
-// The rules that fail in the end and requested nothing, and those that failed once.
+// The other rules that failed.
 function quietFailures(groups) {
   const names = new Set(groups.map(group => group.name));
-  const quiet = lanes.filter(lane => lane.failed && !names.has(nameIn(textAt(END.record), lane.rule)) && !names.has(nameOf(lane.rule)));
+  const quiet = lanes.filter(lane => lane.spans.some(span => span.results & 32 && !span.pause) && !names.has(nameIn(textAt(END.record), lane.rule)) && !names.has(nameOf(lane.rule)));
   if (!quiet.length) return;
-  const line = make('p', '', `${groups.length ? 'Also failed' : 'Failed'}, without a request: `);
+  const line = make('p', '', `${groups.length ? 'Also failed' : 'Failed'}, without a request on this page: `);
   for (const lane of quiet.slice(0, 4)) {
     const open = makeBroken('button', '', nameOf(lane.rule), { type: 'button' });
     open.addEventListener('click', () => {
@@ -103,7 +105,8 @@ function headline(groups) {
   const over = groups.length - still - open;
   const parts = [[still, 'still fails', 'still fail'], [over, 'passes', 'pass'], [open, 'cannot be judged', 'cannot be judged']]
     .filter(([count]) => count).map(([count, one, more]) => `${count} ${count === 1 ? one : more}`);
-  return `${counted(run.figures.requests, 'request')} by ${who}. At ${ENDING} ${listed(parts)}.`;
+  const which = groups.length === 1 ? `It ${parts[0].slice(2)} at ${ENDING}` : `At ${ENDING} ${listed(parts)}`;
+  return `${counted(run.figures.requests, 'request')} by ${who}. ${which}.`;
 }
 
 // Writes the answers that are folded.

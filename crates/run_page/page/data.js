@@ -66,8 +66,11 @@ function spansOf(list) {
 // What stands in a list from a record on: the last entry that doesn't begin after it.
 const entryAt = (list, record) => list[list.findLastIndex(entry => entry[0] <= record)];
 
-// The text in force after a record.
-const textAt = record => entryAt(run.tables, record)?.[2] ?? null;
+// The text in force after a record: null where it is none, undefined where the page doesn't say.
+function textAt(record) {
+  const entry = entryAt(run.tables, record);
+  return entry?.[3] === 'untold' ? undefined : entry?.[2] ?? null;
+}
 
 // A number as a rule text writes it.
 function numberOf(text) {

@@ -48,7 +48,10 @@ from, to, results: entry[2], states: entry[3], changes: entry.length > 4 ? entry
 })).flatMap(cut).map(span => ({ ...span, pause: pauseOf(span) }));
 }
 const entryAt = (list, record) => list[list.findLastIndex(entry => entry[0] <= record)];
-const textAt = record => entryAt(run.tables, record)?.[2] ?? null;
+function textAt(record) {
+const entry = entryAt(run.tables, record);
+return entry?.[3] === 'untold' ? undefined : entry?.[2] ?? null;
+}
 function numberOf(text) {
 return text.startsWith('-') ? -Number(text.slice(1)) : Number(text);
 }
@@ -378,7 +381,4 @@ return 0;
 }
 function numberText(number, step) {
 const digits = Math.max(0, Math.min(5, -Math.floor(Math.log10(step) + 1e-9)));
-if (view.unit === 'utc') return clockText(number, step, digits);
-return (view.unit === 'start' ? '+' : '') + number.toFixed(view.unit === 'record' ? 0 : digits);
-}
 "#;

@@ -1,7 +1,10 @@
 //! The page behind its data, part 1. Written by tools/gate/page_constants.
 
 /// The page behind its data, part 1.
-pub const TEXT: &str = r#"function clockText(number, step, digits) {
+pub const TEXT: &str = r#"if (view.unit === 'utc') return clockText(number, step, digits);
+return (view.unit === 'start' ? '+' : '') + number.toFixed(view.unit === 'record' ? 0 : digits);
+}
+function clockText(number, step, digits) {
 const whole = Math.floor(number + 1e-6);
 const instant = new Date(whole * 1000);
 if (Number.isNaN(instant.getTime())) return '';
@@ -376,9 +379,4 @@ let line = '', boxes = '', dots = '', before = null;
 for (const step of plot.steps) {
 const [left, right] = [step.from, step.to].map(place => sharePixels(place, width));
 if (right < 0 || left > width) continue;
-if (step.low === null) { before = null; continue; }
-const [top, bottom] = [heightOf(plot, step.high), heightOf(plot, step.low)];
-line += before === null ? `M${left} ${bottom}` : `H${left}V${bottom}`;
-if (step.changes > 1) boxes += `<rect class="between" x="${left}" y="${top}" width="${Math.max(1, right - left)}" height="${Math.max(1, bottom - top)}"/>`;
-else dots += `M${left} ${bottom}h0`;
 "#;

@@ -1,7 +1,12 @@
 //! The page behind its data, part 2. Written by tools/gate/page_constants.
 
 /// The page behind its data, part 2.
-pub const TEXT: &str = r#"line += step.changes > 1 ? `M${right} ${bottom}` : `H${right}`;
+pub const TEXT: &str = r#"if (step.low === null) { before = null; continue; }
+const [top, bottom] = [heightOf(plot, step.high), heightOf(plot, step.low)];
+line += before === null ? `M${left} ${bottom}` : `H${left}V${bottom}`;
+if (step.changes > 1) boxes += `<rect class="between" x="${left}" y="${top}" width="${Math.max(1, right - left)}" height="${Math.max(1, bottom - top)}"/>`;
+else dots += `M${left} ${bottom}h0`;
+line += step.changes > 1 ? `M${right} ${bottom}` : `H${right}`;
 before = step;
 }
 const few = dots.length < 6000;
@@ -376,9 +381,4 @@ if (index >= drawn) drawRows(index + MORE - drawn);
 choose(item.packet);
 const row = byId('rows').querySelector(`[data-packet="${item.packet}"]`);
 row.scrollIntoView({ block: 'center' });
-row.querySelector('button').focus({ preventScroll: true });
-}
-function fillFilters() {
-byId('rule').append(make('option', '', 'all rules', { value: '' }));
-for (const lane of lanes) byId('rule').append(make('option', '', nameOf(lane.rule), { value: lane.rule }));
 "#;
