@@ -156,7 +156,8 @@ function makeBands() {
   makeBand('mode of the checker', withEnds(run.mode).map(({ entry: [, , mode], from, to }) => (
     { from, to, texts: MODES[mode], says: MODES[mode][0], look: `mode_${mode}` })));
   for (const stretch of stretches) {
-    const texts = [`${stretch.count.toLocaleString('en')} ${stretch.kind} left out`, `${stretch.count}`];
+    const count = `${stretch.count.toLocaleString('en')} ${stretch.kind}`;
+    const texts = [`${count} left out`, count, `${stretch.count}`];
     makeBand('not on this page', [{ ...stretch, texts, says: leftOutWords(stretch), look: 'hatch' }], showStretch);
   }
 }

@@ -37,9 +37,9 @@ class Look:
         self.browser.ask(f"{{ {script}; }} undefined")
         self.browser.settle()
 
-    def check(self, what):
-        """All questions of looks.js; of each the first three faults."""
-        for fault in self.ask("looks.all()"):
+    def check(self, what, questions="all"):
+        """The questions of looks.js."""
+        for fault in self.ask(f"looks.{questions}()"):
             self.fault(f"{what}: {fault}")
 
     def expect_none(self, script):
@@ -92,9 +92,9 @@ def look_at_axes(look):
     units = look.ask("[...byId('unit').options].map(option => option.value)")
     for unit in units:
         look.do(f"changeUnit('{unit}'); showAll()")
-        for depth in range(9):
-            look.check(f"axis {unit}, depth {depth}")
-            look.do("zoom(0.25, view.low + (view.high - view.low) * 0.37)")
+        for depth in range(5):
+            look.check(f"axis {unit}, depth {depth}", "drawn")
+            look.do("zoom(0.1, view.low + (view.high - view.low) * 0.37)")
     look.do("showAll()")
 
 

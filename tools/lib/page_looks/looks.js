@@ -256,5 +256,7 @@ looks.first = () => {
   return byId('answers').compareDocumentPosition(byId('lanes')) & 4 ? [] : ['the lanes are before the answers'];
 };
 
-looks.all = () => ['labels', 'names', 'truth', 'texts', 'contrast', 'graphics', 'targets', 'overlap', 'words', 'landmarks']
-  .flatMap(look => looks[look]().slice(0, 3).map(fault => `${look}: ${fault}`));
+// All questions, or those alone that go by the part of the run that is seen; of each the first three faults.
+looks.asked = names => names.flatMap(look => looks[look]().slice(0, 3).map(fault => `${look}: ${fault}`));
+looks.drawn = () => looks.asked(['labels', 'names', 'truth', 'targets', 'overlap']);
+looks.all = () => looks.drawn().concat(looks.asked(['texts', 'contrast', 'graphics', 'words', 'landmarks']));
