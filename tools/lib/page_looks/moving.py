@@ -99,6 +99,18 @@ def fingers(look):
     look.close()
 
 
+# The first steps are a keyboard's, the others a script's, which is faster.
+WALK = """(() => {
+  const names = [];
+  for (let last = null; document.activeElement !== last && names.length < 2000;) {
+    last = document.activeElement;
+    names.push(last.getAttribute('aria-label'));
+    last.dispatchEvent(new KeyboardEvent('keydown', { key: 'ArrowRight', bubbles: true, cancelable: true }));
+  }
+  return names;
+})()"""
+
+
 def walk(look, lane):
     """From a lane's first stop by arrows to its last; answers the names on the way."""
     look.do(f"lanes[{lane}].row.scrollIntoView({{block: 'center'}})")
@@ -106,14 +118,11 @@ def walk(look, lane):
         return []
     look.do(f"lanes[{lane}].track.querySelector('[tabindex=\"0\"]').focus()")
     look.browser.key("Home", 36)
-    names, last = [], None
-    for _ in range(400):
-        name = look.ask("document.activeElement.getAttribute('aria-label')")
-        if name == last:
-            break
-        names.append(name)
-        last = name
-        look.browser.key("ArrowRight", 39)
+    look.browser.key("ArrowRight", 39)
+    second = look.ask("document.activeElement.getAttribute('aria-label')")
+    look.browser.key("Home", 36)
+    names = look.ask(WALK)
+    look.expect(names[1:2] in ([], [second]), f"lane {lane}: the arrows come to {second} second")
     return names
 
 
