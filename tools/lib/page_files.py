@@ -6,7 +6,7 @@ import re
 TOP = os.path.dirname(os.path.dirname(os.path.dirname(os.path.abspath(__file__))))
 FOLDER = f"{TOP}/crates/run_page/page"
 # In the order in which they are run.
-SCRIPTS = "data words elements view pointers axis marks lanes limits plots readings why find csv main".split()
+SCRIPTS = "data words leftout elements view pointers axis marks lanes limits plots readings delay why find csv answers main".split()
 
 
 def read(name):

@@ -2,13 +2,17 @@
 'use strict';
 const run = JSON.parse(document.getElementById('run').textContent);
 const TICKS = 65536; // a time is in parts of a second
-const START = { record: 1, time: 0 };
-const END = { record: run.figures.records + 1, time: run.end };
+const FIRST = (run.window?.records ?? 0) + 1; // the page's first record
+const END = { record: FIRST + run.figures.records, time: run.end };
 
 // Bits of results and states, the worst first.
 const RESULTS = [[32, 'fail'], [16, 'error'], [8, 'stale'], [4, 'pass'], [2, 'none'], [1, 'absent']];
 const STATES = [[1, 'active'], [2, 'passive'], [4, 'disabled'], [8, 'off']];
 const RESULT_WORDS = { none: 'no result yet', absent: 'no such rule in force' };
+
+// The kinds of marks, each with a shape of its own: the levels of events from the worst on.
+const LEVELS = ['critical', 'error', 'info', 'debug'];
+const SHAPES = { request: '▼', critical: '▲', error: '■', info: '●', debug: '○', command: '◆' };
 
 const wordsOf = (bits, table) => table.filter(([bit]) => bits & bit).map(([, word]) => word);
 const ruleIn = (text, number) => (text === null || text === undefined ? undefined : run.texts[text]?.rules[number]);
@@ -21,8 +25,8 @@ function nameOf(number) {
   return names.length ? names.join(' / ') : `rule ${number}`;
 }
 
-// The name of a rule in the text that was in force, else all its names.
-const nameIn = (text, number) => ruleIn(text, number)?.name ?? nameOf(number);
+// The name of a rule in the text that was in force, else all its names; of tables that are of no text its number.
+const nameIn = (text, number) => ruleIn(text, number)?.name ?? (text === null ? `rule ${number} of tables of no text` : nameOf(number));
 
 const textName = text => {
   const file = run.files.filter(each => each.role === 'rules')[text];
@@ -36,14 +40,37 @@ function withEnds(list, end = END) {
   }));
 }
 
+// Where the Limit Checker is disabled: it samples no rule there.
+const disabledParts = withEnds(run.mode).filter(({ entry }) => entry[2] === 'disabled');
+
+// The parts of a span: those in which the Limit Checker is disabled, and the others. One entry of several changes stays whole.
+function cut(span) {
+  const cuts = disabledParts.flatMap(({ from, to }) => [from, to])
+    .filter(({ record }) => span.changes === 1 && span.from.record < record && record < span.to.record);
+  return [span.from, ...cuts].map((from, index) => ({ ...span, from, to: cuts[index] ?? span.to }));
+}
+
+// Why a rule isn't sampled in a span, or nothing where it is.
+function pauseOf({ from, to, results, states }) {
+  if (results === 1) return '';
+  if (states && !(states & 3)) return states === 4 ? 'disabled' : states === 8 ? 'off for good' : 'not sampled';
+  return disabledParts.some(part => part.from.record <= from.record && to.record <= part.to.record) ? 'LC disabled' : '';
+}
+
 function spansOf(list) {
   return withEnds(list).map(({ entry, from, to }) => ({
     from, to, results: entry[2], states: entry[3], changes: entry.length > 4 ? entry[4] : 1,
-  }));
+  })).flatMap(cut).map(span => ({ ...span, pause: pauseOf(span) }));
 }
 
-// The text in force behind a record: the last entry of the band that doesn't begin behind it.
-const textBehind = record => run.tables.filter(entry => entry[0] <= record).at(-1)?.[2] ?? null;
+// What stands in a list from a record on: the last entry that doesn't begin after it.
+const entryAt = (list, record) => list[list.findLastIndex(entry => entry[0] <= record)];
+
+// The text in force after a record: null where it is none, undefined where the page doesn't say.
+function textAt(record) {
+  const entry = entryAt(run.tables, record);
+  return entry?.[3] === 'untold' ? undefined : entry?.[2] ?? null;
+}
 
 // A number as a rule text writes it.
 function numberOf(text) {

@@ -9,7 +9,17 @@ function make(tag, className, text, attributes = {}) {
   return element;
 }
 
-// A button with a name for who can't see it, which is its tip as well.
+// With names that may break after each _, / and ., and after each sixteen letters of longer words; an instant doesn't break.
+function makeBroken(tag, className, text, attributes) {
+  const element = make(tag, className, undefined, attributes);
+  text.split(/(\d{4}-\d\d-\d\dT[\d:.]+Z)/).forEach((part, index) => {
+    const pieces = part.split(/(?<=[_/])(?=\w)|(?<=\.)(?=[A-Za-z])/).flatMap(piece => piece.split(/([A-Za-z0-9]{16})(?=[A-Za-z0-9])/)).filter(piece => piece);
+    element.append(...(index % 2 ? [make('span', 'whole', part)] : pieces.flatMap(piece => [make('wbr'), piece]).slice(1)));
+  });
+  return element;
+}
+
+// A button with a name for a person who can't see it, which is its tip as well.
 function makeButton(className, text, name, click) {
   const button = make('button', className, text, { type: 'button', 'aria-label': name, title: name, tabindex: -1 });
   button.addEventListener('click', click);
@@ -23,6 +33,9 @@ function widthOf(text, size, weight = 400) {
   pen.font = `${weight} ${size}px ${family}`;
   return pen.measureText(text).width;
 }
+
+// The first of some texts that there is room for.
+const fitting = (texts, room, size, weight) => texts.find(text => widthOf(text, size, weight) <= room) ?? '';
 
 // Within a track the arrows go from button to button, by their places, and at the window's edge they move it.
 // The track is one stop of the tab key.
@@ -38,6 +51,22 @@ function walkable(track) {
     const next = buttons[Math.max(0, Math.min(buttons.length - 1, now + step))];
     setStop(track, next);
     next.focus({ preventScroll: true });
+  });
+}
+
+// A tap on a track opens what is below it, with what is near it and too narrow to be hit alone.
+const TARGET = 24; // px
+
+function tappable(track, open) {
+  track.addEventListener('click', event => {
+    if (!event.detail || event.target.closest('.mark') || !track.drawn) return;
+    const box = track.getBoundingClientRect();
+    const [x, y] = [event.clientX - box.left, event.clientY - box.top];
+    const near = track.drawn.filter(({ left, right, top }) => {
+      const room = right - left < TARGET ? TARGET / 2 : 0;
+      return left - room <= x && x <= right + room && (top === undefined || Math.abs(top - y) <= TARGET / 2);
+    });
+    if (near.length) open(near);
   });
 }
 

@@ -28,31 +28,26 @@ function find() {
     lane.row.hidden = !laneMatches(lane, wanted, hit);
     if (lane.row.hidden) openLane(lane, false);
   }
+  if (byId('panel').previousElementSibling?.hidden) closePanel();
   const shown = lanes.filter(lane => !lane.row.hidden).length;
   byId('shown').textContent = `${shown} of ${lanes.length} rules shown.`;
-  byId('rows_shown').textContent = [`${found.length} of ${sent.length} requests and events`, ...leftOut()].join('; ');
+  byId('rows_shown').textContent = [`${found.length} of ${sent.length} requests and events`, ...stretches.map(leftOutWords)].join('; ');
   drawn = 0;
   byId('rows').replaceChildren();
   drawRows(MORE);
   drawSoon();
 }
 
-// What the page hasn't, in words.
-function leftOut() {
-  const words = (list, kind) => (list ? [`${list[0]} ${kind} of the records ${list[1]} to ${list[2]} are left out of this page`] : []);
-  return words(run.requests_left_out, 'requests').concat(words(run.events_left_out, 'events'), words(run.commands_left_out, 'commands'));
-}
-
 function makeTableRow(item) {
-  const row = make('tr', item.packet === chosen ? 'chosen' : '', undefined, { 'data-packet': item.packet });
-  const sign = item.request ? '▼ ' : '● ';
-  const label = item.rule === null ? 'show' : nameIn(textBehind(item.at.record), item.rule);
-  const link = make('button', item.rule === null ? 'unprinted' : '', label, { type: 'button', 'aria-label': `${label}: packet ${item.packet} in the lanes` });
+  const row = make('tr', item.packet === chosen ? 'chosen' : '', undefined, { role: 'row', 'data-packet': item.packet });
+  const label = item.rule === null ? 'show' : nameIn(textAt(item.at.record), item.rule);
+  const link = makeBroken('button', item.rule === null ? 'unprinted' : '', label, { type: 'button', 'aria-label': `${label}: packet ${item.packet} in the lanes` });
   link.addEventListener('click', () => showInLanes(item));
   const rule = make('td', 'rule');
   rule.append(link);
   row.append(make('td', 'number', item.packet), make('td', 'number', secondOf(item.at.time)), make('td', 'instant', instantOf(item.at.time)),
-    make('td', 'number narrow', item.at.record), make('td', item.request ? 'word request' : 'word', sign + item.kind), rule, make('td', '', whatOf(item)));
+    make('td', 'number narrow', item.at.record), make('td', `whole kind ink_${item.kind}`, `${SHAPES[item.kind]} ${item.kind}`), rule, makeBroken('td', 'what', whatOf(item)));
+  for (const cell of row.children) cell.setAttribute('role', 'cell');
   return row;
 }
 
@@ -75,14 +70,15 @@ const atTheEnd = new IntersectionObserver(entries => {
 // From a row to its place in the lanes, and back.
 function showInLanes(item) {
   bring(item.at);
-  showItem(item);
-  if (item.rule === null) { byId('axis').scrollIntoView({ block: 'center' }); return; }
   const lane = lanes[item.rule];
-  if (!lane) return;
-  lane.row.hidden = false;
-  openLane(lane, true);
-  lane.row.scrollIntoView({ block: 'center' });
-  lane.name.focus({ preventScroll: true });
+  if (lane) {
+    lane.row.hidden = false;
+    openLane(lane, true);
+  }
+  showItem(item);
+  const row = rowOf(item);
+  row.scrollIntoView({ block: 'start' });
+  (lane?.name ?? row.querySelector('[tabindex="0"]'))?.focus({ preventScroll: true });
 }
 
 function showRow(item) {
@@ -99,7 +95,7 @@ function fillFilters() {
   byId('rule').append(make('option', '', 'all rules', { value: '' }));
   for (const lane of lanes) byId('rule').append(make('option', '', nameOf(lane.rule), { value: lane.rule }));
   byId('kind').append(make('option', '', 'all kinds', { value: '' }));
-  for (const kind of ['request', 'critical', 'error', 'info', 'debug']) byId('kind').append(make('option', '', kind, { value: kind }));
+  for (const kind of ['request', ...LEVELS]) byId('kind').append(make('option', '', `${SHAPES[kind]} ${kind}`, { value: kind }));
   for (const id of ['words', 'rule', 'kind', 'failed']) byId(id).addEventListener('input', find);
   atTheEnd.observe(byId('more'));
 }

@@ -1,11 +1,13 @@
-// Lanes: a row for each rule with the spans of its result and state, and rows for the tables and the mode.
+// Lanes: a row for each rule with the spans of its result and state, and rows for the tables, the mode, and marks alone.
 const LEAST = 4; // px: what is narrower is drawn together with its neighbours
 const CELL_WORDS = { fail: 'FAIL', error: 'error', stale: 'stale', pass: 'pass', none: 'none', absent: '' };
+const LETTERS = { fail: ['F'], error: ['E'], stale: ['S'] };
 const lanes = [];
+const markRows = {};
 
 function makeRow(label, isButton) {
   const row = make('div', 'row');
-  const name = make(isButton ? 'button' : 'div', 'name', label, isButton ? { type: 'button', 'aria-expanded': 'false' } : {});
+  const name = makeBroken(isButton ? 'button' : 'div', 'name', label, isButton ? { type: 'button', 'aria-expanded': 'false' } : {});
   const track = make('div', 'track');
   row.append(name, track);
   byId('lanes').append(row);
@@ -16,8 +18,8 @@ function makeRow(label, isButton) {
 // Several spans in a row as one: all their results and states.
 function joined(one, other) {
   return {
-    from: one.from, to: other.to, left: one.left, right: other.right, results: one.results | other.results,
-    states: one.states | other.states, changes: one.changes + other.changes, parts: one.parts.concat(other.parts),
+    from: one.from, to: other.to, left: one.left, right: other.right, results: one.results | other.results, states: one.states | other.states,
+    pause: one.pause === other.pause ? one.pause : '', changes: one.changes + other.changes, parts: one.parts.concat(other.parts),
   };
 }
 
@@ -42,28 +44,38 @@ function place(element, cell, width) {
   const left = Math.min(cell.left, width - least);
   element.style.left = left / width * 100 + '%';
   element.style.width = Math.max(least, cell.right - left) / width * 100 + '%';
+  element.classList.toggle('slim', cell.right - left < TARGET);
   element.place = cell.from.record;
+}
+
+// What a cell says, the longest first: its result, with the state where that isn't active; of what isn't sampled why.
+function cellTexts(cell, worst, state) {
+  const word = CELL_WORDS[worst];
+  if (cell.pause) return [`${cell.pause}, was ${word}`, cell.pause, { 'LC disabled': 'LC off', 'off for good': 'off' }[cell.pause] ?? 'D'];
+  return [...(state === 'passive' && word ? [`${word}, passive`, `${word} P`] : []), word, ...(LETTERS[worst] ?? [])];
+}
+
+function openCell(lane, cell) {
+  if (cell.parts.length > 1 || cell.changes > 1) zoomTo(cell.from, cell.to);
+  showSpan(lane, cell);
 }
 
 function drawCell(lane, cell, width) {
   const [worst] = wordsOf(cell.results, RESULTS);
   const states = wordsOf(cell.states, STATES);
   const state = states.length > 1 ? 'mixed' : states[0] ?? '';
-  const text = CELL_WORDS[worst];
-  const fits = widthOf(text, 11, 700) + 4 <= cell.right - cell.left;
-  const several = cell.changes > 1;
-  const element = makeButton(`cell ${worst} ${state}${several ? ' many' : ''}`, fits ? text : '', spanName(lane.rule, cell), () => {
-    if (several) zoomTo(cell.from, cell.to);
-    showSpan(lane.rule, cell);
-  });
+  const text = fitting(cellTexts(cell, worst, state), cell.right - cell.left - 6, 11, 700);
+  const classes = `cell ${worst} ${state}${cell.changes > 1 ? ' many' : ''}${cell.pause ? ' paused' : ''}`;
+  const element = makeButton(classes, text, spanName(lane.rule, cell), event => { if (!event.detail) openCell(lane, cell); });
   place(element, cell, width);
   return element;
 }
 
 function drawLane(lane) {
   const width = lane.track.clientWidth || 1;
-  const cells = cellsOf(lane.spans, width).map(cell => drawCell(lane, cell, width));
-  redraw(lane.track, cells.concat(marksOf(lane.marks, width)));
+  lane.track.drawn = cellsOf(lane.spans, width);
+  const cells = lane.track.drawn.map(cell => drawCell(lane, cell, width));
+  redraw(lane.track, [...hatches(['requests', 'events'], width), ...cells, ...marksOf(lane.marks, width)]);
   if (lane.plots) lane.plots.forEach(drawPlot);
 }
 
@@ -95,51 +107,67 @@ function drawOthers() {
 function makeLane(list, rule, items) {
   const lane = { ...makeRow(nameOf(rule), true), rule, spans: spansOf(list), items };
   // The event that goes with a request is the request's, and no mark of its own.
-  const told = new Set(items.filter(item => item.request).map(item => item.request.event));
-  lane.marks = items.filter(item => !told.has(item.packet));
+  const own = new Set(items.filter(item => item.request).map(item => item.request.event));
+  lane.marks = items.filter(item => !own.has(item.packet));
   lane.failed = lane.spans.some(span => span.results & 32);
   lane.words = [nameOf(rule), ...rulesOf(rule).map(each => each.condition)].join(' ').toLowerCase();
-  lane.track.classList.toggle('marked', lane.marks.length > 0);
+  lane.track.classList.toggle('marked', lane.marks.length > 0 || stretches.some(({ kind }) => kind !== 'commands'));
   lane.row.lane = lane;
   lane.row.setAttribute('role', 'group');
   lane.row.setAttribute('aria-label', nameOf(rule));
   lane.name.addEventListener('click', () => openLane(lane, !lane.plots));
+  tappable(lane.track, cells => openCell(lane, cells.reduce(joined)));
   onScreen.observe(lane.row);
   lanes.push(lane);
 }
 
-// A band: in each part of it one word.
-function makeBand(label, entries, textOf, tellOf) {
+// A band: in each part of it one word, shorter where there is less room. A part is {from, to, texts, says, look}.
+function makeBand(label, parts, open) {
   const band = makeRow(label, false);
-  const parts = withEnds(entries).map(part => ({ ...part, text: textOf(part.entry), tells: tellOf(part.entry) }));
+  const show = cells => (open ? open(cells[0], band.row) : showAfter(band.row, label, ...cells.map(cell => makeBroken('p', '', cell.name))));
+  tappable(band.track, show);
   drawings.push(() => {
     const width = band.track.clientWidth || 1;
-    redraw(band.track, parts.filter(({ from, to }) => shareOf(to) >= 0 && shareOf(from) <= 1).map(part => {
+    band.track.drawn = parts.filter(({ from, to }) => shareOf(to) >= 0 && shareOf(from) <= 1).map(part => {
       const [left, right] = [part.from, part.to].map(end => Math.max(0, Math.min(1, shareOf(end))) * width);
-      const name = `${label}: ${part.tells}, ${during(part)}`;
-      const fits = widthOf(part.text, 11) + 10 <= right - left;
-      const element = makeButton('cell band', fits ? part.text : '', name, () => showText(label, name));
-      place(element, { ...part, left, right }, width);
+      return { ...part, left, right, name: `${label}: ${part.says}${open ? '' : ', ' + during(part)}` };
+    });
+    redraw(band.track, band.track.drawn.map(cell => {
+      const text = fitting(cell.texts, cell.right - cell.left - 16, 11, 600);
+      const element = makeButton(`cell band ${cell.look}`, '', cell.name, event => { if (!event.detail) show([cell]); });
+      element.append(make('span', '', text));
+      place(element, cell, width);
       return element;
     }));
   });
 }
 
+const MODES = {
+  active: ['active', 'A'], passive: ['passive', 'P'], disabled: ['disabled', 'D'], absent: ['no Limit Checker', 'no LC', '–'], untold: ['not recorded any more', '?'],
+};
+
 function makeBands() {
-  const how = { none: 'no tables', started: 'started', adopted: 'adopted in flight', untold: 'not told any more' };
-  const nameOfText = text => (text === null ? 'tables of no text' : textName(text));
-  makeBand('tables in force', run.tables, ([, , text, way]) => (way in { none: 0, untold: 0 } ? how[way] : nameOfText(text)),
-    ([, , text, way]) => (way in { none: 0, untold: 0 } ? how[way] : `${nameOfText(text)}, ${how[way]}`));
-  const modes = { absent: 'no Limit Checker', untold: 'not told any more' };
-  makeBand('mode of the checker', run.mode, ([, , mode]) => modes[mode] ?? mode, ([, , mode]) => modes[mode] ?? mode);
+  const how = { none: 'no tables', started: 'since the start', adopted: 'adopted in flight', untold: 'not recorded any more' };
+  makeBand('tables in force', withEnds(run.tables).map(({ entry: [, , text, way], from, to }) => {
+    const texts = way in { none: 0, untold: 0 } ? [how[way]] : text === null ? ['tables of no text', 'no text'] : [textName(text), `text ${text}`, `${text}`];
+    const came = run.window?.records && from.record === FIRST ? 'in force where this part begins' : how[way];
+    return { from, to, texts, says: came === texts[0] ? texts[0] : `${texts[0]}, ${came}`, look: 'tables' };
+  }));
+  makeBand('mode of the checker', withEnds(run.mode).map(({ entry: [, , mode], from, to }) => (
+    { from, to, texts: MODES[mode], says: MODES[mode][0], look: `mode_${mode}` })));
+  for (const stretch of stretches) {
+    const count = `${stretch.count.toLocaleString('en')} ${stretch.kind}`;
+    const texts = [`${count} left out`, count, `${stretch.count}`];
+    makeBand('not on this page', [{ ...stretch, texts, says: leftOutWords(stretch), look: 'hatch' }], showStretch);
+  }
 }
 
 // Commands, and the events that are about no rule, have a row of marks alone.
-function makeMarks(label, items) {
+function makeMarks(key, label, items, kinds) {
   if (!items.length) return;
-  const row = makeRow(label, false);
-  row.track.classList.add('marks_alone');
-  drawings.push(() => redraw(row.track, marksOf(items, row.track.clientWidth || 1)));
+  const { row, track } = markRows[key] = makeRow(label, false);
+  track.classList.add('marks_alone');
+  drawings.push(() => redraw(track, [...hatches(kinds, track.clientWidth), ...marksOf(items, track.clientWidth || 1)]));
 }
 
 function makeLanes() {
@@ -150,8 +178,8 @@ function makeLanes() {
   }
   makeAxis();
   makeBands();
-  makeMarks('commands', commands);
-  makeMarks('other events', byRule.get(null) ?? []);
+  makeMarks('commands', 'commands', commands, ['commands']);
+  makeMarks('others', 'other events', byRule.get(null) ?? [], ['events']);
   run.lanes.forEach((list, rule) => makeLane(list, rule, byRule.get(rule) ?? []));
   drawings.push(drawLanes);
 }

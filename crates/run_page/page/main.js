@@ -1,24 +1,34 @@
 // The page put together.
-const LEVELS = ['critical', 'error', 'info', 'debug'];
-
 function figure(name, value, more) {
   const box = make('div', '', name);
-  box.append(make('b', '', value), make('small', '', more));
+  box.append(make('b', '', value.toLocaleString('en')), make('small', '', more));
   return box;
+}
+
+// Which part of the run the page has.
+function tellPart() {
+  if (!run.window) return;
+  const { from, until, records, packets } = run.window;
+  const bounds = [from === null ? 'from the start' : `from second ${decimal(from)}`, until === null ? 'to the end' : `until second ${decimal(until)}`];
+  const which = run.figures.records ? `records ${FIRST} to ${END.record - 1}` : 'no record';
+  byId('part').textContent = `This page is a part of the run, ${bounds.join(' ')}: ${which}. `
+    + `${counted(records, 'record')} and ${counted(packets, 'packet')} before it are not on this page.`;
+  byId('part').hidden = false;
 }
 
 function tellFigures() {
   const all = run.figures;
-  const ended = run.ended.whole ? 'The stream ended behind a whole record' : 'The stream is cut short';
+  const ended = run.ended.whole ? 'The stream ended after a whole record' : 'The stream is cut short';
   const seconds = all.records ? ` Seconds ${secondOf(0)} to ${secondOf(run.end)}${run.epoch ? `, ${instantOf(0)} to ${instantOf(run.end)}` : ''}.` : '';
-  byId('ended').textContent = `Ended with status ${run.ended.status}: ${run.ended.says}. ${ended}.${seconds}`
+  const text = `Ended with status ${run.ended.status}: ${run.ended.says}. ${ended}.${seconds}`
     + (run.ordered ? '' : ' Times go back in this stream, so the axis has its records.');
+  byId('ended').append(...makeBroken('span', '', text).childNodes);
   byId('ended').classList.toggle('cut', run.ended.status !== 0);
   const events = LEVELS.reduce((sum, level) => sum + all[level], 0);
   byId('figures').append(
     figure('records', all.records, `${all.telemetry} telemetry, ${all.ticks} ticks, ${all.commands} commands, ${all.files} files`),
     figure('packets written', all.packets, `${all.housekeeping} housekeeping${all.other ? `, ${all.other} others` : ''}`),
-    figure('requests', all.requests, `of ${new Set(run.requests.map(request => request.rule)).size} rules`),
+    figure('requests', all.requests, `of ${run.requests_left_out ? 'at least ' : ''}${new Set(run.requests.map(request => request.rule)).size} rules`),
     figure('events', events, LEVELS.map(level => `${all[level]} ${level}`).join(', ')));
 }
 
@@ -27,8 +37,8 @@ function tellFiles() {
   for (const file of run.files) {
     const row = make('tr');
     const sum = make('td');
-    sum.append(make('code', '', file.sha256));
-    row.append(make('td', 'word', file.role), make('td', '', file.name), make('td', 'number', file.bytes), sum);
+    sum.append(makeBroken('code', '', file.sha256));
+    row.append(make('td', '', file.role), makeBroken('td', '', file.name), make('td', 'number', file.bytes), sum);
     byId('file_rows').append(row);
   }
 }
@@ -52,35 +62,36 @@ function listenToControls() {
 
 // On paper all lanes are drawn for its width, all rows are there, and each request says why.
 function beforePrint() {
+  showRest();
+  for (const more of document.querySelectorAll('#answers details')) more.open = true;
   document.body.classList.add('printing');
   if (drawn < found.length) drawRows(found.length);
-  byId('panel').replaceChildren(...run.requests.map(whyOf));
+  byId('reasons').replaceChildren(...run.requests.map(request => {
+    const article = whyOf(request);
+    article.prepend(make('h3', '', `Why sequence ${request.sequence}?`));
+    return article;
+  }));
   draw();
 }
 
 function afterPrint() {
   document.body.classList.remove('printing');
-  showFirst();
+  byId('reasons').replaceChildren();
   draw();
-}
-
-function showFirst() {
-  if (run.requests.length) showRequest(run.requests[0]);
-  else showText('Why', 'No sequence was requested.');
 }
 
 function start() {
   document.body.classList.toggle('no_epoch', run.epoch === null);
-  if (matchMedia('(max-width: 600px)').matches) byId('legend').open = false;
+  tellPart();
   tellFigures();
   tellFiles();
   fillUnits();
   makeLanes();
+  tellAnswers();
   fillFilters();
   [view.low, view.high] = wholeRun();
   find();
   draw();
-  showFirst();
   listenToControls();
   addEventListener('beforeprint', beforePrint);
   addEventListener('afterprint', afterPrint);

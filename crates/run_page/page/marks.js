@@ -1,23 +1,20 @@
 // Marks of requests, events and commands. Those whose labels would meet are one mark, which says how many it has.
 
-// What a mark says: one request its sequence, one event its number, one command its first word, of several how many.
-function labelOf(items) {
-  const requests = items.filter(item => item.request);
-  const uplinks = items.filter(item => item.kind === 'command');
-  const events = items.filter(item => !item.request && item.kind !== 'command');
-  const parts = [];
-  if (requests.length) parts.push(requests.length === 1 ? `▼ ${requests[0].request.sequence}` : `▼ ${requests.length}×`);
-  if (events.length) parts.push(events.length === 1 ? `● ${events[0].id}` : `● ${events.length}×`);
-  if (uplinks.length) parts.push(uplinks.length === 1 ? `◆ ${uplinks[0].says.split(' ')[0]}` : `◆ ${uplinks.length}×`);
-  return parts.join(' ');
+// What a mark says, kind by kind: one request its sequence, one event its number, one command its first word, of several how many.
+function labelsOf(items) {
+  return Object.keys(SHAPES).map(kind => [kind, items.filter(item => item.kind === kind)]).filter(([, own]) => own.length).map(([kind, own]) => {
+    const [item] = own;
+    const what = own.length > 1 ? `${own.length}×` : item.request?.sequence ?? item.id ?? item.says.split(' ')[0];
+    return { kind, text: `${SHAPES[kind]} ${what}` };
+  });
 }
 
 // A group with the pixels that its label takes, within the track.
 function grouped(items, first, last, width) {
-  const label = labelOf(items);
-  const room = Math.ceil(widthOf(label, 12, 700)) + 8;
+  const labels = labelsOf(items);
+  const room = Math.max(TARGET, Math.ceil(widthOf(labels.map(({ text }) => text).join(' '), 12, 700)) + 8);
   const left = Math.max(0, Math.min(first - 6, width - room));
-  return { items, first, last, label, left, right: left + room };
+  return { items, first, last, labels, left, right: left + room };
 }
 
 function groupsOf(items, width) {
@@ -37,14 +34,14 @@ function groupsOf(items, width) {
 
 // A mark, and below it a line from the place of its first to that of its last.
 function drawGroup(group, width) {
-  const kind = group.items.some(item => item.request) ? 'request' : group.items[0].kind === 'command' ? 'command' : 'event';
   const count = group.items.length;
   const name = count === 1 ? itemName(group.items[0])
-    : `${count} marks: ${group.label}, from ${at(group.items[0].at)} to ${at(group.items.at(-1).at)}`;
-  const mark = makeButton(`mark ${kind}`, group.label, name, () => showItems(group.items));
+    : `${count} marks: ${group.labels.map(({ text }) => text).join(' ')}, from ${at(group.items[0].at)} to ${at(group.items.at(-1).at)}`;
+  const mark = makeButton(`mark ${group.labels[0].kind}`, '', name, () => showItems(group.items));
+  group.labels.forEach(({ kind, text }, index) => mark.append(index ? ' ' : '', make('span', `ink_${kind}`, text)));
   mark.style.left = group.left / width * 100 + '%';
   mark.place = group.items[0].at.record + 0.5;
-  const reach = make('span', `reach ${kind}`, undefined, { 'aria-hidden': 'true' });
+  const reach = make('span', `reach ink_${group.labels[0].kind}`, undefined, { 'aria-hidden': 'true' });
   reach.style.left = Math.min(group.first, width - 2) / width * 100 + '%';
   reach.style.width = (group.last - group.first) / width * 100 + '%';
   return [mark, reach];

@@ -47,14 +47,15 @@ function makePlot(lane, field) {
   const plot = { row: make('div', 'row plot'), track: make('div', 'track'), field, lane, parts: limitPartsOf(lane.rule, field) };
   plot.steps = stepsOf(field);
   plot.told = make('div');
-  const label = make('div', 'name', name);
+  const label = makeBroken('div', 'name', name);
   label.append(plot.told, make('div', '', `${packets} packets`));
-  if (plot.parts.some(part => !isAlone(part.rule))) label.append(make('div', '', 'shade: this field’s part alone'));
+  if (plot.parts.some(part => !isAlone(part.rule))) label.append(make('div', '', 'shade: this field’s part only'));
   plot.row.append(label, plot.track);
   plot.track.tabIndex = 0;
   plot.track.setAttribute('role', 'slider');
   plot.track.setAttribute('aria-label', `${name}: ${values.length} values; arrows go from one to the next`);
   listenToPlot(plot);
+  tappable(plot.track, near => showItems([...new Set(near.map(({ item }) => item))]));
   return plot;
 }
 
@@ -142,18 +143,19 @@ function addLabel(labels, label, width, marks) {
   addLabel(labels, { texts, line: other.line, start: Math.min(other.start, label.start), end: Math.max(other.end, label.end) }, width, marks);
 }
 
-// The samples that counted for the rule's requests, at the values that they met.
+// The failed samples before the rule's requests, at the values that they met.
 function sampleMarks(plot, width) {
   return plot.lane.items.filter(item => item.request).flatMap(({ request }) => {
     const rule = ruleIn(request.text, request.rule);
     const part = rule ? rule.comparisons.findIndex(([field]) => field === plot.field) : -1;
     if (part < 0) return [];
     return request.samples.map(([record, time, parts]) => ({ request, record, time, value: parts[part][0] }));
-  }).filter(sample => sample.value !== null && shareOf(sample) >= 0 && shareOf(sample) <= 1).map(sample => {
+  }).filter(sample => sample.value !== null && sample.record >= FIRST && shareOf(sample) >= 0 && shareOf(sample) <= 1).map(sample => {
     const value = valueText(plot.field, sample.value);
-    const name = `sample that counted for sequence ${sample.request.sequence}: ${run.fields[plot.field].name} ${value}, ${at(sample)}`;
-    const mark = makeButton('diamond', '', name, () => showRequest(sample.request));
-    Object.assign(mark, { place: sample.record, x: shareOf(sample) * width, y: heightOf(plot, sample.value) });
+    const name = `failed sample before the request of sequence ${sample.request.sequence}: ${run.fields[plot.field].name} ${value}, ${at(sample)}`;
+    const item = plot.lane.items.find(each => each.request === sample.request);
+    const mark = makeButton('diamond', '', name, () => showItem(item));
+    Object.assign(mark, { place: sample.record, item, x: shareOf(sample) * width, y: heightOf(plot, sample.value) });
     mark.style.left = shareOf(sample) * 100 + '%';
     mark.style.top = mark.y + 'px';
     return mark;
@@ -167,6 +169,7 @@ function drawPlot(plot) {
   const drawing = make('div', 'drawing', undefined, { 'aria-hidden': 'true' });
   drawing.innerHTML = `<svg viewBox="0 0 ${width} ${HEIGHT}" preserveAspectRatio="none">${limitShapes(plot, width)}${valueShapes(plot, width)}</svg>`;
   const marks = sampleMarks(plot, width);
+  plot.track.drawn = marks.map(({ x, y, item }) => ({ left: x, right: x, top: y, item }));
   redraw(plot.track, [drawing, ...limitLabels(plot, width, marks), ...marks, ...readingOf(plot, width)]);
 }
 
@@ -179,6 +182,6 @@ function openLane(lane, open) {
   if (!open || lane.plots) return;
   const fields = [...new Set(rulesOf(lane.rule).flatMap(fieldsOf))];
   lane.plots = fields.map(field => makePlot(lane, field));
-  lane.row.after(...lane.plots.map(plot => plot.row));
+  (lane.row.nextElementSibling === byId('panel') ? byId('panel') : lane.row).after(...lane.plots.map(plot => plot.row));
   lane.plots.forEach(drawPlot);
 }

@@ -12,9 +12,9 @@ function positionOf(place) {
 
 const shareOf = place => (positionOf(place) - view.low) / (view.high - view.low);
 
-// The whole run. Behind the last record there is some room, since what stands there begins there.
+// The whole of the page. After the last record there is some room, since what stands there begins there.
 function wholeRun() {
-  if (view.unit === 'record') return [1, Math.max(2, END.record)];
+  if (view.unit === 'record') return [FIRST, Math.max(FIRST + 1, END.record)];
   const end = END.time / TICKS;
   return [0, end > 0 ? end * 1.02 : 1];
 }
@@ -77,7 +77,7 @@ function moveByKey(event) {
   if (/^(INPUT|SELECT|TEXTAREA)$/.test(event.target.tagName) || event.ctrlKey || event.metaKey || event.altKey) return;
   const move = {
     '+': () => zoom(0.6), '=': () => zoom(0.6), '-': () => zoom(1 / 0.6), 0: showAll,
-    ArrowLeft: () => pan(-0.25), ArrowRight: () => pan(0.25),
+    ArrowLeft: () => pan(-0.25), ArrowRight: () => pan(0.25), Escape: closePanel,
   }[event.key];
   if (!move) return;
   move();

@@ -1,9 +1,28 @@
-// The panel: why a request was made, and what a span or a mark is.
+// The panel below a lane: why a request was made, and what a span or a mark is.
 let chosen = null; // the packet that is marked in the table
+let closed = null; // what has the keys again after the panel is closed
 
-function showIn(panel, ...elements) {
-  panel.replaceChildren(...elements);
+// The panel opens below the row that it is about, which comes into view with it.
+function showAfter(row, title, ...elements) {
+  const panel = byId('panel');
+  if (!panel.contains(document.activeElement)) closed = document.activeElement;
+  const close = makeButton('close', '✕', 'close this', closePanel);
+  close.tabIndex = 0;
+  const head = make('div', 'opened');
+  head.append(makeBroken('h3', '', title), close);
+  panel.replaceChildren(head, ...elements);
+  panel.hidden = false;
+  row.after(panel);
+  if (panel.getBoundingClientRect().bottom > innerHeight) row.scrollIntoView({ block: 'start' });
 }
+
+function closePanel() {
+  const back = byId('panel').contains(document.activeElement);
+  byId('panel').hidden = true;
+  if (back && closed?.isConnected) closed.focus({ preventScroll: true });
+}
+
+const rowOf = item => (lanes[item.rule] ?? markRows[item.kind === 'command' ? 'commands' : 'others'])?.row ?? byId('axis');
 
 function conditionOf(rule) {
   const line = make('p', '', 'fails when ');
@@ -15,47 +34,60 @@ function conditionOf(rule) {
 function partsTable(rule, [, time, parts]) {
   const table = make('table');
   const head = make('tr');
-  head.append(make('th', '', 'comparison'), make('th', 'number', 'value'), make('th', '', 'its age'), make('th', '', 'holds'));
+  head.append(make('th', '', 'comparison'), make('th', 'number', 'value'), make('th', '', 'age'), make('th', '', 'holds'));
   table.append(head);
   parts.forEach(([value, record, since, verdict], index) => {
     const [field, operator, number] = rule.comparisons[index];
-    const age = record === null ? 'no packet came' : `${decimal(time - since)} s, record ${record}`;
+    const age = record === null ? 'no packet came' : `${decimal(time - since)} s, record\u00a0${record}`;
     const holds = { true: '✔ true', false: '✘ false' }[verdict] ?? verdict;
     const row = make('tr');
-    row.append(make('td', '', `${run.fields[field].name} ${operator} ${number}`),
-      make('td', 'number', record === null ? '–' : valueText(field, value)), make('td', 'word', age), make('td', 'holds', holds));
+    row.append(makeBroken('td', '', `${run.fields[field].name} ${operator}\u00a0${number}`),
+      make('td', 'number', record === null ? '–' : valueText(field, value)), make('td', age.length < 18 ? 'whole' : '', age), make('td', 'holds', holds));
     table.append(row);
   });
   return table;
 }
 
-// Which of the samples that counted one of the list is: the first three and the last three are there.
+// Which of the samples in a row one of the list is: the first three and the last three are there.
 function sampleHeading(request, index) {
   const shown = request.samples.length;
   const number = index < shown - Math.min(3, shown) ? index + 1 : request.counted - (shown - 1 - index);
   const [record, time] = request.samples[index];
-  return `Sample ${number} of ${request.counted}, ${at({ record, time })}: fail`;
+  return `Failed sample ${number} of ${request.counted}: ${sinceStart(time)} s, record ${record}`;
 }
 
-// The whole answer: rule, condition, and the samples that counted with what each comparison met.
+// Whether the event that goes with a request was sent, and why not.
+function eventWords(request, level) {
+  if (request.event !== null) return `, packet ${request.event}.`;
+  return { type: ` was not sent: events of ${level} are off.`, filter: ' was not sent: held back by a filter.' }[request.held] ?? ' was not sent.';
+}
+
+// The whole answer: rule, condition, and the failed samples with what each comparison met.
 function whyOf(request) {
   const rule = ruleIn(request.text, request.rule);
   const article = make('article');
-  article.append(make('h3', '', `Why sequence ${request.sequence}?`));
-  const failed = `failed in ${request.counted} sample${request.counted === 1 ? '' : 's in a row'}`;
-  const asked = rule ? `, and ${rule.fails} request${rule.fails === 1 ? 's' : ''} it` : '';
-  article.append(make('p', '', `${nameIn(request.text, request.rule)} (rule ${request.rule}) ${failed}${asked}.`),
-    make('p', '', `${at(request)}, packet ${request.packet}, count ${request.count}.`));
+  const place = `Sequence ${request.sequence} was requested ${at(request)}, packet ${request.packet}, count ${request.count}.`;
   if (!rule) {
-    article.append(make('p', 'soft', 'The tables in force were of none of the texts, so the condition isn’t known here.'));
+    const who = request.rule === null ? 'Which rule requested it is not known.' : `Rule ${request.rule} failed in ${counted(request.counted, 'sample')} in a row.`;
+    const why = request.text === null ? 'The tables in force were of none of the texts, so its condition is not known.' : '';
+    const event = request.rule === null ? '' : ` Its event${eventWords(request, 'its type')}`;
+    article.append(makeBroken('p', '', place), make('p', '', `${who} ${why}${event}`));
     return article;
   }
-  article.append(conditionOf(rule), make('p', 'soft', `In ${textName(request.text)}. Its event: ${rule.level} ${rule.event} “${rule.says}”`
-    + (request.event === null ? ', held back by a filter.' : `, packet ${request.event}.`)));
-  request.samples.forEach((sample, index) => {
-    article.append(make('p', '', sampleHeading(request, index)), partsTable(rule, sample));
-  });
-  if (!request.samples.length) article.append(make('p', 'soft', 'What the samples met is left out of this page, since it has that of many other requests.'));
+  const row = request.counted === 1 ? '1 sample' : `${request.counted} samples in a row`;
+  const needs = request.counted === rule.fails ? ', as many as it needs' : `; it needs ${rule.fails}`;
+  article.append(makeBroken('p', '', place), makeBroken('p', '', `${rule.name} (rule ${request.rule}) failed in ${row}${needs}. ${delayOf(request, rule)}`),
+    conditionOf(rule), makeBroken('p', 'soft', `In ${textName(request.text)}. Its event, ${rule.level} ${rule.event} “${rule.says}”${eventWords(request, `type ${rule.level}`)}`));
+  const samples = make('div', 'samples');
+  samples.append(...request.samples.map((sample, index) => {
+    const part = make('section');
+    part.append(make('h4', '', sampleHeading(request, index)), partsTable(rule, sample));
+    return part;
+  }));
+  article.append(samples);
+  if (!request.samples.length) {
+    article.append(make('p', 'soft', 'The values of its samples are not on this page, which has those of many other requests.'), ...moreAbout(request, request));
+  }
   return article;
 }
 
@@ -66,50 +98,42 @@ function choose(packet) {
   byId('rows').querySelector(`[data-packet="${packet}"]`)?.classList.add('chosen');
 }
 
-function rowLink(item) {
-  const link = makeButton('', `packet ${item.packet} in the table`, `to packet ${item.packet} in the table`, () => showRow(item));
+function linkTo(text, click) {
+  const link = makeButton('', text, text, click);
   link.tabIndex = 0;
   return link;
 }
 
-function showRequest(request) {
-  choose(request.packet);
-  const item = sent.find(each => each.packet === request.packet);
-  showIn(byId('panel'), whyOf(request), rowLink(item));
-}
+const rowLink = item => linkTo(`packet ${item.packet} in the table`, () => showRow(item));
 
 function showItem(item) {
-  if (item.request) { showRequest(item.request); return; }
-  choose(item.packet);
+  if (item.packet) choose(item.packet);
+  if (item.request) {
+    showAfter(rowOf(item), `Why sequence ${item.request.sequence}?`, whyOf(item.request), rowLink(item));
+    return;
+  }
   const [title, links] = item.kind === 'command' ? ['command', []] : [`${item.kind} event`, [rowLink(item)]];
-  showIn(byId('panel'), make('h3', '', title), make('p', '', itemName(item)), ...links);
+  showAfter(rowOf(item), title, makeBroken('p', '', itemName(item)), ...links);
 }
 
 // Several marks that are drawn as one: each has its own button, and all are zoomed to.
 function showItems(items) {
   if (items.length === 1) { showItem(items[0]); return; }
-  const nearer = makeButton('', 'zoom to these', 'zoom to these marks', () => zoomTo(items[0].at, items.at(-1).at));
-  nearer.tabIndex = 0;
-  const links = items.slice(0, 200).map(item => {
-    const link = makeButton('', itemName(item), itemName(item), () => showItem(item));
-    link.tabIndex = 0;
-    return link;
-  });
+  const links = items.slice(0, 200).map(item => linkTo(`${SHAPES[item.kind]} ${itemName(item)}`, () => showItem(item)));
   const rest = items.length > links.length ? [make('p', 'soft', `and ${items.length - links.length} more: zoom to see them`)] : [];
-  showIn(byId('panel'), make('h3', '', `${items.length} ${items[0].kind === 'command' ? 'commands' : 'requests and events'}`), nearer, ...links, ...rest);
+  showAfter(rowOf(items[0]), `${items.length} ${items[0].kind === 'command' ? 'commands' : 'requests and events'}`,
+    linkTo('zoom to these', () => zoomTo(items[0].at, items.at(-1).at)), ...links, ...rest);
 }
 
 // A span, or each of those that are drawn as one.
-function showSpan(rule, cell) {
-  const inForce = ruleIn(textBehind(cell.from.record), rule);
-  const parts = cell.parts.slice(0, 200).map(part => make('p', '', spanName(rule, part)));
+function showSpan(lane, cell) {
+  const text = textAt(cell.from.record);
+  const inForce = ruleIn(text, lane.rule);
+  const parts = cell.parts.slice(0, 200).map(part => makeBroken('p', '', spanName(lane.rule, part)));
   const rest = cell.parts.length > 200 ? [make('p', 'soft', `and ${cell.parts.length - 200} more: zoom to see them`)] : [];
   const reduced = cell.parts.some(part => part.changes > 1)
-    ? [make('p', 'soft', 'Where it says how many changes, the page has all results and states, and not each change.')] : [];
-  showIn(byId('panel'), make('h3', '', `${nameIn(textBehind(cell.from.record), rule)}: ${resultWords(cell.results)[0]}`),
-    ...(inForce ? [conditionOf(inForce)] : []), ...parts, ...rest, ...reduced);
-}
-
-function showText(title, text) {
-  showIn(byId('panel'), make('h3', '', title), make('p', '', text));
+    ? [make('p', 'soft', 'A number of changes stands for changes that are not on this page one by one.'), ...moreAbout(cell.from, cell.to)] : [];
+  const [nearer] = cell.parts.length > 1 ? [linkTo('zoom to these', () => zoomTo(cell.from, cell.to))] : [''];
+  showAfter(lane.row, `${nameIn(text, lane.rule)}: ${cell.pause || resultWords(cell.results)[0]}`,
+    ...(inForce ? [conditionOf(inForce)] : []), nearer, ...parts, ...rest, ...reduced);
 }

@@ -1,6 +1,6 @@
 // Times and places in words.
 
-// Seconds with at most five digits behind the point, rounded down, as the listings have them.
+// Seconds with at most five digits after the point, rounded down, as the listings have them.
 function decimal(time) {
   const size = Math.abs(time);
   const part = String(Math.floor(size % TICKS * 100000 / TICKS)).padStart(5, '0').replace(/0+$/, '');
@@ -9,6 +9,14 @@ function decimal(time) {
 
 const secondOf = time => decimal(run.start + time);
 const sinceStart = time => (time < 0 ? '' : '+') + decimal(time);
+const counted = (count, word) => `${count.toLocaleString('en')} ${word}${count === 1 ? '' : 's'}`;
+const listed = words => words.join(', ').replace(/, ([^,]*)$/, ' and $1');
+
+// 1st, 2nd, 3rd, 4th, .. 11th, .. 21st
+function ordinal(number) {
+  const ending = Math.floor(number / 10) % 10 === 1 ? 'th' : ['th', 'st', 'nd', 'rd'][number % 10] ?? 'th';
+  return number + ending;
+}
 
 // UTC of a time since the start, without leap seconds.
 function instantOf(time) {
@@ -20,11 +28,13 @@ function instantOf(time) {
   return whole.toISOString().slice(0, 19) + (part ? '.' + part : '') + 'Z';
 }
 
-// A record with its time.
-function at(place) {
+// A record with its time; `when` has the time alone.
+function when(place) {
   const instant = instantOf(place.time);
-  return `${sinceStart(place.time)} s (second ${secondOf(place.time)}${instant && ', ' + instant}, record ${place.record})`;
+  return `${sinceStart(place.time)} s (second ${secondOf(place.time)}${instant && ', ' + instant})`;
 }
+
+const at = place => when(place).replace(/\)$/, `, record ${place.record})`);
 
 // How long a span lasts, from where to where.
 function during({ from, to }) {
@@ -37,18 +47,21 @@ function resultWords(bits) {
   return wordsOf(bits, RESULTS).map(word => RESULT_WORDS[word] ?? word);
 }
 
-// What a span, or several that are drawn as one, says to who can't see it.
+const stateWords = bits => wordsOf(bits, STATES).map(word => (word === 'off' ? 'off for good' : word)).join(' and ');
+
+// What a span, or several that are drawn as one, says to a person who can't see it.
 function spanName(rule, span) {
   const [worst, ...others] = resultWords(span.results);
-  const states = wordsOf(span.states, STATES).join(' and ');
+  const states = stateWords(span.states);
   const also = others.length ? `, also ${others.join(', ')}` : '';
   const changes = span.changes > 1 ? `, ${span.changes} changes` : '';
-  return `${nameOf(rule)}: ${span.changes > 1 ? 'worst ' : ''}${worst}${also}${states && ', ' + states}${changes}, ${during(span)}`;
+  const pause = span.pause === 'LC disabled' ? 'not sampled while the Limit Checker is disabled, last result ' : span.pause ? 'not sampled, last result ' : '';
+  return `${nameOf(rule)}: ${pause}${span.changes > 1 ? 'worst ' : ''}${worst}${also}${states && ', ' + states}${changes}, ${during(span)}`;
 }
 
 function itemName(item) {
   if (item.kind === 'command') return `command ${item.says}, ${at(item.at)}`;
   const what = item.request ? `request of sequence ${item.request.sequence}` : `${item.kind} event ${whatOf(item)}`;
-  const rule = item.rule === null ? '' : ` of ${nameIn(textBehind(item.at.record), item.rule)}`;
+  const rule = item.rule === null ? '' : ` of ${nameIn(textAt(item.at.record), item.rule)}`;
   return `${what}${rule}, ${at(item.at)}, packet ${item.packet}`;
 }

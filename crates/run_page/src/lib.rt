@@ -13,6 +13,7 @@ mod page_front;
 mod page_script_0;
 mod page_script_1;
 mod page_script_2;
+mod page_script_3;
 mod progress;
 mod report;
 mod telling;

@@ -6,11 +6,13 @@ pub const TEXT: &str = r#"</script>
 'use strict';
 const run = JSON.parse(document.getElementById('run').textContent);
 const TICKS = 65536; // a time is in parts of a second
-const START = { record: 1, time: 0 };
-const END = { record: run.figures.records + 1, time: run.end };
+const FIRST = (run.window?.records ?? 0) + 1; // the page's first record
+const END = { record: FIRST + run.figures.records, time: run.end };
 const RESULTS = [[32, 'fail'], [16, 'error'], [8, 'stale'], [4, 'pass'], [2, 'none'], [1, 'absent']];
 const STATES = [[1, 'active'], [2, 'passive'], [4, 'disabled'], [8, 'off']];
 const RESULT_WORDS = { none: 'no result yet', absent: 'no such rule in force' };
+const LEVELS = ['critical', 'error', 'info', 'debug'];
+const SHAPES = { request: '▼', critical: '▲', error: '■', info: '●', debug: '○', command: '◆' };
 const wordsOf = (bits, table) => table.filter(([bit]) => bits & bit).map(([, word]) => word);
 const ruleIn = (text, number) => (text === null || text === undefined ? undefined : run.texts[text]?.rules[number]);
 const rulesOf = number => run.texts.map(text => text.rules[number]).filter(rule => rule);
@@ -19,7 +21,7 @@ function nameOf(number) {
 const names = [...new Set(rulesOf(number).map(rule => rule.name))];
 return names.length ? names.join(' / ') : `rule ${number}`;
 }
-const nameIn = (text, number) => ruleIn(text, number)?.name ?? nameOf(number);
+const nameIn = (text, number) => ruleIn(text, number)?.name ?? (text === null ? `rule ${number} of tables of no text` : nameOf(number));
 const textName = text => {
 const file = run.files.filter(each => each.role === 'rules')[text];
 return file ? `text ${text} (${file.name.split('/').at(-1)})` : `text ${text}`;
@@ -29,12 +31,27 @@ return list.map((entry, index) => ({
 entry, from: placeOf(entry), to: index + 1 < list.length ? placeOf(list[index + 1]) : end,
 }));
 }
+const disabledParts = withEnds(run.mode).filter(({ entry }) => entry[2] === 'disabled');
+function cut(span) {
+const cuts = disabledParts.flatMap(({ from, to }) => [from, to])
+.filter(({ record }) => span.changes === 1 && span.from.record < record && record < span.to.record);
+return [span.from, ...cuts].map((from, index) => ({ ...span, from, to: cuts[index] ?? span.to }));
+}
+function pauseOf({ from, to, results, states }) {
+if (results === 1) return '';
+if (states && !(states & 3)) return states === 4 ? 'disabled' : states === 8 ? 'off for good' : 'not sampled';
+return disabledParts.some(part => part.from.record <= from.record && to.record <= part.to.record) ? 'LC disabled' : '';
+}
 function spansOf(list) {
 return withEnds(list).map(({ entry, from, to }) => ({
 from, to, results: entry[2], states: entry[3], changes: entry.length > 4 ? entry[4] : 1,
-}));
+})).flatMap(cut).map(span => ({ ...span, pause: pauseOf(span) }));
 }
-const textBehind = record => run.tables.filter(entry => entry[0] <= record).at(-1)?.[2] ?? null;
+const entryAt = (list, record) => list[list.findLastIndex(entry => entry[0] <= record)];
+function textAt(record) {
+const entry = entryAt(run.tables, record);
+return entry?.[3] === 'untold' ? undefined : entry?.[2] ?? null;
+}
 function numberOf(text) {
 return text.startsWith('-') ? -Number(text.slice(1)) : Number(text);
 }
@@ -59,6 +76,12 @@ return (time < 0 ? '-' : '') + Math.floor(size / TICKS) + (part ? '.' + part : '
 }
 const secondOf = time => decimal(run.start + time);
 const sinceStart = time => (time < 0 ? '' : '+') + decimal(time);
+const counted = (count, word) => `${count.toLocaleString('en')} ${word}${count === 1 ? '' : 's'}`;
+const listed = words => words.join(', ').replace(/, ([^,]*)$/, ' and $1');
+function ordinal(number) {
+const ending = Math.floor(number / 10) % 10 === 1 ? 'th' : ['th', 'st', 'nd', 'rd'][number % 10] ?? 'th';
+return number + ending;
+}
 function instantOf(time) {
 if (run.epoch === null) return '';
 const ticks = run.start + time;
@@ -67,10 +90,11 @@ if (Number.isNaN(whole.getTime())) return '';
 const [, part] = decimal(ticks).split('.');
 return whole.toISOString().slice(0, 19) + (part ? '.' + part : '') + 'Z';
 }
-function at(place) {
+function when(place) {
 const instant = instantOf(place.time);
-return `${sinceStart(place.time)} s (second ${secondOf(place.time)}${instant && ', ' + instant}, record ${place.record})`;
+return `${sinceStart(place.time)} s (second ${secondOf(place.time)}${instant && ', ' + instant})`;
 }
+const at = place => when(place).replace(/\)$/, `, record ${place.record})`);
 function during({ from, to }) {
 if (to === END) return `from ${at(from)} to the end`;
 if (to.record === from.record) return `within record ${from.record}, ${at(from)}`;
@@ -79,18 +103,72 @@ return `from ${at(from)} to ${at(to)}`;
 function resultWords(bits) {
 return wordsOf(bits, RESULTS).map(word => RESULT_WORDS[word] ?? word);
 }
+const stateWords = bits => wordsOf(bits, STATES).map(word => (word === 'off' ? 'off for good' : word)).join(' and ');
 function spanName(rule, span) {
 const [worst, ...others] = resultWords(span.results);
-const states = wordsOf(span.states, STATES).join(' and ');
+const states = stateWords(span.states);
 const also = others.length ? `, also ${others.join(', ')}` : '';
 const changes = span.changes > 1 ? `, ${span.changes} changes` : '';
-return `${nameOf(rule)}: ${span.changes > 1 ? 'worst ' : ''}${worst}${also}${states && ', ' + states}${changes}, ${during(span)}`;
+const pause = span.pause === 'LC disabled' ? 'not sampled while the Limit Checker is disabled, last result ' : span.pause ? 'not sampled, last result ' : '';
+return `${nameOf(rule)}: ${pause}${span.changes > 1 ? 'worst ' : ''}${worst}${also}${states && ', ' + states}${changes}, ${during(span)}`;
 }
 function itemName(item) {
 if (item.kind === 'command') return `command ${item.says}, ${at(item.at)}`;
 const what = item.request ? `request of sequence ${item.request.sequence}` : `${item.kind} event ${whatOf(item)}`;
-const rule = item.rule === null ? '' : ` of ${nameIn(textBehind(item.at.record), item.rule)}`;
+const rule = item.rule === null ? '' : ` of ${nameIn(textAt(item.at.record), item.rule)}`;
 return `${what}${rule}, ${at(item.at)}, packet ${item.packet}`;
+}
+function knownPlaces() {
+const lists = [...run.lanes, ...run.fields.map(field => field.values), run.tables, run.mode, run.commands, run.events.map(event => event.slice(1)),
+run.requests.map(({ record, time }) => [record, time])];
+return lists.flat().map(placeOf).concat(END).sort((one, other) => one.record - other.record);
+}
+function leftOut() {
+const lists = ['requests', 'events', 'commands'].filter(kind => run[`${kind}_left_out`]);
+const known = lists.length ? knownPlaces() : [];
+return lists.map(kind => {
+const [count, first, last] = run[`${kind}_left_out`];
+return { kind, count, first, last, from: known.findLast(place => place.record <= first), to: known.find(place => place.record >= last) };
+});
+}
+const stretches = leftOut();
+const leftOutWords = ({ kind, count, first, last }) => `${count.toLocaleString('en')} ${kind} of records ${first} to ${last} are not on this page`;
+const quoted = name => (/^[\w./:@%+,-]+$/.test(name) ? name : `'${name.replaceAll("'", "'\\''")}'`);
+function commandFor(from, to) {
+const names = role => run.files.filter(file => file.role === role).map(file => quoted(file.name));
+const [low, high] = [Math.floor((run.start + from.time) / TICKS), Math.floor((run.start + to.time) / TICKS) + 1];
+return ['flight_tools report', ...(run.epoch === null ? [] : ['--epoch', run.epoch]), '--from', low, '--until', high,
+...names('schedule'), ...names('stream'), 'PART.html', ...names('rules')].join(' ');
+}
+function moreAbout(from, to) {
+if (!run.ordered) return [make('p', 'soft', 'Times go back in this stream, so no page of a part can be made.')];
+const line = make('p', '', 'This makes a page of this part: ');
+line.append(make('code', 'command_line', commandFor(from, to)));
+return [line];
+}
+function showStretch(stretch, row) {
+const [low, high] = ['low', 'high'].map(end => view[end] * TICKS);
+const inside = view.unit !== 'record' && stretch.from.time < high && stretch.to.time > low;
+const part = inside ? [{ time: Math.max(low, stretch.from.time) }, { time: Math.min(high, stretch.to.time) }] : [stretch.from, stretch.to];
+showAfter(row, `${stretch.kind} left out`, makeBroken('p', '', `${leftOutWords(stretch)}, between ${when(stretch.from)} and ${when(stretch.to)}. `
++ 'A page has the first and the last 300 requests, 300 commands and 1,000 events.'), ...moreAbout(...part));
+}
+function hatches(kinds, width) {
+const parts = [];
+for (const { kind, from, to } of stretches) {
+const last = parts.at(-1);
+if (!kinds.includes(kind)) continue;
+if (last && from.record <= last.to.record && last.from.record <= to.record) {
+Object.assign(last, { from: from.record < last.from.record ? from : last.from, to: to.record > last.to.record ? to : last.to });
+} else parts.push({ from, to });
+}
+return parts.filter(({ from, to }) => shareOf(to) >= 0 && shareOf(from) <= 1).map(({ from, to }) => {
+const [left, right] = [from, to].map(place => Math.max(0, Math.min(1, shareOf(place))));
+const hatch = make('span', 'hatch', undefined, { 'aria-hidden': 'true' });
+hatch.style.left = left * 100 + '%';
+hatch.style.width = Math.max(2, (right - left) * width) / width * 100 + '%';
+return hatch;
+});
 }
 const byId = id => document.getElementById(id);
 function make(tag, className, text, attributes = {}) {
@@ -98,6 +176,14 @@ const element = document.createElement(tag);
 if (className) element.className = className;
 if (text !== undefined) element.textContent = text;
 for (const name of Object.keys(attributes)) element.setAttribute(name, attributes[name]);
+return element;
+}
+function makeBroken(tag, className, text, attributes) {
+const element = make(tag, className, undefined, attributes);
+text.split(/(\d{4}-\d\d-\d\dT[\d:.]+Z)/).forEach((part, index) => {
+const pieces = part.split(/(?<=[_/])(?=\w)|(?<=\.)(?=[A-Za-z])/).flatMap(piece => piece.split(/([A-Za-z0-9]{16})(?=[A-Za-z0-9])/)).filter(piece => piece);
+element.append(...(index % 2 ? [make('span', 'whole', part)] : pieces.flatMap(piece => [make('wbr'), piece]).slice(1)));
+});
 return element;
 }
 function makeButton(className, text, name, click) {
@@ -111,6 +197,7 @@ function widthOf(text, size, weight = 400) {
 pen.font = `${weight} ${size}px ${family}`;
 return pen.measureText(text).width;
 }
+const fitting = (texts, room, size, weight) => texts.find(text => widthOf(text, size, weight) <= room) ?? '';
 function walkable(track) {
 track.addEventListener('keydown', event => {
 const step = { ArrowLeft: -1, ArrowRight: 1, Home: -Infinity, End: Infinity }[event.key];
@@ -123,6 +210,19 @@ if (!buttons[now + step] && Number.isFinite(step)) pan(step / 2);
 const next = buttons[Math.max(0, Math.min(buttons.length - 1, now + step))];
 setStop(track, next);
 next.focus({ preventScroll: true });
+});
+}
+const TARGET = 24; // px
+function tappable(track, open) {
+track.addEventListener('click', event => {
+if (!event.detail || event.target.closest('.mark') || !track.drawn) return;
+const box = track.getBoundingClientRect();
+const [x, y] = [event.clientX - box.left, event.clientY - box.top];
+const near = track.drawn.filter(({ left, right, top }) => {
+const room = right - left < TARGET ? TARGET / 2 : 0;
+return left - room <= x && x <= right + room && (top === undefined || Math.abs(top - y) <= TARGET / 2);
+});
+if (near.length) open(near);
 });
 }
 const stopsOf = track => [...track.querySelectorAll('button')].sort((one, other) => one.place - other.place);
@@ -148,7 +248,7 @@ return view.unit === 'record' ? place.record : place.time / TICKS;
 }
 const shareOf = place => (positionOf(place) - view.low) / (view.high - view.low);
 function wholeRun() {
-if (view.unit === 'record') return [1, Math.max(2, END.record)];
+if (view.unit === 'record') return [FIRST, Math.max(FIRST + 1, END.record)];
 const end = END.time / TICKS;
 return [0, end > 0 ? end * 1.02 : 1];
 }
@@ -197,7 +297,7 @@ function moveByKey(event) {
 if (/^(INPUT|SELECT|TEXTAREA)$/.test(event.target.tagName) || event.ctrlKey || event.metaKey || event.altKey) return;
 const move = {
 '+': () => zoom(0.6), '=': () => zoom(0.6), '-': () => zoom(1 / 0.6), 0: showAll,
-ArrowLeft: () => pan(-0.25), ArrowRight: () => pan(0.25),
+ArrowLeft: () => pan(-0.25), ArrowRight: () => pan(0.25), Escape: closePanel,
 }[event.key];
 if (!move) return;
 move();
@@ -281,104 +381,4 @@ return 0;
 }
 function numberText(number, step) {
 const digits = Math.max(0, Math.min(5, -Math.floor(Math.log10(step) + 1e-9)));
-if (view.unit === 'utc') return clockText(number, step, digits);
-return (view.unit === 'start' ? '+' : '') + number.toFixed(view.unit === 'record' ? 0 : digits);
-}
-function clockText(number, step, digits) {
-const whole = Math.floor(number + 1e-6);
-const instant = new Date(whole * 1000);
-if (Number.isNaN(instant.getTime())) return '';
-const [day, clock] = instant.toISOString().slice(0, 19).split('T');
-if (step >= DAY) return day;
-if (number % DAY === 0) return day.slice(5) + ' 00:00';
-if (step >= MINUTE) return clock.slice(0, 5);
-return clock + (digits ? (number - whole).toFixed(digits).slice(1) : '');
-}
-function numbersBy(step) {
-const origin = originOf();
-const [low, high] = [view.low + origin, view.high + origin];
-const numbers = [];
-for (let count = Math.ceil(low / step - 1e-9); count * step <= high; count += 1) {
-numbers.push({ share: (count * step - low) / (high - low), text: numberText(count * step, step) });
-}
-return numbers;
-}
-function numbersFor(width) {
-const size = view.high - view.low;
-let step = stepFrom(size / Math.max(1, width / 40));
-for (let tries = 0; tries < 20; tries += 1) {
-const numbers = numbersBy(step);
-if (numbers.every(({ text }) => widthOf(text, 11.5) + 16 <= step / size * width)) return numbers;
-step = stepFrom(step * 1.01);
-}
-return [];
-}
-function axisName() {
-if (view.unit === 'start') return `s after ${secondOf(0)}`;
-if (view.unit === 'utc') return `UTC, ${instantOf(Math.round(view.low * TICKS)).slice(0, 10)}`;
-return UNITS[view.unit];
-}
-function drawAxis(axis) {
-const width = axis.track.clientWidth;
-axis.track.replaceChildren(...numbersFor(width).map(({ share, text }) => {
-const fits = (1 - share) * width > widthOf(text, 11.5) + 5;
-const tick = make('div', 'tick', fits ? text : '');
-tick.style.left = share * 100 + '%';
-return tick;
-}));
-axis.name.textContent = axisName();
-axis.track.setAttribute('aria-valuenow', view.low);
-const ends = [view.low, view.high].map(end => (view.unit === 'record' ? Math.floor(end) : decimal(Math.round(end * TICKS))));
-axis.track.setAttribute('aria-valuetext', `from ${ends[0]} to ${ends[1]}${view.unit === 'record' ? '' : ' s after the start'}`);
-}
-function makeAxis() {
-const axis = makeRow('', false);
-axis.row.id = 'axis';
-axis.track.tabIndex = 0;
-axis.track.setAttribute('role', 'slider');
-axis.track.setAttribute('aria-label', 'Axis: arrows move, plus and minus zoom, 0 is the whole run');
-drawings.push(() => drawAxis(axis));
-}
-function labelOf(items) {
-const requests = items.filter(item => item.request);
-const uplinks = items.filter(item => item.kind === 'command');
-const events = items.filter(item => !item.request && item.kind !== 'command');
-const parts = [];
-if (requests.length) parts.push(requests.length === 1 ? `▼ ${requests[0].request.sequence}` : `▼ ${requests.length}×`);
-if (events.length) parts.push(events.length === 1 ? `● ${events[0].id}` : `● ${events.length}×`);
-if (uplinks.length) parts.push(uplinks.length === 1 ? `◆ ${uplinks[0].says.split(' ')[0]}` : `◆ ${uplinks.length}×`);
-return parts.join(' ');
-}
-function grouped(items, first, last, width) {
-const label = labelOf(items);
-const room = Math.ceil(widthOf(label, 12, 700)) + 8;
-const left = Math.max(0, Math.min(first - 6, width - room));
-return { items, first, last, label, left, right: left + room };
-}
-function groupsOf(items, width) {
-const groups = [];
-for (const item of items) {
-const share = shareOf(item.at);
-if (share < 0 || share > 1) continue;
-let group = grouped([item], share * width, share * width, width);
-while (groups.length && groups.at(-1).right + 4 > group.left) {
-const before = groups.pop();
-group = grouped(before.items.concat(group.items), before.first, group.last, width);
-}
-groups.push(group);
-}
-return groups;
-}
-function drawGroup(group, width) {
-const kind = group.items.some(item => item.request) ? 'request' : group.items[0].kind === 'command' ? 'command' : 'event';
-const count = group.items.length;
-const name = count === 1 ? itemName(group.items[0])
-: `${count} marks: ${group.label}, from ${at(group.items[0].at)} to ${at(group.items.at(-1).at)}`;
-const mark = makeButton(`mark ${kind}`, group.label, name, () => showItems(group.items));
-mark.style.left = group.left / width * 100 + '%';
-mark.place = group.items[0].at.record + 0.5;
-const reach = make('span', `reach ${kind}`, undefined, { 'aria-hidden': 'true' });
-reach.style.left = Math.min(group.first, width - 2) / width * 100 + '%';
-reach.style.width = (group.last - group.first) / width * 100 + '%';
-return [mark, reach];
 "#;

@@ -1,14 +1,113 @@
 //! The page behind its data, part 1. Written by tools/gate/page_constants.
 
 /// The page behind its data, part 1.
-pub const TEXT: &str = r#"}
+pub const TEXT: &str = r#"if (view.unit === 'utc') return clockText(number, step, digits);
+return (view.unit === 'start' ? '+' : '') + number.toFixed(view.unit === 'record' ? 0 : digits);
+}
+function clockText(number, step, digits) {
+const whole = Math.floor(number + 1e-6);
+const instant = new Date(whole * 1000);
+if (Number.isNaN(instant.getTime())) return '';
+const [day, clock] = instant.toISOString().slice(0, 19).split('T');
+if (step >= DAY) return day;
+if (number % DAY === 0) return day.slice(5) + ' 00:00';
+if (step >= MINUTE) return clock.slice(0, 5);
+return clock + (digits ? (number - whole).toFixed(digits).slice(1) : '');
+}
+function numbersBy(step) {
+const origin = originOf();
+const [low, high] = [view.low + origin, view.high + origin];
+const numbers = [];
+for (let count = Math.ceil(low / step - 1e-9); count * step <= high; count += 1) {
+numbers.push({ share: (count * step - low) / (high - low), text: numberText(count * step, step) });
+}
+return numbers;
+}
+function numbersFor(width) {
+const size = view.high - view.low;
+let step = stepFrom(size / Math.max(1, width / 40));
+for (let tries = 0; tries < 20; tries += 1) {
+const numbers = numbersBy(step);
+if (numbers.every(({ text }) => widthOf(text, 11.5) + 16 <= step / size * width)) return numbers;
+step = stepFrom(step * 1.01);
+}
+return [];
+}
+function axisName() {
+if (view.unit === 'start') return `s after ${secondOf(0)}`;
+if (view.unit === 'utc') return `UTC, ${instantOf(Math.round(view.low * TICKS)).slice(0, 10)}`;
+return UNITS[view.unit];
+}
+function drawAxis(axis) {
+const width = axis.track.clientWidth;
+axis.track.replaceChildren(...numbersFor(width).map(({ share, text }) => {
+const fits = (1 - share) * width > widthOf(text, 11.5) + 5;
+const tick = make('div', 'tick', fits ? text : '');
+tick.style.left = share * 100 + '%';
+return tick;
+}));
+axis.name.textContent = axisName();
+axis.track.setAttribute('aria-valuenow', view.low);
+const ends = [view.low, view.high].map(end => (view.unit === 'record' ? Math.floor(end) : decimal(Math.round(end * TICKS))));
+axis.track.setAttribute('aria-valuetext', `from ${ends[0]} to ${ends[1]}${view.unit === 'record' ? '' : ' s after the start'}`);
+}
+function makeAxis() {
+const axis = makeRow('', false);
+axis.row.id = 'axis';
+axis.track.tabIndex = 0;
+axis.track.setAttribute('role', 'slider');
+axis.track.setAttribute('aria-label', 'Axis: arrows move, plus and minus zoom, 0 is the whole run');
+drawings.push(() => drawAxis(axis));
+}
+function labelsOf(items) {
+return Object.keys(SHAPES).map(kind => [kind, items.filter(item => item.kind === kind)]).filter(([, own]) => own.length).map(([kind, own]) => {
+const [item] = own;
+const what = own.length > 1 ? `${own.length}×` : item.request?.sequence ?? item.id ?? item.says.split(' ')[0];
+return { kind, text: `${SHAPES[kind]} ${what}` };
+});
+}
+function grouped(items, first, last, width) {
+const labels = labelsOf(items);
+const room = Math.max(TARGET, Math.ceil(widthOf(labels.map(({ text }) => text).join(' '), 12, 700)) + 8);
+const left = Math.max(0, Math.min(first - 6, width - room));
+return { items, first, last, labels, left, right: left + room };
+}
+function groupsOf(items, width) {
+const groups = [];
+for (const item of items) {
+const share = shareOf(item.at);
+if (share < 0 || share > 1) continue;
+let group = grouped([item], share * width, share * width, width);
+while (groups.length && groups.at(-1).right + 4 > group.left) {
+const before = groups.pop();
+group = grouped(before.items.concat(group.items), before.first, group.last, width);
+}
+groups.push(group);
+}
+return groups;
+}
+function drawGroup(group, width) {
+const count = group.items.length;
+const name = count === 1 ? itemName(group.items[0])
+: `${count} marks: ${group.labels.map(({ text }) => text).join(' ')}, from ${at(group.items[0].at)} to ${at(group.items.at(-1).at)}`;
+const mark = makeButton(`mark ${group.labels[0].kind}`, '', name, () => showItems(group.items));
+group.labels.forEach(({ kind, text }, index) => mark.append(index ? ' ' : '', make('span', `ink_${kind}`, text)));
+mark.style.left = group.left / width * 100 + '%';
+mark.place = group.items[0].at.record + 0.5;
+const reach = make('span', `reach ink_${group.labels[0].kind}`, undefined, { 'aria-hidden': 'true' });
+reach.style.left = Math.min(group.first, width - 2) / width * 100 + '%';
+reach.style.width = (group.last - group.first) / width * 100 + '%';
+return [mark, reach];
+}
 const marksOf = (items, width) => groupsOf(items, width).flatMap(group => drawGroup(group, width));
 const LEAST = 4; // px: what is narrower is drawn together with its neighbours
 const CELL_WORDS = { fail: 'FAIL', error: 'error', stale: 'stale', pass: 'pass', none: 'none', absent: '' };
+const LETTERS = { fail: ['F'], error: ['E'], stale: ['S'] };
 const lanes = [];
+const markRows = {};
 function makeRow(label, isButton) {
 const row = make('div', 'row');
-const name = make(isButton ? 'button' : 'div', 'name', label, isButton ? { type: 'button', 'aria-expanded': 'false' } : {});
+const name = makeBroken(isButton ? 'button' : 'div', 'name', label, isButton ? { type: 'button', 'aria-expanded': 'false' } : {});
 const track = make('div', 'track');
 row.append(name, track);
 byId('lanes').append(row);
@@ -17,8 +116,8 @@ return { row, name, track };
 }
 function joined(one, other) {
 return {
-from: one.from, to: other.to, left: one.left, right: other.right, results: one.results | other.results,
-states: one.states | other.states, changes: one.changes + other.changes, parts: one.parts.concat(other.parts),
+from: one.from, to: other.to, left: one.left, right: other.right, results: one.results | other.results, states: one.states | other.states,
+pause: one.pause === other.pause ? one.pause : '', changes: one.changes + other.changes, parts: one.parts.concat(other.parts),
 };
 }
 function cellsOf(spans, width) {
@@ -39,26 +138,33 @@ const least = cell.results & 32 || cell.changes > 1 ? LEAST : 1;
 const left = Math.min(cell.left, width - least);
 element.style.left = left / width * 100 + '%';
 element.style.width = Math.max(least, cell.right - left) / width * 100 + '%';
+element.classList.toggle('slim', cell.right - left < TARGET);
 element.place = cell.from.record;
+}
+function cellTexts(cell, worst, state) {
+const word = CELL_WORDS[worst];
+if (cell.pause) return [`${cell.pause}, was ${word}`, cell.pause, { 'LC disabled': 'LC off', 'off for good': 'off' }[cell.pause] ?? 'D'];
+return [...(state === 'passive' && word ? [`${word}, passive`, `${word} P`] : []), word, ...(LETTERS[worst] ?? [])];
+}
+function openCell(lane, cell) {
+if (cell.parts.length > 1 || cell.changes > 1) zoomTo(cell.from, cell.to);
+showSpan(lane, cell);
 }
 function drawCell(lane, cell, width) {
 const [worst] = wordsOf(cell.results, RESULTS);
 const states = wordsOf(cell.states, STATES);
 const state = states.length > 1 ? 'mixed' : states[0] ?? '';
-const text = CELL_WORDS[worst];
-const fits = widthOf(text, 11, 700) + 4 <= cell.right - cell.left;
-const several = cell.changes > 1;
-const element = makeButton(`cell ${worst} ${state}${several ? ' many' : ''}`, fits ? text : '', spanName(lane.rule, cell), () => {
-if (several) zoomTo(cell.from, cell.to);
-showSpan(lane.rule, cell);
-});
+const text = fitting(cellTexts(cell, worst, state), cell.right - cell.left - 6, 11, 700);
+const classes = `cell ${worst} ${state}${cell.changes > 1 ? ' many' : ''}${cell.pause ? ' paused' : ''}`;
+const element = makeButton(classes, text, spanName(lane.rule, cell), event => { if (!event.detail) openCell(lane, cell); });
 place(element, cell, width);
 return element;
 }
 function drawLane(lane) {
 const width = lane.track.clientWidth || 1;
-const cells = cellsOf(lane.spans, width).map(cell => drawCell(lane, cell, width));
-redraw(lane.track, cells.concat(marksOf(lane.marks, width)));
+lane.track.drawn = cellsOf(lane.spans, width);
+const cells = lane.track.drawn.map(cell => drawCell(lane, cell, width));
+redraw(lane.track, [...hatches(['requests', 'events'], width), ...cells, ...marksOf(lane.marks, width)]);
 if (lane.plots) lane.plots.forEach(drawPlot);
 }
 let others = [];
@@ -83,46 +189,61 @@ if (others.length) timer = setTimeout(drawOthers, 20);
 }
 function makeLane(list, rule, items) {
 const lane = { ...makeRow(nameOf(rule), true), rule, spans: spansOf(list), items };
-const told = new Set(items.filter(item => item.request).map(item => item.request.event));
-lane.marks = items.filter(item => !told.has(item.packet));
+const own = new Set(items.filter(item => item.request).map(item => item.request.event));
+lane.marks = items.filter(item => !own.has(item.packet));
 lane.failed = lane.spans.some(span => span.results & 32);
 lane.words = [nameOf(rule), ...rulesOf(rule).map(each => each.condition)].join(' ').toLowerCase();
-lane.track.classList.toggle('marked', lane.marks.length > 0);
+lane.track.classList.toggle('marked', lane.marks.length > 0 || stretches.some(({ kind }) => kind !== 'commands'));
 lane.row.lane = lane;
 lane.row.setAttribute('role', 'group');
 lane.row.setAttribute('aria-label', nameOf(rule));
 lane.name.addEventListener('click', () => openLane(lane, !lane.plots));
+tappable(lane.track, cells => openCell(lane, cells.reduce(joined)));
 onScreen.observe(lane.row);
 lanes.push(lane);
 }
-function makeBand(label, entries, textOf, tellOf) {
+function makeBand(label, parts, open) {
 const band = makeRow(label, false);
-const parts = withEnds(entries).map(part => ({ ...part, text: textOf(part.entry), tells: tellOf(part.entry) }));
+const show = cells => (open ? open(cells[0], band.row) : showAfter(band.row, label, ...cells.map(cell => makeBroken('p', '', cell.name))));
+tappable(band.track, show);
 drawings.push(() => {
 const width = band.track.clientWidth || 1;
-redraw(band.track, parts.filter(({ from, to }) => shareOf(to) >= 0 && shareOf(from) <= 1).map(part => {
+band.track.drawn = parts.filter(({ from, to }) => shareOf(to) >= 0 && shareOf(from) <= 1).map(part => {
 const [left, right] = [part.from, part.to].map(end => Math.max(0, Math.min(1, shareOf(end))) * width);
-const name = `${label}: ${part.tells}, ${during(part)}`;
-const fits = widthOf(part.text, 11) + 10 <= right - left;
-const element = makeButton('cell band', fits ? part.text : '', name, () => showText(label, name));
-place(element, { ...part, left, right }, width);
+return { ...part, left, right, name: `${label}: ${part.says}${open ? '' : ', ' + during(part)}` };
+});
+redraw(band.track, band.track.drawn.map(cell => {
+const text = fitting(cell.texts, cell.right - cell.left - 16, 11, 600);
+const element = makeButton(`cell band ${cell.look}`, '', cell.name, event => { if (!event.detail) show([cell]); });
+element.append(make('span', '', text));
+place(element, cell, width);
 return element;
 }));
 });
 }
+const MODES = {
+active: ['active', 'A'], passive: ['passive', 'P'], disabled: ['disabled', 'D'], absent: ['no Limit Checker', 'no LC', '–'], untold: ['not recorded any more', '?'],
+};
 function makeBands() {
-const how = { none: 'no tables', started: 'started', adopted: 'adopted in flight', untold: 'not told any more' };
-const nameOfText = text => (text === null ? 'tables of no text' : textName(text));
-makeBand('tables in force', run.tables, ([, , text, way]) => (way in { none: 0, untold: 0 } ? how[way] : nameOfText(text)),
-([, , text, way]) => (way in { none: 0, untold: 0 } ? how[way] : `${nameOfText(text)}, ${how[way]}`));
-const modes = { absent: 'no Limit Checker', untold: 'not told any more' };
-makeBand('mode of the checker', run.mode, ([, , mode]) => modes[mode] ?? mode, ([, , mode]) => modes[mode] ?? mode);
+const how = { none: 'no tables', started: 'since the start', adopted: 'adopted in flight', untold: 'not recorded any more' };
+makeBand('tables in force', withEnds(run.tables).map(({ entry: [, , text, way], from, to }) => {
+const texts = way in { none: 0, untold: 0 } ? [how[way]] : text === null ? ['tables of no text', 'no text'] : [textName(text), `text ${text}`, `${text}`];
+const came = run.window?.records && from.record === FIRST ? 'in force where this part begins' : how[way];
+return { from, to, texts, says: came === texts[0] ? texts[0] : `${texts[0]}, ${came}`, look: 'tables' };
+}));
+makeBand('mode of the checker', withEnds(run.mode).map(({ entry: [, , mode], from, to }) => (
+{ from, to, texts: MODES[mode], says: MODES[mode][0], look: `mode_${mode}` })));
+for (const stretch of stretches) {
+const count = `${stretch.count.toLocaleString('en')} ${stretch.kind}`;
+const texts = [`${count} left out`, count, `${stretch.count}`];
+makeBand('not on this page', [{ ...stretch, texts, says: leftOutWords(stretch), look: 'hatch' }], showStretch);
 }
-function makeMarks(label, items) {
+}
+function makeMarks(key, label, items, kinds) {
 if (!items.length) return;
-const row = makeRow(label, false);
-row.track.classList.add('marks_alone');
-drawings.push(() => redraw(row.track, marksOf(items, row.track.clientWidth || 1)));
+const { row, track } = markRows[key] = makeRow(label, false);
+track.classList.add('marks_alone');
+drawings.push(() => redraw(track, [...hatches(kinds, track.clientWidth), ...marksOf(items, track.clientWidth || 1)]));
 }
 function makeLanes() {
 const byRule = new Map();
@@ -132,8 +253,8 @@ byRule.get(item.rule).push(item);
 }
 makeAxis();
 makeBands();
-makeMarks('commands', commands);
-makeMarks('other events', byRule.get(null) ?? []);
+makeMarks('commands', 'commands', commands, ['commands']);
+makeMarks('others', 'other events', byRule.get(null) ?? [], ['events']);
 run.lanes.forEach((list, rule) => makeLane(list, rule, byRule.get(rule) ?? []));
 drawings.push(drawLanes);
 }
@@ -227,14 +348,15 @@ const { name, values, packets } = run.fields[field];
 const plot = { row: make('div', 'row plot'), track: make('div', 'track'), field, lane, parts: limitPartsOf(lane.rule, field) };
 plot.steps = stepsOf(field);
 plot.told = make('div');
-const label = make('div', 'name', name);
+const label = makeBroken('div', 'name', name);
 label.append(plot.told, make('div', '', `${packets} packets`));
-if (plot.parts.some(part => !isAlone(part.rule))) label.append(make('div', '', 'shade: this field’s part alone'));
+if (plot.parts.some(part => !isAlone(part.rule))) label.append(make('div', '', 'shade: this field’s part only'));
 plot.row.append(label, plot.track);
 plot.track.tabIndex = 0;
 plot.track.setAttribute('role', 'slider');
 plot.track.setAttribute('aria-label', `${name}: ${values.length} values; arrows go from one to the next`);
 listenToPlot(plot);
+tappable(plot.track, near => showItems([...new Set(near.map(({ item }) => item))]));
 return plot;
 }
 const sharePixels = (place, width) => Math.max(-10, Math.min(width + 10, shareOf(place) * width));
@@ -258,127 +380,4 @@ let line = '', boxes = '', dots = '', before = null;
 for (const step of plot.steps) {
 const [left, right] = [step.from, step.to].map(place => sharePixels(place, width));
 if (right < 0 || left > width) continue;
-if (step.low === null) { before = null; continue; }
-const [top, bottom] = [heightOf(plot, step.high), heightOf(plot, step.low)];
-line += before === null ? `M${left} ${bottom}` : `H${left}V${bottom}`;
-if (step.changes > 1) boxes += `<rect class="between" x="${left}" y="${top}" width="${Math.max(1, right - left)}" height="${Math.max(1, bottom - top)}"/>`;
-else dots += `M${left} ${bottom}h0`;
-line += step.changes > 1 ? `M${right} ${bottom}` : `H${right}`;
-before = step;
-}
-const few = dots.length < 6000;
-return `${boxes}<path class="line" d="${line}"/>${few ? `<path class="dots" d="${dots}"/>` : ''}`;
-}
-function limitLabels(plot, width, marks) {
-const labels = [];
-for (const part of plot.parts) {
-const [left, right] = [part.from, part.to].map(end => Math.max(0, Math.min(width, shareOf(end) * width)));
-if (shareOf(part.to) < 0 || shareOf(part.from) > 1) continue;
-for (const [operator, number] of part.limits) {
-const line = heightOf(plot, numberOf(number));
-const beyond = line < 0 ? '↑ ' : line > HEIGHT ? '↓ ' : '';
-addLabel(labels, { texts: [`${beyond}${operator} ${number}`], line, start: left, end: right }, width, marks);
-}
-}
-return labels.map(label => {
-const element = make('div', 'limit_text', label.texts.join(', '));
-element.style.top = label.top + 'px';
-element.style.left = label.left / width * 100 + '%';
-return element;
-});
-}
-function freePlace(label, wide, width, marks) {
-const meets = (left, top) => marks.some(mark => mark.x > left - 10 && mark.x < left + wide + 8 && Math.abs(mark.y - top - 7) < 16);
-const tops = [label.line - 15, label.line + 2].map(top => Math.max(0, Math.min(HEIGHT - 14, top)));
-const first = Math.max(0, Math.min(label.start + 3, width - wide));
-for (const top of tops) {
-for (let left = first; left === first || left + wide <= label.end; left += 4) {
-if (!meets(left, top)) return { left, top };
-}
-}
-return null;
-}
-function addLabel(labels, label, width, marks) {
-const wide = widthOf(label.texts.join(', '), 11) + 10;
-const free = freePlace(label, wide, width, marks);
-if (!free) return;
-Object.assign(label, free);
-label.right = label.left + wide;
-const met = labels.findIndex(other => Math.abs(other.top - label.top) < 15 && other.left < label.right && label.left < other.right);
-if (met < 0) { labels.push(label); return; }
-const [other] = labels.splice(met, 1);
-const texts = [...new Set(other.texts.concat(label.texts))];
-addLabel(labels, { texts, line: other.line, start: Math.min(other.start, label.start), end: Math.max(other.end, label.end) }, width, marks);
-}
-function sampleMarks(plot, width) {
-return plot.lane.items.filter(item => item.request).flatMap(({ request }) => {
-const rule = ruleIn(request.text, request.rule);
-const part = rule ? rule.comparisons.findIndex(([field]) => field === plot.field) : -1;
-if (part < 0) return [];
-return request.samples.map(([record, time, parts]) => ({ request, record, time, value: parts[part][0] }));
-}).filter(sample => sample.value !== null && shareOf(sample) >= 0 && shareOf(sample) <= 1).map(sample => {
-const value = valueText(plot.field, sample.value);
-const name = `sample that counted for sequence ${sample.request.sequence}: ${run.fields[plot.field].name} ${value}, ${at(sample)}`;
-const mark = makeButton('diamond', '', name, () => showRequest(sample.request));
-Object.assign(mark, { place: sample.record, x: shareOf(sample) * width, y: heightOf(plot, sample.value) });
-mark.style.left = shareOf(sample) * 100 + '%';
-mark.style.top = mark.y + 'px';
-return mark;
-});
-}
-function drawPlot(plot) {
-const width = plot.track.clientWidth || 1;
-[plot.low, plot.high] = boundsOf(plot);
-plot.told.textContent = plot.values;
-const drawing = make('div', 'drawing', undefined, { 'aria-hidden': 'true' });
-drawing.innerHTML = `<svg viewBox="0 0 ${width} ${HEIGHT}" preserveAspectRatio="none">${limitShapes(plot, width)}${valueShapes(plot, width)}</svg>`;
-const marks = sampleMarks(plot, width);
-redraw(plot.track, [drawing, ...limitLabels(plot, width, marks), ...marks, ...readingOf(plot, width)]);
-}
-function openLane(lane, open) {
-lane.name.setAttribute('aria-expanded', open);
-if (!open && lane.plots) {
-lane.plots.forEach(plot => plot.row.remove());
-lane.plots = null;
-}
-if (!open || lane.plots) return;
-const fields = [...new Set(rulesOf(lane.rule).flatMap(fieldsOf))];
-lane.plots = fields.map(field => makePlot(lane, field));
-lane.row.after(...lane.plots.map(plot => plot.row));
-lane.plots.forEach(drawPlot);
-}
-function readingText(plot, step) {
-const [low, high] = [step.low, step.high].map(value => valueText(plot.field, value));
-return step.changes > 1 ? `${low} to ${high}, ${step.changes} changes` : low;
-}
-function readingOf(plot, width) {
-const step = plot.steps[plot.read];
-if (!step || shareOf(step.to) < 0 || shareOf(step.from) > 1) return [];
-const text = `${readingText(plot, step)} from ${sinceStart(step.from.time)} s`;
-const left = Math.max(0, shareOf(step.from)) * width;
-const cursor = make('div', 'cursor');
-cursor.style.left = left / width * 100 + '%';
-const reading = make('div', 'reading', text);
-const room = widthOf(text, 11) + 10;
-reading.style.left = (left + 4 + room > width ? Math.max(0, left - room - 4) : left + 4) / width * 100 + '%';
-return [cursor, reading];
-}
-function read(plot, index) {
-if (index === plot.read || !plot.steps[index]) return;
-plot.read = index;
-const step = plot.steps[index];
-plot.track.setAttribute('aria-valuenow', index + 1);
-plot.track.setAttribute('aria-valuemin', 1);
-plot.track.setAttribute('aria-valuemax', plot.steps.length);
-plot.track.setAttribute('aria-valuetext', `${readingText(plot, step)}, ${during(step)}`);
-drawPlot(plot);
-}
-function readAtPointer(plot, event) {
-if (pointers.size) return;
-const box = plot.track.getBoundingClientRect();
-const position = view.low + (event.clientX - box.left) / box.width * (view.high - view.low);
-read(plot, plot.steps.findLastIndex(step => positionOf(step.from) <= position));
-}
-function readByKey(plot, event) {
-const step = { ArrowLeft: -1, ArrowRight: 1 }[event.key];
 "#;

@@ -1,7 +1,132 @@
 //! The page behind its data, part 2. Written by tools/gate/page_constants.
 
 /// The page behind its data, part 2.
-pub const TEXT: &str = r#"if (!step || event.target !== plot.track) return;
+pub const TEXT: &str = r#"if (step.low === null) { before = null; continue; }
+const [top, bottom] = [heightOf(plot, step.high), heightOf(plot, step.low)];
+line += before === null ? `M${left} ${bottom}` : `H${left}V${bottom}`;
+if (step.changes > 1) boxes += `<rect class="between" x="${left}" y="${top}" width="${Math.max(1, right - left)}" height="${Math.max(1, bottom - top)}"/>`;
+else dots += `M${left} ${bottom}h0`;
+line += step.changes > 1 ? `M${right} ${bottom}` : `H${right}`;
+before = step;
+}
+const few = dots.length < 6000;
+return `${boxes}<path class="line" d="${line}"/>${few ? `<path class="dots" d="${dots}"/>` : ''}`;
+}
+function limitLabels(plot, width, marks) {
+const labels = [];
+for (const part of plot.parts) {
+const [left, right] = [part.from, part.to].map(end => Math.max(0, Math.min(width, shareOf(end) * width)));
+if (shareOf(part.to) < 0 || shareOf(part.from) > 1) continue;
+for (const [operator, number] of part.limits) {
+const line = heightOf(plot, numberOf(number));
+const beyond = line < 0 ? '↑ ' : line > HEIGHT ? '↓ ' : '';
+addLabel(labels, { texts: [`${beyond}${operator} ${number}`], line, start: left, end: right }, width, marks);
+}
+}
+return labels.map(label => {
+const element = make('div', 'limit_text', label.texts.join(', '));
+element.style.top = label.top + 'px';
+element.style.left = label.left / width * 100 + '%';
+return element;
+});
+}
+function freePlace(label, wide, width, marks) {
+const meets = (left, top) => marks.some(mark => mark.x > left - 10 && mark.x < left + wide + 8 && Math.abs(mark.y - top - 7) < 16);
+const tops = [label.line - 15, label.line + 2].map(top => Math.max(0, Math.min(HEIGHT - 14, top)));
+const first = Math.max(0, Math.min(label.start + 3, width - wide));
+for (const top of tops) {
+for (let left = first; left === first || left + wide <= label.end; left += 4) {
+if (!meets(left, top)) return { left, top };
+}
+}
+return null;
+}
+function addLabel(labels, label, width, marks) {
+const wide = widthOf(label.texts.join(', '), 11) + 10;
+const free = freePlace(label, wide, width, marks);
+if (!free) return;
+Object.assign(label, free);
+label.right = label.left + wide;
+const met = labels.findIndex(other => Math.abs(other.top - label.top) < 15 && other.left < label.right && label.left < other.right);
+if (met < 0) { labels.push(label); return; }
+const [other] = labels.splice(met, 1);
+const texts = [...new Set(other.texts.concat(label.texts))];
+addLabel(labels, { texts, line: other.line, start: Math.min(other.start, label.start), end: Math.max(other.end, label.end) }, width, marks);
+}
+function sampleMarks(plot, width) {
+return plot.lane.items.filter(item => item.request).flatMap(({ request }) => {
+const rule = ruleIn(request.text, request.rule);
+const part = rule ? rule.comparisons.findIndex(([field]) => field === plot.field) : -1;
+if (part < 0) return [];
+return request.samples.map(([record, time, parts]) => ({ request, record, time, value: parts[part][0] }));
+}).filter(sample => sample.value !== null && sample.record >= FIRST && shareOf(sample) >= 0 && shareOf(sample) <= 1).map(sample => {
+const value = valueText(plot.field, sample.value);
+const name = `failed sample before the request of sequence ${sample.request.sequence}: ${run.fields[plot.field].name} ${value}, ${at(sample)}`;
+const item = plot.lane.items.find(each => each.request === sample.request);
+const mark = makeButton('diamond', '', name, () => showItem(item));
+Object.assign(mark, { place: sample.record, item, x: shareOf(sample) * width, y: heightOf(plot, sample.value) });
+mark.style.left = shareOf(sample) * 100 + '%';
+mark.style.top = mark.y + 'px';
+return mark;
+});
+}
+function drawPlot(plot) {
+const width = plot.track.clientWidth || 1;
+[plot.low, plot.high] = boundsOf(plot);
+plot.told.textContent = plot.values;
+const drawing = make('div', 'drawing', undefined, { 'aria-hidden': 'true' });
+drawing.innerHTML = `<svg viewBox="0 0 ${width} ${HEIGHT}" preserveAspectRatio="none">${limitShapes(plot, width)}${valueShapes(plot, width)}</svg>`;
+const marks = sampleMarks(plot, width);
+plot.track.drawn = marks.map(({ x, y, item }) => ({ left: x, right: x, top: y, item }));
+redraw(plot.track, [drawing, ...limitLabels(plot, width, marks), ...marks, ...readingOf(plot, width)]);
+}
+function openLane(lane, open) {
+lane.name.setAttribute('aria-expanded', open);
+if (!open && lane.plots) {
+lane.plots.forEach(plot => plot.row.remove());
+lane.plots = null;
+}
+if (!open || lane.plots) return;
+const fields = [...new Set(rulesOf(lane.rule).flatMap(fieldsOf))];
+lane.plots = fields.map(field => makePlot(lane, field));
+(lane.row.nextElementSibling === byId('panel') ? byId('panel') : lane.row).after(...lane.plots.map(plot => plot.row));
+lane.plots.forEach(drawPlot);
+}
+function readingText(plot, step) {
+const [low, high] = [step.low, step.high].map(value => valueText(plot.field, value));
+return step.changes > 1 ? `${low} to ${high}, ${step.changes} changes` : low;
+}
+function readingOf(plot, width) {
+const step = plot.steps[plot.read];
+if (!step || shareOf(step.to) < 0 || shareOf(step.from) > 1) return [];
+const text = `${readingText(plot, step)} from ${sinceStart(step.from.time)} s`;
+const left = Math.max(0, shareOf(step.from)) * width;
+const cursor = make('div', 'cursor');
+cursor.style.left = left / width * 100 + '%';
+const reading = make('div', 'reading', text);
+const room = widthOf(text, 11) + 10;
+reading.style.left = (left + 4 + room > width ? Math.max(0, left - room - 4) : left + 4) / width * 100 + '%';
+return [cursor, reading];
+}
+function read(plot, index) {
+if (index === plot.read || !plot.steps[index]) return;
+plot.read = index;
+const step = plot.steps[index];
+plot.track.setAttribute('aria-valuenow', index + 1);
+plot.track.setAttribute('aria-valuemin', 1);
+plot.track.setAttribute('aria-valuemax', plot.steps.length);
+plot.track.setAttribute('aria-valuetext', `${readingText(plot, step)}, ${during(step)}`);
+drawPlot(plot);
+}
+function readAtPointer(plot, event) {
+if (pointers.size) return;
+const box = plot.track.getBoundingClientRect();
+const position = view.low + (event.clientX - box.left) / box.width * (view.high - view.low);
+read(plot, plot.steps.findLastIndex(step => positionOf(step.from) <= position));
+}
+function readByKey(plot, event) {
+const step = { ArrowLeft: -1, ArrowRight: 1 }[event.key];
+if (!step || event.target !== plot.track) return;
 event.preventDefault();
 event.stopPropagation();
 const first = plot.steps.findIndex(each => shareOf(each.from) >= 0);
@@ -14,10 +139,73 @@ function listenToPlot(plot) {
 plot.track.addEventListener('pointermove', event => readAtPointer(plot, event));
 plot.track.addEventListener('keydown', event => readByKey(plot, event));
 }
-let chosen = null; // the packet that is marked in the table
-function showIn(panel, ...elements) {
-panel.replaceChildren(...elements);
+function sampleOf(request, number) {
+const { samples } = request;
+const index = number <= Math.min(3, samples.length) ? number - 1 : samples.length - 1 - (request.counted - number);
+return index >= Math.max(0, samples.length - 3) || index < Math.min(3, samples.length) ? samples[index] : undefined;
 }
+function stateAt(rule, record) {
+const span = entryAt(run.lanes[rule], record);
+const exact = span && (span.length === 4 || !(span[3] & (span[3] - 1)));
+return exact && span[3] ? wordsOf(span[3], STATES)[0] : undefined;
+}
+function modeAt(record) {
+const mode = entryAt(run.mode, record)?.[2];
+return mode === 'untold' ? undefined : mode;
+}
+function releaseAfter(rule, record, until) {
+const changes = [...run.lanes[rule], ...run.mode].map(placeOf).filter(place => place.record > record && place.record <= until);
+return changes.sort((one, other) => one.record - other.record)
+.find(place => stateAt(rule, place.record) === 'active' && modeAt(place.record) === 'active');
+}
+function releaseWords(request, name, record) {
+const place = releaseAfter(request.rule, record, request.record - 1);
+const command = place && run.commands.find(([other]) => other === place.record);
+if (command) return ` The command “${command[2]}” ended that, ${at(place)}.`;
+const last = run.commands.findLast(([other, , says]) => other > record && other < request.record && [`state ${name} active`, 'mode active'].includes(says));
+if (last) return ` The last command “${last[2]}” before this request came ${at(placeOf(last))}.`;
+return place ? ` That ended ${at(place)}.` : ' What ended that is not on this page.';
+}
+function delayOf(request, rule) {
+const number = rule.fails;
+if (!(request.counted > number)) return '';
+const nth = `${ordinal(number)} failed sample in a row`;
+const unknown = `Why it did not request at the ${nth} is not on this page.`;
+const first = request.samples[0];
+const before = run.requests.findLast(other => other.packet < request.packet && other.rule === request.rule && other.text === request.text
+&& first && other.record >= first[0]);
+if (before) {
+return `It had requested sequence ${before.sequence} in this row of failures already, ${at(before)}, and was passive after that.`
++ releaseWords(request, rule.name, before.record);
+}
+const sample = sampleOf(request, number);
+if (!sample || sample[0] <= FIRST) return unknown;
+const last = sample[0] - 1;
+const passive = modeAt(last) === 'passive' ? 'the mode' : stateAt(request.rule, last) === 'passive' ? 'the rule' : '';
+if (!passive) return unknown;
+return `It did not request at the ${nth}, ${at(placeOf(sample))}, because ${passive} was passive then.`
++ releaseWords(request, rule.name, last);
+}
+let chosen = null; // the packet that is marked in the table
+let closed = null; // what has the keys again after the panel is closed
+function showAfter(row, title, ...elements) {
+const panel = byId('panel');
+if (!panel.contains(document.activeElement)) closed = document.activeElement;
+const close = makeButton('close', '✕', 'close this', closePanel);
+close.tabIndex = 0;
+const head = make('div', 'opened');
+head.append(makeBroken('h3', '', title), close);
+panel.replaceChildren(head, ...elements);
+panel.hidden = false;
+row.after(panel);
+if (panel.getBoundingClientRect().bottom > innerHeight) row.scrollIntoView({ block: 'start' });
+}
+function closePanel() {
+const back = byId('panel').contains(document.activeElement);
+byId('panel').hidden = true;
+if (back && closed?.isConnected) closed.focus({ preventScroll: true });
+}
+const rowOf = item => (lanes[item.rule] ?? markRows[item.kind === 'command' ? 'commands' : 'others'])?.row ?? byId('axis');
 function conditionOf(rule) {
 const line = make('p', '', 'fails when ');
 line.append(make('code', '', rule.condition));
@@ -26,15 +214,15 @@ return line;
 function partsTable(rule, [, time, parts]) {
 const table = make('table');
 const head = make('tr');
-head.append(make('th', '', 'comparison'), make('th', 'number', 'value'), make('th', '', 'its age'), make('th', '', 'holds'));
+head.append(make('th', '', 'comparison'), make('th', 'number', 'value'), make('th', '', 'age'), make('th', '', 'holds'));
 table.append(head);
 parts.forEach(([value, record, since, verdict], index) => {
 const [field, operator, number] = rule.comparisons[index];
-const age = record === null ? 'no packet came' : `${decimal(time - since)} s, record ${record}`;
+const age = record === null ? 'no packet came' : `${decimal(time - since)} s, record\u00a0${record}`;
 const holds = { true: '✔ true', false: '✘ false' }[verdict] ?? verdict;
 const row = make('tr');
-row.append(make('td', '', `${run.fields[field].name} ${operator} ${number}`),
-make('td', 'number', record === null ? '–' : valueText(field, value)), make('td', 'word', age), make('td', 'holds', holds));
+row.append(makeBroken('td', '', `${run.fields[field].name} ${operator}\u00a0${number}`),
+make('td', 'number', record === null ? '–' : valueText(field, value)), make('td', age.length < 18 ? 'whole' : '', age), make('td', 'holds', holds));
 table.append(row);
 });
 return table;
@@ -43,26 +231,37 @@ function sampleHeading(request, index) {
 const shown = request.samples.length;
 const number = index < shown - Math.min(3, shown) ? index + 1 : request.counted - (shown - 1 - index);
 const [record, time] = request.samples[index];
-return `Sample ${number} of ${request.counted}, ${at({ record, time })}: fail`;
+return `Failed sample ${number} of ${request.counted}: ${sinceStart(time)} s, record ${record}`;
+}
+function eventWords(request, level) {
+if (request.event !== null) return `, packet ${request.event}.`;
+return { type: ` was not sent: events of ${level} are off.`, filter: ' was not sent: held back by a filter.' }[request.held] ?? ' was not sent.';
 }
 function whyOf(request) {
 const rule = ruleIn(request.text, request.rule);
 const article = make('article');
-article.append(make('h3', '', `Why sequence ${request.sequence}?`));
-const failed = `failed in ${request.counted} sample${request.counted === 1 ? '' : 's in a row'}`;
-const asked = rule ? `, and ${rule.fails} request${rule.fails === 1 ? 's' : ''} it` : '';
-article.append(make('p', '', `${nameIn(request.text, request.rule)} (rule ${request.rule}) ${failed}${asked}.`),
-make('p', '', `${at(request)}, packet ${request.packet}, count ${request.count}.`));
+const place = `Sequence ${request.sequence} was requested ${at(request)}, packet ${request.packet}, count ${request.count}.`;
 if (!rule) {
-article.append(make('p', 'soft', 'The tables in force were of none of the texts, so the condition isn’t known here.'));
+const who = request.rule === null ? 'Which rule requested it is not known.' : `Rule ${request.rule} failed in ${counted(request.counted, 'sample')} in a row.`;
+const why = request.text === null ? 'The tables in force were of none of the texts, so its condition is not known.' : '';
+const event = request.rule === null ? '' : ` Its event${eventWords(request, 'its type')}`;
+article.append(makeBroken('p', '', place), make('p', '', `${who} ${why}${event}`));
 return article;
 }
-article.append(conditionOf(rule), make('p', 'soft', `In ${textName(request.text)}. Its event: ${rule.level} ${rule.event} “${rule.says}”`
-+ (request.event === null ? ', held back by a filter.' : `, packet ${request.event}.`)));
-request.samples.forEach((sample, index) => {
-article.append(make('p', '', sampleHeading(request, index)), partsTable(rule, sample));
-});
-if (!request.samples.length) article.append(make('p', 'soft', 'What the samples met is left out of this page, since it has that of many other requests.'));
+const row = request.counted === 1 ? '1 sample' : `${request.counted} samples in a row`;
+const needs = request.counted === rule.fails ? ', as many as it needs' : `; it needs ${rule.fails}`;
+article.append(makeBroken('p', '', place), makeBroken('p', '', `${rule.name} (rule ${request.rule}) failed in ${row}${needs}. ${delayOf(request, rule)}`),
+conditionOf(rule), makeBroken('p', 'soft', `In ${textName(request.text)}. Its event, ${rule.level} ${rule.event} “${rule.says}”${eventWords(request, `type ${rule.level}`)}`));
+const samples = make('div', 'samples');
+samples.append(...request.samples.map((sample, index) => {
+const part = make('section');
+part.append(make('h4', '', sampleHeading(request, index)), partsTable(rule, sample));
+return part;
+}));
+article.append(samples);
+if (!request.samples.length) {
+article.append(make('p', 'soft', 'The values of its samples are not on this page, which has those of many other requests.'), ...moreAbout(request, request));
+}
 return article;
 }
 function choose(packet) {
@@ -70,45 +269,38 @@ chosen = packet;
 for (const row of byId('rows').querySelectorAll('.chosen')) row.classList.remove('chosen');
 byId('rows').querySelector(`[data-packet="${packet}"]`)?.classList.add('chosen');
 }
-function rowLink(item) {
-const link = makeButton('', `packet ${item.packet} in the table`, `to packet ${item.packet} in the table`, () => showRow(item));
+function linkTo(text, click) {
+const link = makeButton('', text, text, click);
 link.tabIndex = 0;
 return link;
 }
-function showRequest(request) {
-choose(request.packet);
-const item = sent.find(each => each.packet === request.packet);
-showIn(byId('panel'), whyOf(request), rowLink(item));
-}
+const rowLink = item => linkTo(`packet ${item.packet} in the table`, () => showRow(item));
 function showItem(item) {
-if (item.request) { showRequest(item.request); return; }
-choose(item.packet);
+if (item.packet) choose(item.packet);
+if (item.request) {
+showAfter(rowOf(item), `Why sequence ${item.request.sequence}?`, whyOf(item.request), rowLink(item));
+return;
+}
 const [title, links] = item.kind === 'command' ? ['command', []] : [`${item.kind} event`, [rowLink(item)]];
-showIn(byId('panel'), make('h3', '', title), make('p', '', itemName(item)), ...links);
+showAfter(rowOf(item), title, makeBroken('p', '', itemName(item)), ...links);
 }
 function showItems(items) {
 if (items.length === 1) { showItem(items[0]); return; }
-const nearer = makeButton('', 'zoom to these', 'zoom to these marks', () => zoomTo(items[0].at, items.at(-1).at));
-nearer.tabIndex = 0;
-const links = items.slice(0, 200).map(item => {
-const link = makeButton('', itemName(item), itemName(item), () => showItem(item));
-link.tabIndex = 0;
-return link;
-});
+const links = items.slice(0, 200).map(item => linkTo(`${SHAPES[item.kind]} ${itemName(item)}`, () => showItem(item)));
 const rest = items.length > links.length ? [make('p', 'soft', `and ${items.length - links.length} more: zoom to see them`)] : [];
-showIn(byId('panel'), make('h3', '', `${items.length} ${items[0].kind === 'command' ? 'commands' : 'requests and events'}`), nearer, ...links, ...rest);
+showAfter(rowOf(items[0]), `${items.length} ${items[0].kind === 'command' ? 'commands' : 'requests and events'}`,
+linkTo('zoom to these', () => zoomTo(items[0].at, items.at(-1).at)), ...links, ...rest);
 }
-function showSpan(rule, cell) {
-const inForce = ruleIn(textBehind(cell.from.record), rule);
-const parts = cell.parts.slice(0, 200).map(part => make('p', '', spanName(rule, part)));
+function showSpan(lane, cell) {
+const text = textAt(cell.from.record);
+const inForce = ruleIn(text, lane.rule);
+const parts = cell.parts.slice(0, 200).map(part => makeBroken('p', '', spanName(lane.rule, part)));
 const rest = cell.parts.length > 200 ? [make('p', 'soft', `and ${cell.parts.length - 200} more: zoom to see them`)] : [];
 const reduced = cell.parts.some(part => part.changes > 1)
-? [make('p', 'soft', 'Where it says how many changes, the page has all results and states, and not each change.')] : [];
-showIn(byId('panel'), make('h3', '', `${nameIn(textBehind(cell.from.record), rule)}: ${resultWords(cell.results)[0]}`),
-...(inForce ? [conditionOf(inForce)] : []), ...parts, ...rest, ...reduced);
-}
-function showText(title, text) {
-showIn(byId('panel'), make('h3', '', title), make('p', '', text));
+? [make('p', 'soft', 'A number of changes stands for changes that are not on this page one by one.'), ...moreAbout(cell.from, cell.to)] : [];
+const [nearer] = cell.parts.length > 1 ? [linkTo('zoom to these', () => zoomTo(cell.from, cell.to))] : [''];
+showAfter(lane.row, `${nameIn(text, lane.rule)}: ${cell.pause || resultWords(cell.results)[0]}`,
+...(inForce ? [conditionOf(inForce)] : []), nearer, ...parts, ...rest, ...reduced);
 }
 const MORE = 100; // rows that are drawn at once
 let found = []; // the rows that the filter lets through
@@ -136,28 +328,25 @@ for (const lane of lanes) {
 lane.row.hidden = !laneMatches(lane, wanted, hit);
 if (lane.row.hidden) openLane(lane, false);
 }
+if (byId('panel').previousElementSibling?.hidden) closePanel();
 const shown = lanes.filter(lane => !lane.row.hidden).length;
 byId('shown').textContent = `${shown} of ${lanes.length} rules shown.`;
-byId('rows_shown').textContent = [`${found.length} of ${sent.length} requests and events`, ...leftOut()].join('; ');
+byId('rows_shown').textContent = [`${found.length} of ${sent.length} requests and events`, ...stretches.map(leftOutWords)].join('; ');
 drawn = 0;
 byId('rows').replaceChildren();
 drawRows(MORE);
 drawSoon();
 }
-function leftOut() {
-const words = (list, kind) => (list ? [`${list[0]} ${kind} of the records ${list[1]} to ${list[2]} are left out of this page`] : []);
-return words(run.requests_left_out, 'requests').concat(words(run.events_left_out, 'events'), words(run.commands_left_out, 'commands'));
-}
 function makeTableRow(item) {
-const row = make('tr', item.packet === chosen ? 'chosen' : '', undefined, { 'data-packet': item.packet });
-const sign = item.request ? '▼ ' : '● ';
-const label = item.rule === null ? 'show' : nameIn(textBehind(item.at.record), item.rule);
-const link = make('button', item.rule === null ? 'unprinted' : '', label, { type: 'button', 'aria-label': `${label}: packet ${item.packet} in the lanes` });
+const row = make('tr', item.packet === chosen ? 'chosen' : '', undefined, { role: 'row', 'data-packet': item.packet });
+const label = item.rule === null ? 'show' : nameIn(textAt(item.at.record), item.rule);
+const link = makeBroken('button', item.rule === null ? 'unprinted' : '', label, { type: 'button', 'aria-label': `${label}: packet ${item.packet} in the lanes` });
 link.addEventListener('click', () => showInLanes(item));
 const rule = make('td', 'rule');
 rule.append(link);
 row.append(make('td', 'number', item.packet), make('td', 'number', secondOf(item.at.time)), make('td', 'instant', instantOf(item.at.time)),
-make('td', 'number narrow', item.at.record), make('td', item.request ? 'word request' : 'word', sign + item.kind), rule, make('td', '', whatOf(item)));
+make('td', 'number narrow', item.at.record), make('td', `whole kind ink_${item.kind}`, `${SHAPES[item.kind]} ${item.kind}`), rule, makeBroken('td', 'what', whatOf(item)));
+for (const cell of row.children) cell.setAttribute('role', 'cell');
 return row;
 }
 function drawRows(count) {
@@ -175,14 +364,15 @@ atTheEnd.observe(byId('more'));
 }, { rootMargin: '600px' });
 function showInLanes(item) {
 bring(item.at);
-showItem(item);
-if (item.rule === null) { byId('axis').scrollIntoView({ block: 'center' }); return; }
 const lane = lanes[item.rule];
-if (!lane) return;
+if (lane) {
 lane.row.hidden = false;
 openLane(lane, true);
-lane.row.scrollIntoView({ block: 'center' });
-lane.name.focus({ preventScroll: true });
+}
+showItem(item);
+const row = rowOf(item);
+row.scrollIntoView({ block: 'start' });
+(lane?.name ?? row.querySelector('[tabindex="0"]'))?.focus({ preventScroll: true });
 }
 function showRow(item) {
 const index = found.indexOf(item);
@@ -191,109 +381,4 @@ if (index >= drawn) drawRows(index + MORE - drawn);
 choose(item.packet);
 const row = byId('rows').querySelector(`[data-packet="${item.packet}"]`);
 row.scrollIntoView({ block: 'center' });
-row.querySelector('button').focus({ preventScroll: true });
-}
-function fillFilters() {
-byId('rule').append(make('option', '', 'all rules', { value: '' }));
-for (const lane of lanes) byId('rule').append(make('option', '', nameOf(lane.rule), { value: lane.rule }));
-byId('kind').append(make('option', '', 'all kinds', { value: '' }));
-for (const kind of ['request', 'critical', 'error', 'info', 'debug']) byId('kind').append(make('option', '', kind, { value: kind }));
-for (const id of ['words', 'rule', 'kind', 'failed']) byId(id).addEventListener('input', find);
-atTheEnd.observe(byId('more'));
-}
-const COLUMNS = ['packet', 'second', 'utc', 'record', 'kind', 'rule', 'sender', 'id', 'sequence', 'count', 'text'];
-function csvCells(item) {
-const rule = item.rule === null ? '' : nameIn(textBehind(item.at.record), item.rule);
-return [item.packet, secondOf(item.at.time), instantOf(item.at.time), item.at.record, item.kind, rule, item.sender ?? '',
-item.id ?? '', item.request?.sequence ?? '', item.request?.count ?? '', item.says ?? ''];
-}
-function csvText(items) {
-const quoted = cell => (/[",\r\n]/.test(cell) ? `"${String(cell).replaceAll('"', '""')}"` : String(cell));
-return [COLUMNS, ...items.map(csvCells)].map(cells => cells.map(quoted).join(',') + '\n').join('');
-}
-function saveCsv() {
-const link = make('a', '', '', { download: 'run.csv', href: URL.createObjectURL(new Blob([csvText(found)], { type: 'text/csv' })) });
-link.click();
-setTimeout(() => URL.revokeObjectURL(link.href), 1000);
-}
-const LEVELS = ['critical', 'error', 'info', 'debug'];
-function figure(name, value, more) {
-const box = make('div', '', name);
-box.append(make('b', '', value), make('small', '', more));
-return box;
-}
-function tellFigures() {
-const all = run.figures;
-const ended = run.ended.whole ? 'The stream ended behind a whole record' : 'The stream is cut short';
-const seconds = all.records ? ` Seconds ${secondOf(0)} to ${secondOf(run.end)}${run.epoch ? `, ${instantOf(0)} to ${instantOf(run.end)}` : ''}.` : '';
-byId('ended').textContent = `Ended with status ${run.ended.status}: ${run.ended.says}. ${ended}.${seconds}`
-+ (run.ordered ? '' : ' Times go back in this stream, so the axis has its records.');
-byId('ended').classList.toggle('cut', run.ended.status !== 0);
-const events = LEVELS.reduce((sum, level) => sum + all[level], 0);
-byId('figures').append(
-figure('records', all.records, `${all.telemetry} telemetry, ${all.ticks} ticks, ${all.commands} commands, ${all.files} files`),
-figure('packets written', all.packets, `${all.housekeeping} housekeeping${all.other ? `, ${all.other} others` : ''}`),
-figure('requests', all.requests, `of ${new Set(run.requests.map(request => request.rule)).size} rules`),
-figure('events', events, LEVELS.map(level => `${all[level]} ${level}`).join(', ')));
-}
-function tellFiles() {
-byId('program').textContent = `Made by ${run.program}.`;
-for (const file of run.files) {
-const row = make('tr');
-const sum = make('td');
-sum.append(make('code', '', file.sha256));
-row.append(make('td', 'word', file.role), make('td', '', file.name), make('td', 'number', file.bytes), sum);
-byId('file_rows').append(row);
-}
-}
-function fillUnits() {
-const units = !run.ordered ? ['record'] : ['start', 'second', ...(run.epoch === null ? [] : ['utc']), 'record'];
-const words = { start: 'seconds from the start', second: 'seconds', utc: 'UTC', record: 'records' };
-for (const unit of units) byId('unit').append(make('option', '', words[unit], { value: unit }));
-byId('unit').addEventListener('input', () => changeUnit(byId('unit').value));
-}
-function listenToControls() {
-const moves = { in: () => zoom(0.6), out: () => zoom(1 / 0.6), earlier: () => pan(-0.25), later: () => pan(0.25), all: showAll };
-for (const id of Object.keys(moves)) byId(id).addEventListener('click', moves[id]);
-byId('controls').addEventListener('submit', event => event.preventDefault());
-byId('csv').addEventListener('click', saveCsv);
-addEventListener('keydown', moveByKey);
-addEventListener('resize', drawSoon);
-listenToPointers(byId('lanes'));
-}
-function beforePrint() {
-document.body.classList.add('printing');
-if (drawn < found.length) drawRows(found.length);
-byId('panel').replaceChildren(...run.requests.map(whyOf));
-draw();
-}
-function afterPrint() {
-document.body.classList.remove('printing');
-showFirst();
-draw();
-}
-function showFirst() {
-if (run.requests.length) showRequest(run.requests[0]);
-else showText('Why', 'No sequence was requested.');
-}
-function start() {
-document.body.classList.toggle('no_epoch', run.epoch === null);
-if (matchMedia('(max-width: 600px)').matches) byId('legend').open = false;
-tellFigures();
-tellFiles();
-fillUnits();
-makeLanes();
-fillFilters();
-[view.low, view.high] = wholeRun();
-find();
-draw();
-showFirst();
-listenToControls();
-addEventListener('beforeprint', beforePrint);
-addEventListener('afterprint', afterPrint);
-}
-start();
-</script>
-</body>
-</html>
 "#;

@@ -4,7 +4,7 @@ use crate::error::ReportError;
 use crate::intake::Taken;
 use crate::progress::Progress;
 use crate::telling::{Telling, tell_run};
-use crate::{page_front, page_script_0, page_script_1, page_script_2};
+use crate::{page_front, page_script_0, page_script_1, page_script_2, page_script_3};
 use lc_model::ByteSource;
 use page_json::{CommandLine, Data, Ended, Run, Source, command_lines};
 use run_stepper::Ending;
@@ -36,6 +36,7 @@ const SCRIPT: &[&str] = &[
     page_script_0::TEXT,
     page_script_1::TEXT,
     page_script_2::TEXT,
+    page_script_3::TEXT,
 ];
 
 /// Writes a page with this data. The error is the writer's.

@@ -43,24 +43,80 @@ def expect_gap_to_scale(look):
 def expect_bands(look):
     """Which text was in force when, and why, of tables that are exchanged in flight."""
     look.show()
-    names = look.ask("[...document.querySelectorAll('.cell.band')].map(each => each.getAttribute('aria-label'))")
+    names = look.ask("[...document.querySelectorAll('#lanes .cell.band')].map(each => each.getAttribute('aria-label'))")
     look.expect(sum("text 0 (rules_0.txt)" in name for name in names) == 2 and sum("text 1" in name for name in names) == 1, f"bands: {names}")
     look.do("openLane(lanes[0], true)")
     expect_commands(look)
     limits = look.ask("[...document.querySelectorAll('.limit_text')].map(each => each.textContent)")
     look.expect({"> 6000", "> 4500"} <= {limit.split(",")[0] for limit in limits}, f"limits of both texts: {limits}")
-    why = look.ask("whyOf(run.requests[0]).innerText || whyOf(run.requests[0]).textContent")
-    look.expect(why.count("CURRENT_3 > 800") >= 4 and "Sample 3 of 3" in why, "a request doesn't say why")
+    why = look.ask("whyOf(run.requests[0]).textContent.replaceAll('\\u00a0', ' ')")
+    look.expect(why.count("CURRENT_3 > 800") >= 4 and "Failed sample 3 of 3" in why, "a request doesn't say why")
 
 
 def expect_commands(look):
     """Each command is a mark that says its first word, and its words where it is opened; a rule has its name in the text in force."""
     says = look.ask("run.commands.map(([, , says]) => says)")
     look.expect({"start LC", "mode passive", "state FAST_1 disabled", "half wdt 1 /cf/w.tbl"} <= set(says), f"commands: {says}")
-    marks = look.ask("[...document.querySelectorAll('.mark.command')].map(each => each.textContent)")
+    marks = look.ask("[...document.querySelectorAll('#lanes .mark.command')].map(each => each.textContent)")
     look.expect("◆ state" in marks, f"marks of commands: {marks}")
-    look.do("[...document.querySelectorAll('.mark.command')].find(each => each.textContent === '◆ state').click()")
+    look.do("[...document.querySelectorAll('#lanes .mark.command')].find(each => each.textContent === '◆ state').click()")
     look.expect("command state FAST_1 disabled" in look.ask("byId('panel').textContent"), "a command's mark doesn't say its words")
+
+
+def expect_delays(look):
+    """A rule that failed more often than it needs says why it did not request before, by the mode and the command on the page."""
+    look.show()
+    why = look.ask("whyOf(run.requests.find(request => request.rule === 0)).textContent")
+    look.expect("failed in 4 samples in a row; it needs 2. It did not request at the 2nd failed sample in a row" in why, f"a late request says {why}")
+    look.expect("because the mode was passive then. The command “mode active” ended that" in why, f"a late request says {why}")
+    look.expect(look.ask("run.requests.filter(request => delayOf(request, ruleIn(request.text, request.rule))).length") == 1, "others are late, too")
+
+
+def expect_states(look):
+    """The mode has short words of its own, and what isn't sampled is grey and says why."""
+    look.show()
+    modes = look.ask("[...document.querySelectorAll('#lanes .cell.mode_active, #lanes .cell.mode_passive')].map(each => each.textContent)")
+    look.expect(modes == ["active", "P", "active"], f"the mode lane says {modes}")
+    paused = look.ask("lanes[0].track.querySelector('.paused').textContent")
+    look.expect(paused == "disabled, was pass", f"a rule that is disabled says {paused}")
+    shapes = look.ask("[...new Set([...document.querySelectorAll('#lanes .mark')].map(each => each.textContent[0]))].sort().join('')")
+    look.expect(set(shapes) == set("▼●○◆"), f"the marks have the shapes {shapes}")
+
+
+def expect_part(look):
+    """A page of a part says which part it is, and what was before it; samples from before are told and not drawn."""
+    for width, height in [(1400, 1000), (360, 740)]:
+        look.show(width, height)
+        part = look.ask("byId('part').innerText")
+        look.expect("from second 130 until second 150: records 150 to 247. 149 records and 27 packets before it are not on this page" in part, f"the part is told as {part}")
+        look.expect(look.ask("byId('part').getBoundingClientRect().bottom < innerHeight"), "the part is not on the first screen")
+    look.do("changeUnit('record')")
+    look.expect(look.ask("view.low === 150 && view.high === 248"), "the axis of records is that of another part")
+
+
+def expect_left_out(look):
+    """What is left out is hatched where it lies, at each lane, and says which command makes a page of it."""
+    look.show()
+    look.expect(look.ask("lanes.every(lane => lane.track.querySelector('.hatch'))"), "a lane isn't hatched")
+    ends = look.ask("[stretches[0].from.record <= stretches[0].first, stretches[0].to.record >= stretches[0].last, stretches[0].from.record >= run.requests[299].record]")
+    look.expect(ends == [True] * 3, f"the hatch has other ends: {ends}")
+    look.do("document.querySelector('#lanes .cell.hatch').click()")
+    says = look.ask("byId('panel').innerText")
+    look.expect("5,013 requests of records" in says and "flight_tools report --epoch 2024-02-29T00:00:00Z --from 50612 --until 60634 schedule.txt" in says, f"what is left out says {says}")
+    look.do("moveTo(3000, 3100)")
+    look.do("document.querySelector('#lanes .cell.hatch').click()")
+    look.expect("--from 53000 --until 53101 " in look.ask("byId('panel').innerText"), "the command isn't that of the part in the window")
+
+
+def expect_held(look):
+    """An event that wasn't sent says what held it; a repeated request says what came before it."""
+    look.show()
+    held = look.ask("['type', 'filter'].map(held => whyOf(run.requests.find(request => request.held === held)).textContent)")
+    look.expect("events of type debug are off" in held[0] and "filter" not in held[0], f"a debug rule says {held[0]}")
+    look.expect("held back by a filter" in held[1], f"a filtered event says {held[1]}")
+    again = look.ask("whyOf(run.requests.find(request => request.rule === 1 && request.counted === 4)).textContent")
+    look.expect("in this row of failures already" in again and "“state RATE_HIGH active”" in again, f"a repeated request says {again}")
+    look.expect(look.ask("lanes[3].spans.at(-1).pause") == "off for good", "a rule that is off for good is taken for sampled")
 
 
 def expect_hex(look):
@@ -68,7 +124,7 @@ def expect_hex(look):
     look.show()
     ranges = look.ask("JSON.stringify(failingRanges(run.texts[0].rules[0], 0))")
     look.expect(ranges == "[[64,159],[65520,65520]]", f"the failing side is {ranges}")
-    look.do("openLane(lanes[0], true)")
+    look.do("showInLanes(sent.find(item => item.request))")
     limits = look.ask("[...document.querySelectorAll('.limit_text')].map(each => each.textContent).join(', ')")
     look.expect("0x40" in limits and "0xA0" in limits and "64" not in limits, f"limits aren't in hex: {limits}")
     look.expect(look.ask("/0x[4-9]0/.test(byId('panel').textContent)"), "the values of samples aren't in hex")
@@ -86,7 +142,7 @@ def expect_plain_texts(look):
     look.show()
     look.expect(look.ask("document.querySelectorAll('#rows b, #panel b').length === 0"), "a text is taken for markup")
     look.expect("</script>" in look.ask("byId('rows').textContent + byId('panel').textContent"), "a text isn't told whole")
-    names = look.ask("[...document.querySelectorAll('.cell.band')].map(each => each.getAttribute('aria-label')).join()")
+    names = look.ask("[...document.querySelectorAll('#lanes .cell.band')].map(each => each.getAttribute('aria-label')).join()")
     look.expect("tables of no text" in names and "no Limit Checker" in names, f"bands: {names}")
 
 
@@ -101,7 +157,9 @@ def expect_bounds_told(look):
 CASES = {
     "many": [expect_ten_failures],
     "cells": [expect_gap_to_scale],
-    "wheels": [expect_bands],
+    "wheels": [expect_bands, expect_delays, expect_states],
+    "wheels_part": [expect_part],
+    "storm": [expect_left_out, expect_held],
     "one_rule": [expect_hex],
     "back_in_time": [expect_records_alone],
     "foreign": [expect_plain_texts],

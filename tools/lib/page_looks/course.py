@@ -30,11 +30,23 @@ class Standing:
 
 
 class Course:
-    def __init__(self, fields, texts, start, epoch=None):
-        self.fields, self.texts, self.epoch = fields, texts, epoch
+    """`off` and `filtered` are levels of events that are off for LC, and numbers of events that a filter holds back. `window` is a pair of
+    seconds, None where the page begins with the run or goes on to its end."""
+
+    def __init__(self, fields, texts, start, epoch=None, off=(), filtered=(), window=None):
+        self.fields, self.texts, self.epoch, self.off, self.filtered = fields, texts, epoch, off, filtered
+        self.window, self.before, self.how, self.begins_later = window, [0, 0], "none", window is not None and window[0] is not None
         self.time = self.first = round(start * TICK)
         self.used = list(dict.fromkeys(field for rules in texts for rule in rules for field, _, _ in rule.condition.comparisons))
         self.rules = max((len(rules) for rules in texts), default=0)
+        self.met = {}  # field: record, time, value, agings, since the tables are in force
+        self.text, self.standings, self.mode = None, [], "absent"
+        self.count, self.written_packets = 0, 0  # of the whole run
+        self.counts, self.ordered = 0, True
+        self.begin()
+
+    def begin(self):
+        """The page's lists, empty."""
         self.figures = dict.fromkeys(
             "records telemetry commands ticks files packets requests housekeeping critical error info debug other".split(), 0
         )
@@ -42,14 +54,30 @@ class Course:
         self.lanes = [Changes(pool, joined_bits) for _ in range(self.rules)]
         self.values = {name: Changes(pool, joined_values) for name in self.used}
         self.seen = dict.fromkeys(self.used, 0)
-        self.came = {}  # field: record, time, of its last packet in the whole run
-        self.met = {}  # field: record, time, value, agings, since the tables are in force
-        self.text, self.standings, self.mode = None, [], "absent"
+        self.came = {}  # field: record, time, of its last packet on the page
         self.tables, self.modes = [], []
         self.requests, self.events, self.commands = Ends(MOST["requests"]), Ends(MOST["events"]), Ends(MOST["commands"])
-        self.counts, self.parts, self.ordered, self.full = 0, 0, True, False
+        self.parts, self.full = 0, False
+
+    def begin_window(self):
+        """The page begins here: what came before is forgotten, and times count from this record."""
+        self.begin()
+        self.begins_later = False
+        self.before = [self.count, self.written_packets]
+        moved, self.first = self.time - self.first, self.time
+        for met in self.met.values():
+            met[1] -= moved
+        for sample in (sample for standing in self.standings for sample in standing.samples):
+            sample[1] -= moved
+            for part in (part for part in sample[2] if part[2] is not None):
+                part[2] -= moved
 
     # What comes.
+
+    @property
+    def is_over(self):
+        """Whether what comes now is after the page's window."""
+        return self.window is not None and self.window[1] is not None and self.time >= self.window[1] * TICK
 
     def after(self, seconds):
         self.time += round(seconds * TICK)
@@ -57,20 +85,25 @@ class Course:
 
     def record(self, kind, says=None):
         """A record of this kind; `says` is what a command, a file or a half says."""
+        self.last = self.time
+        if self.count == 0:
+            self.first = self.time
+        if self.begins_later and self.time >= self.window[0] * TICK:
+            self.begin_window()
+        self.count += 1
         self.figures["records"] += 1
         self.figures[kind] += 1
         if self.figures["records"] == 1:
-            self.first = self.time
-            self.tables.append([1, 0, None, "none"])
-            self.modes.append([1, 0, "absent"])
+            self.tables.append([self.count, 0, self.text, self.how])
+            self.modes.append([self.count, 0, self.mode])
         if says is not None:
-            self.commands.add([*self.here, says], self.figures["records"])
+            self.commands.add([*self.here, says], self.count)
         self.keep()
-        return self.figures["records"]
+        return self.count
 
     @property
     def here(self):
-        return self.figures["records"], self.time - self.first
+        return self.count, self.time - self.first
 
     def telemetry(self, packet, **values):
         """A packet with these fields; None stands for one that it doesn't reach."""
@@ -90,9 +123,14 @@ class Course:
         for met in self.met.values():
             met[3] += 1
         if housekeeping:
-            self.figures["packets"] += 1
-            self.figures["housekeeping"] += 1
+            self.packet("housekeeping")
         self.keep()
+
+    def packet(self, kind):
+        self.written_packets += 1
+        self.figures["packets"] += 1
+        self.figures[kind] += 1
+        return self.written_packets
 
     def started(self, text):
         self.record("files", f"half wdt {text} /cf/lc_def_wdt.tbl")
@@ -123,7 +161,7 @@ class Course:
     # What it leads to.
 
     def put_in_force(self, text, how):
-        self.text, self.met = text, {}
+        self.text, self.how, self.met = text, how, {}
         self.standings = [Standing(rule) for rule in ([] if text is None else self.texts[text])]
         self.band(self.tables, [text, how])
         self.keep()
@@ -176,16 +214,16 @@ class Course:
         return [value, record, time, verdict], "stale" if stale and agings >= stale else verdict
 
     def request(self, number, rule, standing):
-        self.figures["packets"] += 1
-        self.figures["requests"] += 1
+        packet = self.packet("requests")
         lines = sum(len(sample[2]) for sample in standing.samples)
         self.full = self.full or self.parts + lines > MOST["parts"]
         self.parts += 0 if self.full else lines
         record, time = self.here
+        held = "type" if rule.level in self.off else "filter" if rule.event in self.filtered else None
         request = {
-            "packet": self.figures["packets"], "record": record, "time": time, "rule": number, "text": self.text,
-            "sequence": rule.sequence, "count": self.counts, "event": self.figures["packets"] + 1, "counted": standing.row,
-            "samples": [] if self.full else list(standing.samples),
+            "packet": packet, "record": record, "time": time, "rule": number, "text": self.text,
+            "sequence": rule.sequence, "count": self.counts, "event": None if held else packet + 1, "held": held, "counted": standing.row,
+            "samples": [] if self.full else [[*sample[:2], [list(part) for part in sample[2]]] for sample in standing.samples],
         }  # fmt: skip
         self.requests.add(request, record)
         self.counts += 1
@@ -193,21 +231,22 @@ class Course:
         self.event("LC", rule.event, rule.level, f"{rule.says}: AP = {number}, FailCount = {standing.row}, RTS = {rule.sequence}", number)
 
     def event(self, sender, number, level, text, rule=None):
-        self.figures["packets"] += 1
-        self.figures[level] += 1
-        self.events.add([self.figures["packets"], *self.here, rule, sender, number, level, text], self.here[0])
+        if level in self.off or number in self.filtered:
+            return
+        self.events.add([self.packet(level), *self.here, rule, sender, number, level, text], self.here[0])
 
     # What is written.
 
     def data(self, status=0, says=None, whole=True):
         names = {name: place for place, name in enumerate(self.used)}
         return {
-            "format": 1, "program": "flight_tools 0.10.0",
-            "ended": {"status": status, "says": says or f"records {self.figures['records']}", "whole": whole},
+            "format": 2, "program": "flight_tools 0.10.0",
+            "ended": {"status": status, "says": says or f"records {self.count}", "whole": whole},
+            "window": self.window_of(),
             "files": [file_of("rules", f"rules_{text}.txt") for text in range(len(self.texts))]
             + [file_of("schedule", "schedule.txt"), file_of("stream", "out/run.stream")],
             "figures": self.figures, "start": self.first if self.figures["records"] else 0,
-            "end": self.here[1] if self.figures["records"] else 0, "ordered": self.ordered, "epoch": self.epoch,
+            "end": self.last - self.first if self.figures["records"] else 0, "ordered": self.ordered, "epoch": self.epoch,
             "texts": [{"rules": [rule_of(rule, names) for rule in rules]} for rules in self.texts],
             "fields": [self.field_of(name) for name in self.used],
             "lanes": [lane.written() for lane in self.lanes], "tables": self.tables, "mode": self.modes,
@@ -215,6 +254,12 @@ class Course:
             "events": self.events.items(), "events_left_out": self.events.left_out(),
             "commands": self.commands.items(), "commands_left_out": self.commands.left_out(),
         }  # fmt: skip
+
+    def window_of(self):
+        if self.window is None:
+            return None
+        since, until = (None if second is None else round(second * TICK) for second in self.window)
+        return {"from": since, "until": until, "records": self.before[0], "packets": self.before[1]}
 
     def field_of(self, name):
         field = self.fields[name]

@@ -8,14 +8,15 @@ MOST_BYTES = 2_050_000  # of 100,000 records, without texts and files
 RESULT_BITS = {1, 2, 4, 8, 16, 32}
 STATE_BITS = {0, 1, 2, 4, 8}
 MEMBERS = {
-    "object": "format program ended files figures start end ordered epoch texts fields lanes tables mode requests requests_left_out events "
+    "object": "format program ended window files figures start end ordered epoch texts fields lanes tables mode requests requests_left_out events "
     "events_left_out commands commands_left_out",
     "ended": "status says whole",
+    "window": "from until records packets",
     "file": "role name bytes sha256",
     "figures": "records telemetry commands ticks files packets requests housekeeping critical error info debug other",
     "rule": "name state fails sequence level event says report condition comparisons tree",
     "field": "name packet mid type at mask stale packets last values",
-    "request": "packet record time rule text sequence count event counted samples",
+    "request": "packet record time rule text sequence count event held counted samples",
 }
 
 
@@ -24,6 +25,9 @@ class Data:
         self.text, self.faults = text, []
         self.run = json.loads(text)
         self.records = self.run["figures"]["records"]
+        window = self.run["window"] or {"records": 0}
+        self.first = window["records"] + 1
+        self.last = window["records"] + self.records
 
     def expect(self, so, what):
         if not so and len(self.faults) < 20:
@@ -35,7 +39,10 @@ class Data:
     def whole(self):
         run = self.run
         self.members("object", run)
+        self.expect(run["format"] == 2, f"format {run['format']}")
         self.members("ended", run["ended"])
+        if run["window"] is not None:
+            self.window(run["window"])
         self.members("figures", run["figures"])
         self.expect("<" not in self.text, "a < that isn't escaped")
         self.expect(": " not in re.sub(r'"(\\.|[^"\\])*"', "", self.text), "blanks between tokens")
@@ -49,6 +56,16 @@ class Data:
         roles = [file["role"] for file in run["files"]]
         self.expect(roles == ["rules"] * len(run["texts"]) + ["schedule", "stream"], f"files are {roles}")
         self.expect(len(run["lanes"]) == max((len(text["rules"]) for text in run["texts"]), default=0), "the number of lanes")
+
+    def window(self, window):
+        """Its times are of what was asked for, its counts of what came before the page."""
+        self.members("window", window)
+        since, until = window["from"], window["until"]
+        self.expect(since is None and window["records"] == window["packets"] == 0 or since is not None, "a window without a start leaves out records")
+        start, end = self.run["start"], self.run["start"] + self.run["end"]
+        if self.records and self.run["ordered"]:
+            self.expect(since is None or since <= start, "the page's first record is before its window")
+            self.expect(until is None or end < until, "the page's last record is after its window")
 
     def rules(self):
         for text in self.run["texts"]:
@@ -68,9 +85,9 @@ class Data:
 
     def places(self, entries, what):
         """Records ascend, or stay where several things happen at one, and times with them."""
-        before = (1, 0)
+        before = (self.first, 0)
         for record, time in ((entry[0], entry[1]) for entry in entries):
-            self.expect(before[0] <= record <= self.records, f"{what}: record {record} behind {before[0]}")
+            self.expect(before[0] <= record <= self.last, f"{what}: record {record} behind {before[0]}")
             self.expect(time >= before[1] or not self.run["ordered"], f"{what}: time {time} behind {before[1]}")
             self.expect(time <= self.run["end"] or not self.run["ordered"], f"{what}: time {time} behind the end")
             before = (record, time)
@@ -79,7 +96,7 @@ class Data:
         for number, lane in enumerate(self.run["lanes"]):
             what = f"lane {number}"
             self.places(lane, what)
-            self.expect(not self.records or lane[:1] and lane[0][0] == 1, f"{what} doesn't begin at record 1")
+            self.expect(not self.records or lane[:1] and lane[0][0] == self.first, f"{what} doesn't begin at the first record")
             for entry, after in zip(lane, lane[1:] + [None]):
                 if len(entry) == 4:
                     self.expect(entry[2] in RESULT_BITS and entry[3] in STATE_BITS, f"{what}: {entry}")
@@ -105,7 +122,7 @@ class Data:
             band = self.run[name]
             self.places(band, name)
             self.expect(len(band) <= MOST_BAND, f"{name} has {len(band)} entries")
-            self.expect(bool(band) == bool(self.records) and (not band or band[0][0] == 1), f"{name} doesn't begin at record 1")
+            self.expect(bool(band) == bool(self.records) and (not band or band[0][0] == self.first), f"{name} doesn't begin at the first record")
             self.expect(all(entry[-1] in words.split() for entry in band), f"{name} has another word")
             self.expect(all(entry[-1] != "untold" for entry in band[:-1]), f"{name}: untold isn't the last")
 
@@ -114,6 +131,8 @@ class Data:
         parts = 0
         for request in run["requests"]:
             self.members("request", request)
+            may_be_held = request["event"] is None and request["rule"] is not None
+            self.expect(request["held"] in (["type", "filter"] if may_be_held else [None]), f"packet {request['packet']} held {request['held']}")
             known = request["text"] is not None and request["rule"] is not None
             rule = run["texts"][request["text"]]["rules"][request["rule"]] if known else None
             for record, _, met in request["samples"]:

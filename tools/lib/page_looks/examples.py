@@ -11,6 +11,15 @@ def field(packet, mid, type_, at, stale=2, **more):
 
 def wheels():
     """Eleven rules over four packets; tables are exchanged in flight, and again."""
+    return wheels_run().data()
+
+
+def wheels_part():
+    """Of the run of wheels the part from second 130 to second 150: rows of failures began before it."""
+    return wheels_run((130, 150)).data()
+
+
+def wheels_run(window=None):
     fields, rules, late = {}, [], []
     for wheel in range(1, 5):
         fields[f"SPEED_{wheel}"] = field(f"WHEEL_{wheel}", 0x890 + wheel, "i16be", 12)
@@ -24,10 +33,12 @@ def wheels():
             condition = f"CURRENT_{wheel} > 800 and not (SPEED_{wheel} > 50 or SPEED_{wheel} < -50) or HEAT_{wheel} > 700"
             kept.append(Rule(f"STUCK_{wheel}", condition, 3, 40 + wheel, 1040 + wheel, says=f"wheel {wheel} stuck"))
     late.append(Rule("TWO_HOT", "HEAT_1 > 700 xor HEAT_2 > 700", 2, 51, 1051, "passive", "critical", "one of two hot"))
-    run = Course(fields, [rules, late], 100, "2000-01-01T12:00:00Z")
+    run = Course(fields, [rules, late], 100, "2000-01-01T12:00:00Z", window=window)
     run.started(0)
     for second in range(1, 60):
         run.after(1)
+        if run.is_over:
+            break
         if second in (20, 45):
             run.adopted(1 if second == 20 else 0)
         for wheel in range(1, 5):
@@ -45,7 +56,7 @@ def wheels():
         if second == 50:
             run.command("state", 0, "disabled")
         run.tick(housekeeping=second % 2 == 1)
-    return run.data()
+    return run
 
 
 def cells():
@@ -168,4 +179,54 @@ def foreign():
     return run.data()
 
 
-EXAMPLES = [wheels, cells, one_record, no_record, one_rule, many, full, back_in_time, foreign]
+def unknown():
+    """Requests of which the page can't say the rule, the text or both; of these no word may say null."""
+    data = foreign()
+    first, record, end = data["requests"][0], data["figures"]["records"], data["end"]
+    packet = data["figures"]["packets"]
+    for rule, text in [(None, None), (0, None), (None, 0)]:
+        packet += 1
+        data["requests"].append(
+            {**first, "packet": packet, "record": record, "time": end, "rule": rule, "text": text, "event": None, "samples": [],
+             "held": None if rule is None else "type", "counted": 0 if rule is None else 3}
+        )  # fmt: skip
+        data["figures"]["packets"] += 1
+        data["figures"]["requests"] += 1
+    return data
+
+
+def empty_part():
+    """A part in which there is no record."""
+    return {**no_record(), "window": {"from": 7_000_000, "until": None, "records": 298, "packets": 57}}
+
+
+def storm():
+    """5,612 requests: four rules that a procedure on the ground sets active again and again, and one whose event is a debug one."""
+    fields = {name: field("BUS", 0x883, "i16be", 12 + 2 * place, 5) for place, name in enumerate(["TILT", "RATE", "VOLTS", "HEAT"])}
+    rules = [
+        Rule("TILT_HIGH", "TILT > 1200", 1, 21, 1021, says="tilt high", level="critical"),
+        Rule("RATE_HIGH", "RATE > 50 or RATE < -50", 3, 22, 1022, says="rate high"),
+        Rule("VOLTS_LOW", "VOLTS < 2400", 2, 23, 1023, says="volts low", level="debug"),
+        Rule("HEAT_HIGH", "HEAT > 700", 2, 24, 1024, says="too hot", level="info"),
+    ]
+    run = Course(fields, [rules], 50_000, "2024-02-29T00:00:00Z", off=("debug",), filtered=(1024,))
+    run.started(0)
+    second = 0
+    while run.figures["requests"] < 5_612:
+        second += 1
+        run.after(1)
+        wave = second % 12
+        run.telemetry("BUS", TILT=1300 if wave < 6 else 900, RATE=60 if wave < 8 else 0, VOLTS=2300 if wave < 4 else 2700, HEAT=800 if wave < 3 else 300)
+        run.tick(housekeeping=second % 10 == 0)
+        if second == 40:
+            run.command("mode", "disabled")
+        if second == 60:
+            run.command("mode", "active")
+        if wave in (3, 10):
+            for rule in range(4):
+                run.command("state", rule, "active")
+    run.command("state", 3, "off")
+    return run.data()
+
+
+EXAMPLES = [wheels, wheels_part, storm, unknown, empty_part, cells, one_record, no_record, one_rule, many, full, back_in_time, foreign]

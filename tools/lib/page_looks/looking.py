@@ -2,7 +2,7 @@
 
 import os
 
-SIZES = [(1400, 1000), (800, 1000), (420, 900)]
+SIZES = [(1400, 1000), (800, 1000), (360, 740)]
 HERE = os.path.dirname(os.path.abspath(__file__))
 
 
@@ -37,14 +37,27 @@ class Look:
         self.browser.ask(f"{{ {script}; }} undefined")
         self.browser.settle()
 
-    def check(self, what):
-        for fault in self.ask("looks.all()")[:6]:
+    def check(self, what, questions="all"):
+        """The questions of looks.js."""
+        for fault in self.ask(f"looks.{questions}()"):
             self.fault(f"{what}: {fault}")
+
+    def expect_none(self, script):
+        for fault in self.ask(script):
+            self.fault(fault)
 
     def close(self):
         for line in self.browser.said:
             self.fault(f"the console says: {line}")
         self.browser.said = []
+
+    def attempt(self, step):
+        """Takes a step; one that stops in the middle is a fault."""
+        try:
+            step(self)
+        except (RuntimeError, TypeError, IndexError, ValueError) as error:
+            self.fault(f"{step.__name__} stops: {str(error).splitlines()[0]}")
+        self.close()
 
     def picture(self, what, whole=False):
         self.browser.picture(f"{self.folder}/{self.name}_{what}.png", whole)
@@ -62,6 +75,7 @@ def look_at(browser, path, folder):
         for dark in [False, True]:
             look.show(width, height, dark)
             look.check("first")
+            look.expect_none("looks.first()")
             look.picture(f"{width}_{'dark' if dark else 'light'}")
             open_some(look)
             look.check("opened")
@@ -78,9 +92,9 @@ def look_at_axes(look):
     units = look.ask("[...byId('unit').options].map(option => option.value)")
     for unit in units:
         look.do(f"changeUnit('{unit}'); showAll()")
-        for depth in range(9):
-            look.check(f"axis {unit}, depth {depth}")
-            look.do("zoom(0.25, view.low + (view.high - view.low) * 0.37)")
+        for depth in range(5):
+            look.check(f"axis {unit}, depth {depth}", "drawn")
+            look.do("zoom(0.1, view.low + (view.high - view.low) * 0.37)")
     look.do("showAll()")
 
 
@@ -94,7 +108,7 @@ def look_at_paper(look):
     look.check("print")
     look.expect(look.ask("lanes.every(lane => lane.row.hidden || !lane.spans.length || lane.track.querySelector('.cell'))"), "a lane isn't drawn")
     look.expect(look.ask("byId('rows').children.length === sent.length"), "rows are missing")
-    look.expect(look.ask("byId('panel').querySelectorAll('article').length === run.requests.length"), "reasons are missing")
+    look.expect(look.ask("byId('reasons').querySelectorAll('article').length === run.requests.length"), "reasons are missing")
     look.expect(look.ask("document.body.getBoundingClientRect().right <= 1047"), "wider than the paper")
     look.expect(look.ask("run.files.every(file => document.querySelector('#files').innerText.includes(file.sha256))"), "a file's SHA-256 is missing")
     small = "[...document.querySelectorAll('.track *, td, p')].filter(each => each.textContent).map(each => parseFloat(getComputedStyle(each).fontSize))"

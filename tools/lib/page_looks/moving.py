@@ -83,7 +83,7 @@ def moves(look):
 
 def fingers(look):
     """On a phone: one finger moves, two zoom, and what was below them stays."""
-    look.show(420, 900)
+    look.show(360, 740)
     look.do("zoom(0.3)")
     low, high = window(look)
     x, y, left, width = centre(look, "#lanes .row[role=group] .track")
@@ -99,6 +99,18 @@ def fingers(look):
     look.close()
 
 
+# The first steps are a keyboard's, the others a script's, which is faster.
+WALK = """(() => {
+  const names = [];
+  for (let last = null; document.activeElement !== last && names.length < 2000;) {
+    last = document.activeElement;
+    names.push(last.getAttribute('aria-label'));
+    last.dispatchEvent(new KeyboardEvent('keydown', { key: 'ArrowRight', bubbles: true, cancelable: true }));
+  }
+  return names;
+})()"""
+
+
 def walk(look, lane):
     """From a lane's first stop by arrows to its last; answers the names on the way."""
     look.do(f"lanes[{lane}].row.scrollIntoView({{block: 'center'}})")
@@ -106,14 +118,11 @@ def walk(look, lane):
         return []
     look.do(f"lanes[{lane}].track.querySelector('[tabindex=\"0\"]').focus()")
     look.browser.key("Home", 36)
-    names, last = [], None
-    for _ in range(400):
-        name = look.ask("document.activeElement.getAttribute('aria-label')")
-        if name == last:
-            break
-        names.append(name)
-        last = name
-        look.browser.key("ArrowRight", 39)
+    look.browser.key("ArrowRight", 39)
+    second = look.ask("document.activeElement.getAttribute('aria-label')")
+    look.browser.key("Home", 36)
+    names = look.ask(WALK)
+    look.expect(names[1:2] in ([], [second]), f"lane {lane}: the arrows come to {second} second")
     return names
 
 
@@ -128,7 +137,7 @@ def spans_by_keys(look, most=5):
     if not look.ask("lanes.some(lane => lane.spans.length)"):
         return
     beyond_the_window(look)
-    look.do("byId('words').focus()")
+    look.do("byId('unit').focus()")
     for _ in range(60):
         look.browser.key("Tab", 9)
         if look.ask("document.activeElement.closest('.track') && document.activeElement.closest('[role=group]') !== null"):
@@ -159,6 +168,7 @@ def filters(look):
     rules = look.ask("lanes.map(lane => nameOf(lane.rule))")
     if not rules:
         return
+    look.do("byId('finder').open = true")
     last = rules[-1]
     look.browser.click(*centre(look, "#words")[:2])
     look.browser.call("Input.insertText", text=last)
@@ -186,20 +196,20 @@ def links(look):
             break
         time.sleep(0.03)
     look.expect(look.ask("byId('rows').children.length") == sent, "not all rows are drawn at the table's end")
-    if not look.ask("run.requests.length"):
+    if not look.ask("run.requests.some(request => lanes[request.rule])"):
         return
-    look.do("zoom(0.02, view.high)")
-    packet = look.ask("run.requests.at(-1).packet")
+    look.do("globalThis.lastOne = run.requests.findLast(request => lanes[request.rule]); zoom(0.02, view.high)")
+    packet = look.ask("lastOne.packet")
     look.browser.click(*centre(look, f'#rows [data-packet="{packet}"] button')[:2])
     time.sleep(0.1)
     look.browser.settle()
-    look.expect(look.ask("shareOf(run.requests.at(-1)) >= 0 && shareOf(run.requests.at(-1)) <= 1"), "a row's link doesn't show its place")
-    look.expect(look.ask("lanes[run.requests.at(-1).rule].plots !== null"), "a row's link doesn't open its lane")
-    look.expect(look.ask("byId('panel').textContent.includes('Why sequence ' + run.requests.at(-1).sequence)"), "a row's link doesn't say why")
+    look.expect(look.ask("shareOf(lastOne) >= 0 && shareOf(lastOne) <= 1"), "a row's link doesn't show its place")
+    look.expect(look.ask("lanes[lastOne.rule].plots !== null"), "a row's link doesn't open its lane")
+    look.expect(look.ask("byId('panel').textContent.includes('Why sequence ' + lastOne.sequence)"), "a row's link doesn't say why")
     look.check("linked")
-    look.do("byId('panel').querySelector('button').click()")
+    look.do("[...byId('panel').querySelectorAll('button')].at(-1).click()")
     look.expect(look.ask(f"document.activeElement.closest('tr')?.dataset.packet === '{packet}'"), "the panel's link doesn't come to the row")
-    lane = look.ask("run.requests.at(-1).rule")
+    lane = look.ask("lastOne.rule")
     look.do(f"lanes[{lane}].track.querySelector('.mark.request').click()")
     look.expect(look.ask("/Why sequence|requests and events/.test(byId('panel').textContent)"), "a mark says nothing")
 
@@ -226,6 +236,28 @@ def saves(look):
     look.expect([row["text"] for row in rows] == says, "the CSV has other texts")
 
 
+def taps(look):
+    """A tap beside a span that is too narrow to be hit alone opens it, below its lane and on the screen."""
+    for width, height in [(1400, 1000), (360, 740)]:
+        look.show(width, height)
+        for number in range(3):
+            slim = look.ask(
+                "(() => { const all = [...document.querySelectorAll('#lanes .row[role=group] .slim')].filter(each => each.closest('.row').lane.seen && !each.matches('.many'));"
+                f" const each = all[Math.floor(all.length * {number} / 3)]; if (!each) return null; each.scrollIntoView({{block: 'center'}}); const box = each.getBoundingClientRect();"
+                " const track = each.closest('.track').getBoundingClientRect(); const x = box.left + box.width / 2;"
+                " return [x + 9 < track.right ? x + 9 : x - 9, box.top + box.height / 2, each.getAttribute('aria-label')]; })()"
+            )
+            if slim is None:
+                break
+            x, y, name = slim
+            look.browser.click(x, y)
+            look.expect(name in look.ask("byId('panel').textContent"), f"a tap beside a narrow span does not open {name}")
+            look.expect(look.ask("(() => { const box = byId('panel').getBoundingClientRect(); return box.top >= 0 && box.top < innerHeight - 60; })()"), "what a tap opens is not on the screen")
+            look.browser.key("Escape", 27)
+            look.expect(look.ask("byId('panel').hidden"), "Escape does not close what was opened")
+            look.do("showAll()")
+
+
 def plots_by_keys(look):
     """A plot's values are read by arrows, one after the other."""
     look.show()
@@ -242,6 +274,5 @@ def plots_by_keys(look):
 
 
 def move(look):
-    for step in [zooms, moves, fingers, spans_by_keys, filters, links, saves, plots_by_keys]:
-        step(look)
-        look.close()
+    for step in [zooms, moves, fingers, spans_by_keys, filters, links, saves, taps, plots_by_keys]:
+        look.attempt(step)
