@@ -20,7 +20,7 @@ class Socket:
 
     def __init__(self, address):
         host, port, path = re.fullmatch(r"ws://([^:/]+):(\d+)(/.*)", address).groups()
-        self.link = socket.create_connection((host, int(port)), timeout=60)
+        self.link = socket.create_connection((host, int(port)), timeout=300)
         key = base64.b64encode(os.urandom(16)).decode()
         self.link.sendall(
             f"GET {path} HTTP/1.1\r\nHost: {host}:{port}\r\nUpgrade: websocket\r\nConnection: Upgrade\r\n"
