@@ -17,9 +17,8 @@ use Rattle.lc_model.specs.Kept.Next.{by_counts}
 use Rattle.lc_model.specs.Kept.Effort.{sampled_words}
 use Rattle.limit_engine.specs.declared.actionpoint.RuleEntry.{RuleEntry}
 use Rattle.limit_engine.specs.declared.reaction.Asked.{Asked}
-use Rattle.limit_engine.specs.declared.reaction.Reactions.{Reactions}
 use Rattle.limit_engine.specs.Entry.{rule_in, IsRunnable}
-use Rattle.limit_engine.specs.Reactions.{requests_in, requests_of}
+use Rattle.limit_engine.specs.Reactions.{requests_in}
 use Rattle.limit_engine.specs.Tables.{AreTables}
 use Rattle.limit_engine.proofs.CountedWords.{counted_words}
 
@@ -134,7 +133,7 @@ module _ (request : SampleRequest) (terms : List Term) (mode : LcMode) (watch : 
         cc (sym (ap (option_map (rule_in terms words)) (slice_get_read entries (length entries) n entry refl inside entry_at))
         ∙ sym (slice_get-map (rule_in terms words) entries n) ∙ slice_get-get_or rules_of n (rule_in terms words entry) in_rules)
 
-    there : slice_get rules_of n ≡ Some (rule_in terms words entry)
+    pub there : slice_get rules_of n ≡ Some (rule_in terms words entry)
     there = slice_get-get_or rules_of n (rule_in terms words entry) in_rules ∙ ap (λ (r : Actionpoint). Some r) (sym rule_at)
 
     runs : IsRunnable terms words entry
@@ -147,10 +146,9 @@ module _ (request : SampleRequest) (terms : List Term) (mode : LcMode) (watch : 
         not_sampled request terms mode watch rules_of first n points (requests_in rules_of asked) steps so_far (rule_in terms words entry) seen in_rules in_points rule_at seen_at off
 
     -- a rule that is sampled
-    module _ (seen point after : Point Tally) (reactions : Reactions) (seen_at : seen ≡ get_or points n seen) (point_at : point ≡ get_or points n point)
+    module _ (seen point after : Point Tally) (seen_at : seen ≡ get_or points n seen) (point_at : point ≡ get_or points n point)
         (taken : takes request n ≡ true) (on : is_sampled seen.state ≡ true)
-        (after_is : after ≡ (sampled_point by_counts terms mode watch n (rule_in terms words entry) point).0)
-        (reacts : requests_of (rule_in terms words entry) n reactions ≡ (sampled_point by_counts terms mode watch n (rule_in terms words entry) point).1) where
+        (after_is : after ≡ (sampled_point by_counts terms mode watch n (rule_in terms words entry) point).0) where
       one : seen ≡ point
       one = cc (sym (slice_get_read points (length points) n seen refl in_points seen_at) ∙ slice_get_read points (length points) n point refl in_points point_at)
 
@@ -158,14 +156,12 @@ module _ (request : SampleRequest) (terms : List Term) (mode : LcMode) (watch : 
       sampled_on = rw taken (ap (λ (p : Point Tally). is_sampled p.state) (sym one) ∙ on)
 
       pub rule_sampled : (noted : List Asked) (points_after : List (Point Tally)) (steps_after : ℕ) →
-          ((rules : List Actionpoint) (this : Actionpoint) → slice_get rules n ≡ Some this →
-          requests_in rules noted ≡ requests_in rules asked ++ requests_of this n reactions) →
+          requests_in rules_of noted ≡ requests_in rules_of asked ++ (sampled_point by_counts terms mode watch n (rule_in terms words entry) point).1 →
           points_after ≡ set points n after → steps_after ≡ steps + (entry.end - entry.start + 1) →
           SampledBelow request terms mode watch rules_of first (n + 1) points_after (requests_in rules_of noted) steps_after
       rule_sampled noted points_after steps_after notes points_are steps_are =
           let made = one_sampled request terms mode watch rules_of first n points (requests_in rules_of asked) steps so_far (rule_in terms words entry) point in_rules in_points rule_at
-          point_at sampled_on after (requests_in rules_of noted) after_is
-          (notes rules_of (rule_in terms words entry) there ∙ ap (λ (more : List Request). requests_in rules_of asked ++ more) reacts) in
+          point_at sampled_on after (requests_in rules_of noted) after_is notes in
           let counted : steps_after ≡ steps + equation_length (rule_in terms words entry).condition = omega (arith, steps_are, counted_words terms words entry tables.few runs) in
           rw (points_are, counted) made
 

@@ -1,7 +1,7 @@
 //! Actionpoints: the entries of their table, the counts of each, and the reactions to a sample (cFS Limit Checker user's
 //! guide, actionpoint definitions, statistics and evaluation; the counts are this project's own).
 
-ghost use Rattle.std.specs.Prelude.{◌≡◌, ℕ, if◌then◌else◌};
+ghost use Rattle.std.specs.Prelude.{◌≡◌, ℕ, [], IsFalse, IsTrue, if◌then◌else◌};
 ghost use Rattle.lc_model.specs.Condition.{Condition};
 ghost use Rattle.lc_model.specs.LimitChecker.Past.{is_result, is_passive as in_passive};
 ghost use Rattle.lc_model.specs.LimitChecker.Steps.{is_sampled as is_on, is_permanently_off as is_off, is_state_disabled};
@@ -158,28 +158,25 @@ impl Point {
         }
     }
 
-    /// Counts a sample and returns its reactions. Enough failures in a row make an active rule passive.
-    pub(crate) fn sample(&mut self, rule: &RuleEntry, mode: LcMode, outcome: ApResult) -> Reactions
-        // For any number and condition of the rule.
-        ensures point { (n : ℕ) (c : Condition) →
-            self.new ≡ (point_with (rule_with rule.now c) n mode outcome self.old).0 }
-        ensures requests { (n : ℕ) (c : Condition) →
-            requests_of (rule_with rule.now c) n result ≡
-            (point_with (rule_with rule.now c) n mode outcome self.old).1 }
+    /// Stores a result that counts nothing: neither it nor the last one is a failure, so the sample has no reaction. Returns whether
+    /// it is such a result, which is the usual case.
+    pub(crate) fn store_quiet(&mut self, rule: &RuleEntry, outcome: ApResult) -> bool
+        // For any number, condition and mode.
+        ensures quiet { IsTrue result → (n : ℕ) (c : Condition) (mode : LcMode) →
+            point_with (rule_with rule.now c) n mode outcome self.old ≡ (self.new, []) }
+        ensures other { IsFalse result → self.new ≡ self.old }
     {
         if self.counts_nothing(rule.fails, outcome) {
             self.note(outcome);
-            return Reactions {
-                turn: None,
-                failure: None,
-            };
+            return true;
         }
-        self.react(rule, mode, outcome)
+        false
     }
 
-    /// Counts a sample and returns its reactions. It stays out of the loop over the rules, which rarely comes here.
+    /// Counts a sample and returns its reactions. Enough failures in a row make an active rule passive. It stays out of the loop over
+    /// the rules, which rarely comes here.
     #[inline(never)]
-    fn react(&mut self, rule: &RuleEntry, mode: LcMode, outcome: ApResult) -> Reactions
+    pub(crate) fn react(&mut self, rule: &RuleEntry, mode: LcMode, outcome: ApResult) -> Reactions
         // For any number and condition of the rule.
         ensures point { (n : ℕ) (c : Condition) →
             self.new ≡ (point_with (rule_with rule.now c) n mode outcome self.old).0 }

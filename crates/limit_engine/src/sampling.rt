@@ -18,21 +18,6 @@ use crate::plan::Plan;
 use crate::reaction::{Asked, Reactions};
 use lc_model::{LcMode, SampleRequest, TABLE_ENTRIES, Truth};
 
-/// Samples a rule whose condition has this truth.
-fn sample_rule(entry: &RuleEntry, truth: Truth, mode: LcMode, point: &mut Point) -> Reactions
-    ensures point { (terms : List Term) (words : List ℕ) (watch : List ResultIn) (n : ℕ) →
-        HasTruth terms words watch entry.now truth
-        → point.new ≡ (sampled_point by_counts terms mode watch n
-        (rule_in terms words entry.now) point.old).0 }
-    ensures requests { (terms : List Term) (words : List ℕ) (watch : List ResultIn) (n : ℕ) →
-        HasTruth terms words watch entry.now truth
-        → requests_of (rule_in terms words entry.now) n result ≡
-        (sampled_point by_counts terms mode watch n (rule_in terms words entry.now)
-        point.old).1 }
-{
-    point.sample(entry, mode, result_of_truth(truth))
-}
-
 /// Adds a rule's reactions to the list, if it has any.
 fn note(asked: &mut Vec<Asked>, rule: u16, reactions: Reactions)
     requires { vec_len asked.old < vec_capacity asked.old }
@@ -48,6 +33,38 @@ fn note(asked: &mut Vec<Asked>, rule: u16, reactions: Reactions)
         (None, None) => {}
         _ => asked.push_reserved(Asked { rule, reactions }),
     }
+}
+
+/// Samples the rule with this number, whose condition has this truth, and adds its reactions to the list, if it has any.
+fn sample_rule(
+    entry: &RuleEntry,
+    truth: Truth,
+    mode: LcMode,
+    rule: u16,
+    point: &mut Point,
+    asked: &mut Vec<Asked>,
+)
+    requires { vec_len asked.old < vec_capacity asked.old }
+    ensures point { (terms : List Term) (words : List ℕ) (watch : List ResultIn) →
+        HasTruth terms words watch entry.now truth
+        → point.new ≡ (sampled_point by_counts terms mode watch rule
+        (rule_in terms words entry.now) point.old).0 }
+    ensures requests { (terms : List Term) (words : List ℕ) (watch : List ResultIn) (rules : List Actionpoint) →
+        HasTruth terms words watch entry.now truth
+        → slice_get rules rule ≡ Some (rule_in terms words entry.now)
+        → requests_in rules asked.new.items ≡ requests_in rules asked.old.items
+        ++ (sampled_point by_counts terms mode watch rule (rule_in terms words entry.now)
+        point.old).1 }
+    ensures order { AreInOrder 0 rule asked.old.items → AreInOrder 0 (rule + 1) asked.new.items }
+    ensures len { vec_len asked.new ≤ vec_len asked.old + 1 }
+    ensures capacity { vec_capacity asked.new ≡ vec_capacity asked.old }
+{
+    let outcome = result_of_truth(truth);
+    if point.store_quiet(entry, outcome) {
+        return;
+    }
+    let reactions = point.react(entry, mode, outcome);
+    note(asked, rule, reactions);
 }
 
 /// Samples the active and passive rules that the request takes, in order, by the truths of the evaluated plan. Returns the
@@ -86,8 +103,7 @@ pub(crate) fn sample_rules(
         if request.takes(rule) && points[rule].is_sampled() {
             steps += entry.end - entry.start + 1;
             let truth = plan.truth(rule);
-            let reactions = sample_rule(entry, truth, mode, &mut points[rule]);
-            note(asked, rule as u16, reactions);
+            sample_rule(entry, truth, mode, rule as u16, &mut points[rule], asked);
         }
     }
     steps
