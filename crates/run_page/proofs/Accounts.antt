@@ -76,8 +76,10 @@ asked_stands law b stands force types came shown is last =
 -- what the call returned is the account after what the record led to
 pub led_so : {T E : Type 0} (result : Result T E) (written led : List ℕ) (place : Place) (behind : Behind) (shown after is_shown : Account) → written ≡ led → shown ≡ is_shown →
     OnOk result (after ≡ led_to written place behind shown) → OnOk result (after ≡ led_to led place behind is_shown)
-led_so result written led place behind shown after is_shown wrote same told =
-    on_ok_weaker result (λ is. is ∙ (λ i. led_to (wrote i) place behind (same i))) told
+led_so result written led place behind shown after is_shown wrote same told = on_ok_weaker result goes told
+  where
+    goes : after ≡ led_to written place behind shown → after ≡ led_to led place behind is_shown
+    goes is = is ∙ (λ i. led_to (wrote i) place behind (same i))
 
 pub record_taken : run.StandAgain → FieldsCome → (pairs : List TablePair) (bytes : List ℕ) (host : Feeding) (written led : List ℕ) (start number : ℕ) (place : Place)
     (behind behind_it : Behind) (old came after : Account) → place ≡ place_of start number bytes → came ≡ account.come bytes place old →

@@ -1,7 +1,7 @@
 //! What holds back the event of a request.
 
 ghost use Rattle.std.specs.Prelude.{◌≡◌, option_map};
-ghost use Rattle.run_summary.specs.Holds.{all_on, hold_of, hold_unless, is_on};
+ghost use Rattle.run_summary.specs.Holds.{hold_of, hold_unless, is_on};
 
 use crate::plans::RulePlan;
 use lc_model::EventKind;

@@ -1,4 +1,3 @@
-use Rattle.std.proofs.Common.{rules}
 use Rattle.app_host.specs.Delivered.{executive_in}
 use Rattle.run_stepper.specs.Force.{text_in_force}
 use Rattle.run_stepper.specs.Stepping.{host_in, written_by}
