@@ -1,6 +1,6 @@
 -- The account of a run, record by record, as plain data: what each record brings, what counts of its samples, what it led to, and how
 -- the rules stand behind it. This project's own.
-use Rattle.std.specs.Prelude.{ℕ, ◌+◌, ◌%◌, List, [], ◌∷◌, codes, bytes_eq, length, map, nat_lt, not, ◌==◌, if◌then◌else◌, Option, Some, None, Bool, true, false, ◌||◌}
+use Rattle.std.specs.Prelude.{ℕ, ◌+◌, ◌%◌, List, [], ◌∷◌, codes, bytes_eq, length, map, nat_lt, not, ◌==◌, if◌then◌else◌, Option, Some, None, Bool, true, false}
 use Rattle.lc_model.specs.declared.mode.LcMode.{LcMode}
 use Rattle.lc_model.specs.declared.rule.EventKind.{EventKind}
 use Rattle.lc_model.specs.Bytes.{u16_at}
@@ -21,7 +21,7 @@ use Rattle.run_summary.specs.declared.account.Account.{Account as Held}
 use Rattle.run_summary.specs.About.{rule_of}
 use Rattle.run_summary.specs.Asking.{Counted, asking, behind_rule, counted_by, row_asked}
 use Rattle.run_summary.specs.Bands.{InForce, begun, enforced, has_changed, how_left, in_mode}
-use Rattle.run_summary.specs.Brought.{Brings, Command, File, Telemetry, Tick, brings, is_uplink}
+use Rattle.run_summary.specs.Brought.{Brings, Command, File, Telemetry, Tick, brings, is_sample_request}
 use Rattle.run_summary.specs.Fields.{all_seen, forgotten}
 use Rattle.run_summary.specs.Figures.{one_more, with_event, with_packet, with_record}
 use Rattle.run_summary.specs.Holds.{hold_of}
@@ -88,9 +88,15 @@ come bytes place a =
 
 -- ---- what the host shows
 
--- whether the host is asked after a record: the record is a command, a file or a half, or it led to packets
+-- whether the host is asked after a record of these bytes that brings this and led to these packets
+abbrev pub is_asked_at : Brings → (bytes written : List ℕ) → Bool
+is_asked_at (Telemetry packet) bytes written = false
+is_asked_at Tick bytes written = not (length written == 0)
+is_asked_at Command bytes written = not (is_sample_request bytes)
+is_asked_at File bytes written = true
+
 abbrev pub is_asked : (bytes written : List ℕ) → Bool
-is_asked bytes written = is_uplink (brings bytes) || not (length written == 0)
+is_asked bytes written = is_asked_at (brings bytes) bytes written
 
 -- the host has this text in force, and these types of events on for the Limit Checker
 abbrev pub shown : Option ℕ → TypesOn → Account → Account

@@ -1,7 +1,7 @@
 -- What a record brings, as far as a page shows it, by the format of streams (lc_model's Host.Stream). This project's own.
-use Rattle.std.specs.Prelude.{ℕ, Bool, true, false, not, ◌||◌, List, [], length, drop, slice_index, nat_lt, ◌==◌, if◌then◌else◌}
+use Rattle.std.specs.Prelude.{ℕ, ◌+◌, Bool, true, false, not, ◌||◌, ◌&&◌, nat_le, List, [], length, drop, slice_index, nat_lt, ◌==◌, if◌then◌else◌}
 use Rattle.lc_model.specs.Host.Stream.{header_size}
-use Rattle.lc_model.specs.Packet.{command_header_size, is_command}
+use Rattle.lc_model.specs.Packet.{command_header_size, is_command, message_id, sample_mid}
 use Rattle.run_summary.specs.declared.brought.Brought.{Brought}
 use Rattle.run_summary.specs.declared.brought.Brought.TheVariants as held
 
@@ -39,3 +39,7 @@ body_brings kind body =
 -- what a record of these bytes brings
 abbrev pub brings : List ℕ → Brings
 brings bytes = if nat_lt (length bytes) header_size then Telemetry [] else body_brings (slice_index bytes 0) (drop header_size bytes)
+
+-- whether a record of these bytes brings a sample request
+abbrev pub is_sample_request : List ℕ → Bool
+is_sample_request bytes = nat_le (header_size + 2) (length bytes) && (message_id (drop header_size bytes) == sample_mid)

@@ -2,8 +2,9 @@
 
 ghost use Rattle.std.specs.Prelude.{◌≡◌};
 ghost use Rattle.run_summary.specs.Account.{is_asked};
-ghost use Rattle.run_summary.specs.Brought.{body_brings, brings, brings_of, is_uplink, packet_brings};
+ghost use Rattle.run_summary.specs.Brought.{is_sample_request, body_brings, brings, brings_of, is_uplink, packet_brings};
 
+use lc_model::mids;
 use lc_model::packet::message_id;
 use lc_model::stream::HEADER;
 
@@ -64,10 +65,23 @@ pub(crate) fn read_record(bytes: &[u8]) -> Brought<'_>
     body_brought(bytes[0], bytes.split_at(HEADER).1)
 }
 
-/// Whether `Account::show` has to be called at the record with these bytes, which led to these packets: it brings a command, a file or a
-/// half of a rule text, or led to packets.
+/// Whether a record of these bytes brings a sample request.
+fn is_sample_request(bytes: &[u8]) -> bool
+    ensures { result ≡ is_sample_request bytes.now }
+{
+    HEADER + 2 <= bytes.len() && message_id(bytes.split_at(HEADER).1) == mids::SAMPLE
+}
+
+/// Whether `Account::show` has to be called at the record with these bytes, which led to these packets: it brings a file or a half of a
+/// rule text, a command that is no sample request, or a tick that led to packets. No other record changes the tables in force or the
+/// types of events that are on.
 pub fn is_asked(bytes: &[u8], packets: &[u8]) -> bool
     ensures { result ≡ is_asked bytes.now packets.now }
 {
-    read_record(bytes).is_uplink() || !packets.is_empty()
+    match read_record(bytes) {
+        Brought::Telemetry(_) => false,
+        Brought::Tick => !packets.is_empty(),
+        Brought::Command => !is_sample_request(bytes),
+        Brought::File => true,
+    }
 }
