@@ -125,7 +125,7 @@ pub fn put_commands<W: Write>(
     for line in commands {
         let items = [
             Item::Natural(line.place.record),
-            Item::Number(line.place.time),
+            Item::Time(line.place.time),
             Item::Text(line.says.as_slice()),
         ];
         json.member(COMMAND, &items);

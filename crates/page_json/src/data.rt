@@ -44,6 +44,21 @@ pub enum Ended {
     Cut(u64),
     /// After the greatest number of reads.
     Bound,
+    /// Before this record, which is not in the part of the run that the page shows.
+    Before(u64),
+}
+
+/// The part of a run that a page shows. Times are in 1/65,536 s since second 0.
+#[derive(Clone, Copy)]
+pub struct Window {
+    /// The time from which on records are shown, if it is given.
+    pub from: Option<u64>,
+    /// The time before which records are shown, if it is given.
+    pub until: Option<u64>,
+    /// The number of records before the page's first.
+    pub records: u64,
+    /// The number of packets that the run wrote before them.
+    pub packets: u64,
 }
 
 /// All data of a page.
@@ -57,9 +72,13 @@ pub struct Data<'a, 'n, 't, 's> {
     pub digest: [u8; 32],
     /// How the run ended.
     pub ended: Ended,
-    /// The time of the first record, in 1/65,536 s.
+    /// The part of the run that the page shows; `None` if it shows all of it.
+    pub window: Option<Window>,
+    /// The time of the page's first record, in 1/65,536 s.
     pub start: u64,
-    /// The time of the last record less `start`, in 1/65,536 s.
+    /// `start` less the time of the run's first record, from which all times of the account and the lists are counted.
+    pub shift: i64,
+    /// The time of the last record less that of the run's first.
     pub end: i64,
     /// Whether no record is earlier than the one before it.
     pub is_ordered: bool,
@@ -89,12 +108,18 @@ const BOUND: &[&str] = &[
     "{\"status\":4,\"says\":\"as many reads were made as may be\",\"whole\":false}",
 ];
 
+const BEFORE: &[&str] = &[
+    "{\"status\":0,\"says\":\"before record ",
+    "\",\"whole\":true}",
+];
+
 fn put_ended<W: Write>(json: &mut Json<'_, W>, ended: Ended) {
     match ended {
         Ended::Whole(records) => json.row(WHOLE, &[Item::Natural(records)]),
         Ended::NoRecord(number) => json.row(NO_RECORD, &[Item::Natural(number)]),
         Ended::Cut(number) => json.row(CUT, &[Item::Natural(number)]),
         Ended::Bound => json.row(BOUND, &[]),
+        Ended::Before(number) => json.row(BEFORE, &[Item::Natural(number)]),
     }
 }
 
@@ -137,7 +162,39 @@ fn put_sources<W: Write>(json: &mut Json<'_, W>, run: &Run<'_, '_>) {
     put_source(json, "schedule", &run.plan)
 }
 
-const PROGRAM: &[&str] = &["{\"format\":1,\"program\":\"flight_tools ", "\",\"ended\":"];
+const PROGRAM: &[&str] = &["{\"format\":2,\"program\":\"flight_tools ", "\",\"ended\":"];
+
+const WINDOW: &[&str] = &[
+    ",\"window\":{\"from\":",
+    ",\"until\":",
+    ",\"records\":",
+    ",\"packets\":",
+    "}",
+];
+
+/// The part of the run that the page shows.
+fn put_window<W: Write>(json: &mut Json<'_, W>, window: Option<Window>) {
+    match window {
+        Some(window) => json.row(
+            WINDOW,
+            &[
+                Item::NaturalIf(window.from),
+                Item::NaturalIf(window.until),
+                Item::Natural(window.records),
+                Item::Natural(window.packets),
+            ],
+        ),
+        None => json.text(",\"window\":null"),
+    }
+}
+
+/// The number of packets that were written before the part of the run that the page shows.
+fn packets_before(window: Option<Window>) -> u64 {
+    match window {
+        Some(window) => window.packets,
+        None => 0,
+    }
+}
 
 const FIGURES: &[&str] = &[
     "],\"figures\":{\"records\":",
@@ -156,15 +213,15 @@ const FIGURES: &[&str] = &[
     "},\"start\":",
 ];
 
-/// The figures of a run.
-fn put_figures<W: Write>(json: &mut Json<'_, W>, figures: &Figures) {
+/// The figures of a run, after this number of packets that aren't counted.
+fn put_figures<W: Write>(json: &mut Json<'_, W>, figures: &Figures, before: u64) {
     let items = [
         Item::Natural(figures.records),
         Item::Natural(figures.telemetry),
         Item::Natural(figures.commands),
         Item::Natural(figures.ticks),
         Item::Natural(figures.files),
-        Item::Natural(figures.packets),
+        Item::Natural(figures.packets.saturating_sub(before)),
         Item::Natural(figures.requests),
         Item::Natural(figures.housekeeping),
         Item::Natural(figures.critical),
@@ -183,7 +240,7 @@ fn put_clock<W: Write>(json: &mut Json<'_, W>, data: &Data<'_, '_, '_, '_>) {
     let ordered = if data.is_ordered { "true" } else { "false" };
     let items = [
         Item::Natural(data.start),
-        Item::Number(data.end),
+        Item::Time(data.end),
         Item::Word(ordered),
     ];
     json.row(CLOCK, &items);
@@ -198,10 +255,11 @@ fn put_clock<W: Write>(json: &mut Json<'_, W>, data: &Data<'_, '_, '_, '_>) {
 fn put_front<W: Write>(json: &mut Json<'_, W>, data: &Data<'_, '_, '_, '_>) {
     json.row(PROGRAM, &[Item::Word(VERSION)]);
     put_ended(json, data.ended);
+    put_window(json, data.window);
     json.open(",\"files\":[");
     put_sources(json, data.run);
     put_file(json, "stream", data.run.stream, data.bytes, &data.digest);
-    put_figures(json, &data.account.figures);
+    put_figures(json, &data.account.figures, packets_before(data.window));
     put_clock(json, data);
 }
 
@@ -220,7 +278,7 @@ fn put_lists<W: Write>(json: &mut Json<'_, W>, data: &Data<'_, '_, '_, '_>) {
 
 impl Display for Data<'_, '_, '_, '_> {
     fn fmt<W: Write>(&self, f: &mut Formatter<W>) -> fmt::Result {
-        let mut json = Json::new(f);
+        let mut json = Json::new(f, self.shift);
         put_front(&mut json, self);
         put_texts(&mut json, self.account);
         put_lists(&mut json, self);

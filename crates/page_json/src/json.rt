@@ -52,6 +52,8 @@ pub enum Item<'a> {
     Natural(u64),
     /// A number.
     Number(i64),
+    /// A time, counted from the first record of the run. It is written counted from the first record of the page.
+    Time(i64),
     /// A number that isn't negative, if there is one.
     NaturalIf(Option<u64>),
     /// A number, if there is one.
@@ -62,13 +64,15 @@ pub enum Item<'a> {
     TextIf(Option<usize>),
 }
 
-fn put_item<W: Write>(out: &mut W, item: Item<'_>) -> fmt::Result {
+/// Writes an item; `shift` is the time of the page's first record, counted from the run's first.
+fn put_item<W: Write>(out: &mut W, item: Item<'_>, shift: i64) -> fmt::Result {
     match item {
         Item::Word(word) => out.write_str(word),
         Item::Text(text) => put_text(out, text),
         Item::Digest(digest) => put_digest(out, digest),
         Item::Natural(number) | Item::NaturalIf(Some(number)) => write!(out, "{number}"),
         Item::Number(number) | Item::NumberIf(Some(number)) => write!(out, "{number}"),
+        Item::Time(time) => write!(out, "{}", time.saturating_sub(shift)),
         Item::RuleIf(Some(number)) => write!(out, "{number}"),
         Item::TextIf(Some(number)) => write!(out, "{number}"),
         _ => out.write_str("null"),
@@ -76,11 +80,16 @@ fn put_item<W: Write>(out: &mut W, item: Item<'_>) -> fmt::Result {
 }
 
 /// Writes a row: each text is followed by its item, if there is one.
-fn put_row<W: Write>(out: &mut W, texts: &[&'static str], items: &[Item<'_>]) -> fmt::Result {
+fn put_row<W: Write>(
+    out: &mut W,
+    texts: &[&'static str],
+    items: &[Item<'_>],
+    shift: i64,
+) -> fmt::Result {
     for (number, text) in texts.iter().enumerate() {
         out.write_str(text)?;
         if let Some(item) = items.get(number) {
-            put_item(out, *item)?;
+            put_item(out, *item, shift)?;
         }
     }
     Ok(())
@@ -91,16 +100,19 @@ fn put_row<W: Write>(out: &mut W, texts: &[&'static str], items: &[Item<'_>]) ->
 pub struct Json<'o, W: Write> {
     out: &'o mut W,
     result: fmt::Result,
+    /// The time of the page's first record, counted from the run's first.
+    shift: i64,
     /// Whether the next member is the first of its list.
     is_first: bool,
 }
 
 impl<'o, W: Write> Json<'o, W> {
-    /// A writer to `out` that has written nothing.
-    pub fn new(out: &'o mut W) -> Json<'o, W> {
+    /// A writer to `out` that has written nothing. `shift` is the time of the page's first record, counted from the run's first.
+    pub fn new(out: &'o mut W, shift: i64) -> Json<'o, W> {
         Json {
             out,
             result: Ok(()),
+            shift,
             is_first: true,
         }
     }
@@ -144,7 +156,7 @@ impl<'o, W: Write> Json<'o, W> {
     /// Writes a row: each text is followed by its item. There is at least one text for each item.
     pub fn row(&mut self, texts: &[&'static str], items: &[Item<'_>]) {
         if self.result.is_ok() {
-            self.result = put_row(self.out, texts, items);
+            self.result = put_row(self.out, texts, items, self.shift);
         }
     }
 

@@ -11,4 +11,4 @@ mod rules;
 mod value_names;
 
 pub use commands::{CommandLine, command_lines};
-pub use data::{Data, Ended, Run, Source};
+pub use data::{Data, Ended, Run, Source, Window};

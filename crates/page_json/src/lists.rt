@@ -20,7 +20,7 @@ fn put_value<W: Write>(json: &mut Json<'_, W>, entry: &Entry) {
     };
     let items = [
         Item::Natural(entry.from),
-        Item::Number(entry.time),
+        Item::Time(entry.time),
         Item::NumberIf(low),
     ];
     json.member(VALUE, &items);
@@ -46,10 +46,7 @@ const LAST: &[&str] = &["[", ",", "]"];
 /// The place of the last packet of a field.
 fn put_last<W: Write>(json: &mut Json<'_, W>, last: Option<Place>) {
     match last {
-        Some(place) => json.row(
-            LAST,
-            &[Item::Natural(place.record), Item::Number(place.time)],
-        ),
+        Some(place) => json.row(LAST, &[Item::Natural(place.record), Item::Time(place.time)]),
         None => json.text("null"),
     }
 }
@@ -102,7 +99,7 @@ const SPAN: &[&str] = &["[", ",", ",", ","];
 fn put_span<W: Write>(json: &mut Json<'_, W>, entry: &Entry) {
     let items = [
         Item::Natural(entry.from),
-        Item::Number(entry.time),
+        Item::Time(entry.time),
         Item::Natural(entry.told.results as u64),
         Item::Natural(entry.told.states as u64),
     ];
@@ -137,7 +134,7 @@ pub fn put_tables<W: Write>(json: &mut Json<'_, W>, bands: &Bands) {
     for from in bands.tables() {
         let items = [
             Item::Natural(from.place.record),
-            Item::Number(from.place.time),
+            Item::Time(from.place.time),
             Item::TextIf(from.text),
             how(from.how),
         ];
@@ -152,7 +149,7 @@ pub fn put_modes<W: Write>(json: &mut Json<'_, W>, bands: &Bands) {
     for from in bands.modes() {
         let items = [
             Item::Natural(from.place.record),
-            Item::Number(from.place.time),
+            Item::Time(from.place.time),
             mode(from.mode),
         ];
         json.member(MODE, &items);

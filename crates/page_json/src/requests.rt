@@ -17,7 +17,7 @@ fn put_met<W: Write>(json: &mut Json<'_, W>, part: Part, met: Met) {
     match met.place {
         Some(place) => {
             let record = Item::Natural(place.record);
-            json.member(MET, &[value, record, Item::Number(place.time), verdict])
+            json.member(MET, &[value, record, Item::Time(place.time), verdict])
         }
         None => json.member(UNMET, &[value, verdict]),
     }
@@ -38,7 +38,7 @@ const SAMPLE: &[&str] = &["[", ",", ""];
 fn put_samples<W: Write>(json: &mut Json<'_, W>, parts: &[Part], samples: &[Sample]) {
     for sample in samples {
         let place = sample.place();
-        let items = [Item::Natural(place.record), Item::Number(place.time)];
+        let items = [Item::Natural(place.record), Item::Time(place.time)];
         json.member(SAMPLE, &items);
         json.open(",[");
         put_all_met(json, parts, sample.comparisons());
@@ -73,7 +73,7 @@ fn put_request<W: Write>(json: &mut Json<'_, W>, account: &Account<'_>, request:
     let items = [
         Item::Natural(request.packet),
         Item::Natural(request.place.record),
-        Item::Number(request.place.time),
+        Item::Time(request.place.time),
         Item::RuleIf(request.rule),
         Item::TextIf(request.text),
         Item::Natural(request.sequence as u64),
@@ -116,7 +116,7 @@ fn put_events<W: Write>(json: &mut Json<'_, W>, events: &[SeenEvent]) {
         let items = [
             Item::Natural(event.packet),
             Item::Natural(event.place.record),
-            Item::Number(event.place.time),
+            Item::Time(event.place.time),
             Item::RuleIf(event.rule),
             Item::Text(event.sender.as_slice()),
             Item::Natural(event.id as u64),
