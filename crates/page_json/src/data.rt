@@ -44,8 +44,6 @@ pub enum Ended {
     Cut(u64),
     /// After the greatest number of reads.
     Bound,
-    /// Before this record, which is not in the part of the run that the page shows.
-    Before(u64),
 }
 
 /// The part of a run that a page shows. Times are in 1/65,536 s since second 0.
@@ -108,18 +106,12 @@ const BOUND: &[&str] = &[
     "{\"status\":4,\"says\":\"as many reads were made as may be\",\"whole\":false}",
 ];
 
-const BEFORE: &[&str] = &[
-    "{\"status\":0,\"says\":\"before record ",
-    "\",\"whole\":true}",
-];
-
 fn put_ended<W: Write>(json: &mut Json<'_, W>, ended: Ended) {
     match ended {
         Ended::Whole(records) => json.row(WHOLE, &[Item::Natural(records)]),
         Ended::NoRecord(number) => json.row(NO_RECORD, &[Item::Natural(number)]),
         Ended::Cut(number) => json.row(CUT, &[Item::Natural(number)]),
         Ended::Bound => json.row(BOUND, &[]),
-        Ended::Before(number) => json.row(BEFORE, &[Item::Natural(number)]),
     }
 }
 

@@ -1,7 +1,7 @@
 //! The requests, with the samples that counted, and the events of a page's data.
 
 use crate::json::{Item, Json};
-use crate::value_names::{held, level};
+use crate::value_names::{hold, level};
 use run_summary::{Account, Left, Met, Part, Request, Sample, SeenEvent, verdict};
 use std::fmt::Write;
 
@@ -79,7 +79,7 @@ fn put_request<W: Write>(json: &mut Json<'_, W>, account: &Account<'_>, request:
         Item::Natural(request.sequence as u64),
         Item::Natural(request.count as u64),
         Item::NaturalIf(request.event),
-        held(request.hold()),
+        hold(request.hold()),
         Item::Natural(request.counted as u64),
     ];
     json.member(REQUEST, &items);

@@ -49,7 +49,7 @@ pub fn how(how: Option<How>) -> Item<'static> {
 }
 
 /// What held back the event of a request; `null` if it came, or if that isn't known.
-pub fn held(hold: Option<Hold>) -> Item<'static> {
+pub fn hold(hold: Option<Hold>) -> Item<'static> {
     Item::Word(match hold {
         None => "null",
         Some(Hold::TypeOff) => "\"type\"",
