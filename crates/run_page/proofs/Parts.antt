@@ -1,6 +1,6 @@
 -- The part of a run that is shown, one record more.
 use Rattle.std.proofs.Common.{◌≡◌, ℕ, zero, suc, ◌+◌, ◌<◌, ◌^◌, Bool, true, false, List, [], ◌∷◌, ◌++◌, length, length-append, refl, ap, sym, ◌∙◌, subst, arith, if◌then◌else◌}
-use Rattle.std.specs.Prelude.{◌==◌}
+use Rattle.std.specs.Prelude.{◌==◌, ◌||◌, not}
 use Rattle.std.proofs.lemmas.Bool.{false≢true}
 use Rattle.std.proofs.lemmas.List.{append_assoc, append-nil}
 use Rattle.bounded_history.specs.declared.entry.Entry.{Entry}
@@ -14,8 +14,10 @@ use Rattle.run_summary.specs.Standing.{stand_at}
 use Rattle.run_page.specs.declared.behind.Behind.{Behind}
 use Rattle.run_page.specs.declared.lists.Lists.{Lists}
 use Rattle.run_page.specs.declared.part.Part.{Part}
-use Rattle.run_page.specs.Model.{HasShown, HasTaken, HasTold, IsKept, KeepsStands, ListsTell, OfRun, all_values, lanes_from, nothing_told, place_of, stands_of, start_of, stood, stood_more, told_from, values_more}
-use Rattle.run_page.specs.Part.{AreParts, FirstBegins, FirstEnds, NoneBegins, NoneEnds, is_from, is_until}
+use Rattle.run_page.specs.declared.part.Phase.{Phase}
+use Rattle.run_page.specs.declared.part.Phase.TheVariants.{Before, Inside, After}
+use Rattle.run_page.specs.Model.{CameTo, HasShown, HasTaken, HasTold, IsKept, KeepsStands, ListsTell, OfRun, StandsSo, all_values, lanes_from, nothing_told, place_of, stands_of, start_of, stood, stood_more, told_from, values_more}
+use Rattle.run_page.specs.Part.{FirstBegins, FirstEnds, NoneBegins, NoneEnds, is_after, is_before, is_from, is_until, phase_after}
 use Rattle.run_page.specs.Times.{ticks_of}
 use Rattle.run_page.proofs.Accounts.{Stays, account_anew, account_more, start_stays}
 use Rattle.run_page.proofs.Lanes.{length_nothing, nothing_of_lanes}
@@ -154,23 +156,175 @@ none_ends_more part (one ∷ all) step none isnt = (none.0, none_ends_more part 
 first_begins_more : (part : Part) (one : Step) (all more : List Step) → FirstBegins part (one ∷ all) → FirstBegins part (one ∷ (all ++ more))
 first_begins_more part one all more begins = begins
 
--- the first record of the part
-pub begins_shown : (texts : OfRun) (part : Part) (lists : Lists) (behind : Behind) (a : Account) (start : ℕ) (all : List Step) (step : Step) → NoneBegins part all →
-    is_from part.from (ticks_of step.bytes) ≡ true → is_until part.until (ticks_of step.bytes) ≡ false → HasTold texts lists behind a start all (step ∷ []) →
-    (shown : HasShown texts part lists behind a start (all ++ step ∷ [])) × (shown.later ≡ [])
-begins_shown texts part lists behind a start all step none begins isnt told = (
-  record { earlier = all; shown = step ∷ []; later = []; are_all = refl; parts = record { before = none; begins = begins; inside = (isnt, tt); ends = tt }; told = told },
-  refl,
+first_stays : (part : Part) (shown more : List Step) → 0 < length shown → FirstBegins part shown → FirstBegins part (shown ++ more)
+first_stays part [] more some begins = absurd (omega (arith, some))
+first_stays part (one ∷ shown) more some begins = begins
+
+ends_stay : (part : Part) (later more : List Step) → 0 < length later → FirstEnds part later → FirstEnds part (later ++ more)
+ends_stay part [] more some ends = absurd (omega (arith, some))
+ends_stay part (one ∷ later) more some ends = ends
+
+-- ---- the part begins, or not
+
+pub keeps_so : (texts : OfRun) (part : Part) (phase next : Phase) (lists : Lists) (behind : Behind) (a : Account) (start : ℕ) (all : List Step) →
+    (not (is_before phase) || is_before next) ≡ true → StandsSo texts part phase lists behind a start all → CameTo texts part phase next lists behind a start all
+keeps_so texts part Before Before lists behind a start all test stands = stands
+keeps_so texts part Before Inside lists behind a start all test stands = absurd (cc test)
+keeps_so texts part Before After lists behind a start all test stands = absurd (cc test)
+keeps_so texts part Inside next lists behind a start all test stands = stands
+keeps_so texts part After next lists behind a start all test stands = stands
+
+pub anew_so : (texts : OfRun) (part : Part) (phase next : Phase) (lists after : Lists) (behind behind_it : Behind) (a after_it : Account) (start : ℕ) (all : List Step) →
+    (not (is_before phase) || is_before next) ≡ false → IsAnew lists after behind_it a after_it → StandsSo texts part phase lists behind a start all →
+    CameTo texts part phase next after behind_it after_it start all
+anew_so texts part Before Before lists after behind behind_it a after_it start all test anew stands = absurd (cc test)
+anew_so texts part Before Inside lists after behind behind_it a after_it start all test anew stands =
+    (stands.0, told_anew texts lists after behind behind_it a after_it start all anew stands.1)
+anew_so texts part Before After lists after behind behind_it a after_it start all test anew stands =
+    (stands.0, told_anew texts lists after behind behind_it a after_it start all anew stands.1)
+anew_so texts part Inside next lists after behind behind_it a after_it start all test anew stands = absurd (cc test)
+anew_so texts part After next lists after behind behind_it a after_it start all test anew stands = absurd (cc test)
+
+-- ---- a record more
+
+-- the phase by the two tests
+abbrev phase_by : Phase → (b c : Bool) → Phase
+phase_by Before b c = if b then (if c then After else Inside) else Before
+phase_by Inside b c = if c then After else Inside
+phase_by After b c = After
+
+-- .. that is shown, or comes before the part
+taken_by : (b c : Bool) (texts : OfRun) (part : Part) (phase : Phase) (lists after : Lists) (behind behind_it : Behind) (a after_it : Account) (start now : ℕ) (all : List Step) (step : Step) →
+    is_from part.from (ticks_of step.bytes) ≡ b → is_until part.until (ticks_of step.bytes) ≡ c → is_after (phase_by phase b c) ≡ false →
+    CameTo texts part phase (phase_by phase b c) lists behind a start all → Takes texts lists after behind behind_it a after_it start now (length all + 1) step →
+    StandsSo texts part (phase_by phase b c) after behind_it after_it now (all ++ step ∷ [])
+taken_by false c texts part Before lists after behind behind_it a after_it start now all step from until open came takes =
+    (none_begins_more part all step came.0 from, told_next texts lists after behind behind_it a after_it start now [] all step takes came.1)
+taken_by true false texts part Before lists after behind behind_it a after_it start now all step from until open came takes =
+    let same : length all ≡ length (all ++ []) = sym (ap length (append-nil all)) in (
+      record {
+        earlier = all;
+        shown = step ∷ [];
+        later = [];
+        are_all = refl;
+        parts = record { before = came.0; begins = from; inside = (until, tt); ends = tt };
+        told = told_next texts lists after behind behind_it a after_it start now all [] step
+            (subst (λ n. Takes texts lists after behind behind_it a after_it start now (n + 1) step) same takes) came.1;
+      },
+      refl,
+      omega arith,
+    )
+taken_by true true texts part Before lists after behind behind_it a after_it start now all step from until open came takes = absurd (cc open)
+taken_by b false texts part Inside lists after behind behind_it a after_it start now all step from until open came takes =
+    let so : HasShown texts part lists behind a start all = came.0 in
+    let whole : so.earlier ++ so.shown ≡ all =
+    sym (ap (λ later. so.earlier ++ (so.shown ++ later)) came.1 ∙ ap (λ shown. so.earlier ++ shown) (append-nil so.shown)) ∙ so.are_all in
+    let begins : FirstBegins part so.shown = subst (FirstBegins part) (ap (λ later. so.shown ++ later) came.1 ∙ append-nil so.shown) so.parts.begins in (
+      record {
+        earlier = so.earlier;
+        shown = so.shown ++ step ∷ [];
+        later = [];
+        are_all = ap (λ shown. so.earlier ++ shown) (append-nil (so.shown ++ step ∷ [])) ∙ sym (append_assoc so.earlier so.shown (step ∷ [])) ∙ ap (λ front. front ++ step ∷ []) whole;
+        parts = record {
+          before = so.parts.before;
+          begins = subst (FirstBegins part) (sym (append-nil (so.shown ++ step ∷ []))) (first_stays part so.shown (step ∷ []) came.2 begins);
+          inside = none_ends_more part so.shown step so.parts.inside until;
+          ends = tt;
+        };
+        told = told_next texts lists after behind behind_it a after_it start now so.earlier so.shown step
+            (subst (λ (steps : List Step). Takes texts lists after behind behind_it a after_it start now (length steps + 1) step) (sym whole) takes) so.told;
+      },
+      refl,
+      omega (arith, length-append so.shown (step ∷ [])),
+    )
+taken_by b true texts part Inside lists after behind behind_it a after_it start now all step from until open came takes = absurd (cc open)
+taken_by b c texts part After lists after behind behind_it a after_it start now all step from until open came takes = absurd (cc open)
+
+-- .. that comes after it
+passed_by : (b c : Bool) (texts : OfRun) (part : Part) (phase : Phase) (lists : Lists) (behind : Behind) (a : Account) (start : ℕ) (all : List Step) (step : Step) →
+    is_from part.from (ticks_of step.bytes) ≡ b → is_until part.until (ticks_of step.bytes) ≡ c → is_after (phase_by phase b c) ≡ true →
+    CameTo texts part phase (phase_by phase b c) lists behind a start all → StandsSo texts part (phase_by phase b c) lists behind a start (all ++ step ∷ [])
+passed_by false c texts part Before lists behind a start all step from until over came = absurd (cc over)
+passed_by true false texts part Before lists behind a start all step from until over came = absurd (cc over)
+passed_by true true texts part Before lists behind a start all step from until over came = (
+  record { earlier = all; shown = []; later = step ∷ []; are_all = refl; parts = record { before = came.0; begins = from; inside = tt; ends = until }; told = came.1 },
+  omega arith,
 )
+passed_by b false texts part Inside lists behind a start all step from until over came = absurd (cc over)
+passed_by b true texts part Inside lists behind a start all step from until over came =
+    let so : HasShown texts part lists behind a start all = came.0 in
+    let whole : so.earlier ++ so.shown ≡ all =
+    sym (ap (λ later. so.earlier ++ (so.shown ++ later)) came.1 ∙ ap (λ shown. so.earlier ++ shown) (append-nil so.shown)) ∙ so.are_all in
+    let begins : FirstBegins part so.shown = subst (FirstBegins part) (ap (λ later. so.shown ++ later) came.1 ∙ append-nil so.shown) so.parts.begins in (
+      record {
+        earlier = so.earlier;
+        shown = so.shown;
+        later = step ∷ [];
+        are_all = sym (append_assoc so.earlier so.shown (step ∷ [])) ∙ ap (λ front. front ++ step ∷ []) whole;
+        parts = record { before = so.parts.before; begins = first_stays part so.shown (step ∷ []) came.2 begins; inside = so.parts.inside; ends = until };
+        told = so.told;
+      },
+      omega arith,
+    )
+passed_by b c texts part After lists behind a start all step from until over came =
+    let so : HasShown texts part lists behind a start all = came.0 in
+    let joined : (so.shown ++ so.later) ++ step ∷ [] ≡ so.shown ++ (so.later ++ step ∷ []) = append_assoc so.shown so.later (step ∷ []) in (
+      record {
+        earlier = so.earlier;
+        shown = so.shown;
+        later = so.later ++ step ∷ [];
+        are_all = ap (λ rest. so.earlier ++ rest) (sym joined) ∙ sym (append_assoc so.earlier (so.shown ++ so.later) (step ∷ [])) ∙ ap (λ front. front ++ step ∷ []) so.are_all;
+        parts = record {
+          before = so.parts.before;
+          begins = subst (FirstBegins part) joined
+              (first_stays part (so.shown ++ so.later) (step ∷ []) (omega (arith, came.1, length-append so.shown so.later)) so.parts.begins);
+          inside = so.parts.inside;
+          ends = ends_stay part so.later (step ∷ []) came.1 so.parts.ends;
+        };
+        told = so.told;
+      },
+      omega (arith, length-append so.later (step ∷ [])),
+    )
 
--- a part without records
-pub begins_empty : (texts : OfRun) (part : Part) (lists : Lists) (behind : Behind) (a : Account) (start : ℕ) (all : List Step) (step : Step) → NoneBegins part all →
-    is_from part.from (ticks_of step.bytes) ≡ true → is_until part.until (ticks_of step.bytes) ≡ true → HasTold texts lists behind a start all [] →
-    HasShown texts part lists behind a start (all ++ step ∷ [])
-begins_empty texts part lists behind a start all step none begins is told =
-    record { earlier = all; shown = []; later = step ∷ []; are_all = refl; parts = record { before = none; begins = begins; inside = tt; ends = is }; told = told }
+pub stands_taken : (texts : OfRun) (part : Part) (phase next : Phase) (lists after : Lists) (behind behind_it : Behind) (a after_it : Account) (start now : ℕ) (all : List Step) (step : Step) →
+    next ≡ phase_after part phase (ticks_of step.bytes) → is_after next ≡ false → CameTo texts part phase next lists behind a start all →
+    Takes texts lists after behind behind_it a after_it start now (length all + 1) step → StandsSo texts part next after behind_it after_it now (all ++ step ∷ [])
+stands_taken texts part phase next lists after behind behind_it a after_it start now all step is open came takes =
+    let by : next ≡ phase_by phase (is_from part.from (ticks_of step.bytes)) (is_until part.until (ticks_of step.bytes)) = is ∙ phases phase in
+    subst (λ (p : Phase). StandsSo texts part p after behind_it after_it now (all ++ step ∷ [])) (sym by)
+    (taken_by (is_from part.from (ticks_of step.bytes)) (is_until part.until (ticks_of step.bytes)) texts part phase lists after behind behind_it a after_it start now all step refl refl
+    (ap is_after (sym by) ∙ open) (subst (λ (p : Phase). CameTo texts part phase p lists behind a start all) by came) takes)
+  where
+    phases : (p : Phase) → phase_after part p (ticks_of step.bytes) ≡ phase_by p (is_from part.from (ticks_of step.bytes)) (is_until part.until (ticks_of step.bytes))
+    phases Before = refl
+    phases Inside = refl
+    phases After = refl
 
-pub never_shown : (texts : OfRun) (part : Part) (lists : Lists) (behind : Behind) (a : Account) (start : ℕ) (all : List Step) → NoneBegins part all →
-    HasTold texts lists behind a start all [] → HasShown texts part lists behind a start all
-never_shown texts part lists behind a start all none told =
-    record { earlier = all; shown = []; later = []; are_all = append-nil all; parts = record { before = none; begins = tt; inside = tt; ends = tt }; told = told }
+pub stands_passed : (texts : OfRun) (part : Part) (phase next : Phase) (lists : Lists) (behind : Behind) (a : Account) (start : ℕ) (all : List Step) (step : Step) →
+    next ≡ phase_after part phase (ticks_of step.bytes) → is_after next ≡ true → CameTo texts part phase next lists behind a start all →
+    StandsSo texts part next lists behind a start (all ++ step ∷ [])
+stands_passed texts part phase next lists behind a start all step is over came =
+    let by : next ≡ phase_by phase (is_from part.from (ticks_of step.bytes)) (is_until part.until (ticks_of step.bytes)) = is ∙ phases phase in
+    subst (λ (p : Phase). StandsSo texts part p lists behind a start (all ++ step ∷ [])) (sym by)
+    (passed_by (is_from part.from (ticks_of step.bytes)) (is_until part.until (ticks_of step.bytes)) texts part phase lists behind a start all step refl refl
+    (ap is_after (sym by) ∙ over) (subst (λ (p : Phase). CameTo texts part phase p lists behind a start all) by came))
+  where
+    phases : (p : Phase) → phase_after part p (ticks_of step.bytes) ≡ phase_by p (is_from part.from (ticks_of step.bytes)) (is_until part.until (ticks_of step.bytes))
+    phases Before = refl
+    phases Inside = refl
+    phases After = refl
+
+-- ---- the end
+
+pub ends_shown : (texts : OfRun) (part : Part) (phase : Phase) (lists : Lists) (behind : Behind) (a : Account) (start : ℕ) (all : List Step) → is_before phase ≡ false →
+    StandsSo texts part phase lists behind a start all → HasShown texts part lists behind a start all
+ends_shown texts part Before lists behind a start all begun stands = absurd (cc begun)
+ends_shown texts part Inside lists behind a start all begun stands = stands.0
+ends_shown texts part After lists behind a start all begun stands = stands.0
+
+pub ends_empty : (texts : OfRun) (part : Part) (phase : Phase) (lists : Lists) (behind : Behind) (a : Account) (start : ℕ) (all : List Step) → is_before phase ≡ true →
+    CameTo texts part phase After lists behind a start all → HasShown texts part lists behind a start all
+ends_empty texts part Before lists behind a start all none came =
+    record { earlier = all; shown = []; later = []; are_all = append-nil all; parts = record { before = came.0; begins = tt; inside = tt; ends = tt }; told = came.1 }
+ends_empty texts part Inside lists behind a start all none came = absurd (cc none)
+ends_empty texts part After lists behind a start all none came = absurd (cc none)

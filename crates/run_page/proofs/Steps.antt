@@ -8,7 +8,6 @@ use Rattle.sha2.specs.Sha256.{sha256}
 use Rattle.lc_model.specs.Host.Schedule.{Schedule}
 use Rattle.lc_model.specs.Host.Stream.{StreamEntry, End, Bad, Truncated, Record, all_kinds, front, records_of}
 use Rattle.lc_model.specs.Host.Stream as stream
-use Rattle.bounded_history.specs.declared.entry.Entry.{Entry}
 use Rattle.rpn_compiler.specs.declared.files.TablePair.{TablePair}
 use Rattle.flight_core.specs.Compiled.{AreAllCompiled}
 use Rattle.flight_core.specs.Cutting.{Begins, Comes, EndsBadly, EndsCut, EndsWhole, Goes, IsHandedOut}
@@ -24,19 +23,15 @@ use Rattle.run_stepper.specs.declared.handled.Handled.{Handled}
 use Rattle.run_stepper.specs.declared.handled.Handled.TheVariants as handled
 use Rattle.run_page.specs.declared.behind.Behind.{Behind}
 use Rattle.run_page.specs.declared.lists.Lists.{Lists}
-use Rattle.run_summary.specs.Standing.{stand_at}
+use Rattle.run_page.specs.declared.part.Part.{Part}
+use Rattle.run_page.specs.declared.part.Phase.{Phase}
 use Rattle.run_summary.specs.Account.{Account}
-use Rattle.run_summary.specs.Brought.{brings}
-use Rattle.run_summary.specs.Fields.{AreKnown, all_brought}
 use Rattle.run_summary.specs.Run.{AreRead, OfTexts}
 use Rattle.run_summary.specs.Texts.{HaveItems}
 use Rattle.run_page.specs.declared.intake.Intake.{Intake}
 use Rattle.run_page.specs.Coming.{Arrives, Took, TookAll, without_bytes}
 use Rattle.run_page.proofs.Pieces.{took_more, took_none}
-use Rattle.run_summary.specs.declared.texts.Field.{Field}
-use Rattle.run_page.proofs.Accounts.{account_more}
-use Rattle.run_page.proofs.Values.{all_values_more, started}
-use Rattle.run_page.specs.Model.{EndsSo, HasTaken, HasTold, OfRun, run_of, IsKept, IsNew, KeepsStands, ListsTell, StopsAt, Tells, TellsRead, TellsTaken, ending_at, all_values, lanes_from, place_of, stands_of, start_of, stood, stood_more, ticks_of, told_from, told_of, values_more}
+use Rattle.run_page.specs.Model.{Adds, EndsSo, HasShown, IsNew, IsStep, OfRun, StandsSo, StopsAt, Tells, TellsRead, TellsTaken, ending_at, run_of}
 
 -- the host goes through one record more
 pub went_more : (first old new : Feeding) (steps : List Step) (bytes written : List ℕ) → Went first steps old → HasStepped bytes old new written (Ok handled.Whole) →
@@ -92,18 +87,12 @@ nothing_so_far laws texts part phase first lists behind a start stands = record 
   stands = stands;
 }
 
--- how the run stands with one record more
-abbrev pub Adds : OfRun → Part → (phase next : Phase) → (lists after : Lists) → (behind behind_it : Behind) → (a after_it : Account) → (start now number : ℕ) → Step → Type 0
-Adds texts part phase next lists after behind behind_it a after_it start now number step =
-    (steps : List Step) → number ≡ length steps + 1 → StandsSo texts part phase lists behind a start steps →
-    StandsSo texts part next after behind_it after_it now (steps ++ step ∷ [])
-
 -- one record more
 pub next_so_far : Laws → (texts : OfRun) (part : Part) (phase next : Phase) (first old new : Feeding) (stream rest bytes left written : List ℕ) (lists after : Lists)
     (behind behind_it : Behind) (a after_it : Account) (start now number : ℕ) (entry : StreamEntry) →
     SoFar texts part phase first old stream rest lists behind a start number → HasStepped bytes old new written (Ok handled.Whole) → bytes ++ left ≡ rest →
     front all_kinds (length first.files) rest ≡ Record entry left → records_of (length first.files) bytes ≡ one_record entry →
-    Adds texts part phase next lists after behind behind_it a after_it start now (number + 1) (record { bytes = bytes; host = new; written = written }) →
+    Adds texts part phase next lists after behind behind_it a after_it start now (number + 1) bytes new written →
     SoFar texts part next first new stream left after behind_it after_it now (number + 1)
 next_so_far laws texts part phase next first old new stream rest bytes left written lists after behind behind_it a after_it start now number entry so stepped parts here own adds =
     let step : Step = record { bytes = bytes; host = new; written = written } in
@@ -115,7 +104,7 @@ next_so_far laws texts part phase next first old new stream rest bytes left writ
       entries = so.entries ++ entry ∷ [];
       handed = laws.goes (length first.files) stream so.entries rest entry left so.handed here;
       each = map-append (λ (step : Step). records_of (length first.files) step.bytes) so.steps (step ∷ []) ∙ (λ i. so.each i ++ own i ∷ []) ∙ sym (map-append one_record so.entries (entry ∷ []));
-      stands = adds so.steps (ap (λ count. count + 1) (sym so.count)) so.stands;
+      stands = adds step so.steps (record { bytes_are = refl; host_is = refl; written_is = refl }) (ap (λ count. count + 1) (sym so.count)) so.stands;
     }
 
 -- ---- a stream that comes in pieces
@@ -206,7 +195,7 @@ module _ (laws : Laws) (texts : OfRun) (part : Part) (phase : Phase) (first old 
     handles = subst (HandlesAlone host last written) whole arrives.handles
 
     pub next_read : (bytes : List ℕ) (next : Phase) (after : Lists) (behind_it : Behind) (after_it : Account) (now : ℕ) → bytes ≡ last.held.last →
-        Adds texts part phase next lists after behind behind_it a after_it start now (number + 1) (record { bytes = bytes; host = last; written = written }) →
+        Adds texts part phase next lists after behind behind_it a after_it start now (number + 1) bytes last written →
         ReadSoFar texts part next first last before left intake is after behind_it after_it now (number + 1)
     next_read bytes next after behind_it after_it now lent adds = record {
       taken = more_read.taken;
@@ -220,7 +209,8 @@ module _ (laws : Laws) (texts : OfRun) (part : Part) (phase : Phase) (first old 
           (ap (λ own. own ++ last.held.bytes) lent ∙ sym handles.parts)
           (ap (λ n. front all_kinds n host.held.bytes) (sym more_read.of_texts) ∙ handles.front)
           ((λ i. records_of (sym more_read.of_texts i) (lent i)) ∙ handles.own)
-          (λ steps is_number stands. held_alike steps (adds steps is_number stands));
+          (λ step steps is is_number stands.
+          adds step steps (record { bytes_are = is.bytes_are; host_is = is.host_is; written_is = is.written_is }) is_number stands);
     }
 
   -- ---- how it ends
@@ -237,24 +227,28 @@ module _ (laws : Laws) (texts : OfRun) (part : Part) (phase : Phase) (first old 
     ends = ends ∙ ap (λ (r : List StreamEntry × End). ending_by (length more_read.so.steps) r.1) (sym all);
   }
 
-  tells_so : (ending : Ending) → ((more : List ℕ) → (is.is_ended ≡ true → more ≡ []) →
-      AreItsRecords (length first.files) (more_read.taken ++ more) more_read.so.steps ending × EndsSo ending more_read.so.steps more_read.bare (host.held.bytes ++ more)) →
-      TellsTaken texts before left intake is first lists a ending
-  tells_so ending ends = record {
-    taken = more_read.taken;
-    took = more_read.took;
-    tells = λ more none. record {
-      steps = more_read.so.steps;
-      host = more_read.bare;
-      rest = host.held.bytes ++ more;
-      went = more_read.so.went;
-      bytes = sym (append_assoc (bytes_of more_read.so.steps) host.held.bytes more) ∙ ap (λ front. front ++ more) more_read.so.bytes;
-      are_records = (ends more none).0;
-      ends = (ends more none).1;
-      lists_tell = more_read.so.told.lists_tell;
-      is_account = more_read.so.told.is_account;
-    };
-  }
+  -- at the end the part is known
+  module _ (after : Lists) (behind_it : Behind) (after_it : Account) (now : ℕ)
+      (finishes : (steps : List Step) → StandsSo texts part phase lists behind a start steps → HasShown texts part after behind_it after_it now steps) where
+    tells_so : (ending : Ending) → ((more : List ℕ) → (is.is_ended ≡ true → more ≡ []) →
+        AreItsRecords (length first.files) (more_read.taken ++ more) more_read.so.steps ending × EndsSo ending more_read.so.steps more_read.bare (host.held.bytes ++ more)) →
+        TellsTaken texts part before left intake is first after after_it ending
+    tells_so ending ends = record {
+      taken = more_read.taken;
+      took = more_read.took;
+      tells = λ more none. record {
+        steps = more_read.so.steps;
+        host = more_read.bare;
+        rest = host.held.bytes ++ more;
+        went = more_read.so.went;
+        bytes = sym (append_assoc (bytes_of more_read.so.steps) host.held.bytes more) ∙ ap (λ front. front ++ more) more_read.so.bytes;
+        are_records = (ends more none).0;
+        ends = (ends more none).1;
+        behind = behind_it;
+        start = now;
+        shows = finishes more_read.so.steps more_read.so.stands;
+      };
+    }
 
   stops : (more : List ℕ) (now : Feeding) (became : Handled) → HasStepped host.held.bytes (holding_none host) now written (Ok became) → StopsAt more_read.bare (host.held.bytes ++ more) became
   stops more now became alone = record {
@@ -269,59 +263,61 @@ module _ (laws : Laws) (texts : OfRun) (part : Part) (phase : Phase) (first old 
   one_more : (next : ℕ) → next ≡ number + 1 → next ≡ length more_read.so.steps + 1
   one_more next is_next = is_next ∙ ap (λ count. count + 1) (sym more_read.so.count)
 
-  pub ends_in_none : found ≡ handled.NoRecord → (next : ℕ) → next ≡ number + 1 → TellsTaken texts before left intake is first lists a (ended.NoRecord next)
-  unfolding host
-  ends_in_none none next is_next =
-      let meets : MeetsNoRecord host written = subst (HandlesAlone host last written) none arrives.handles in
-      tells_so (ended.NoRecord next) (λ more nothing. (
-        are_records more (Bad (length more_read.so.entries + 1)) (ended.NoRecord next)
-            (laws.bad (length first.files) more_read.taken more_read.so.entries host.held.bytes more more_read.so.handed
-            (ap (λ n. front all_kinds n host.held.bytes) (sym more_read.of_texts) ∙ meets.front))
-            (ap ended.NoRecord (one_more next is_next ∙ ap (λ count. count + 1) (sym counted_entries))),
-        (one_more next is_next, stops more meets.now handled.NoRecord meets.alone),
+  module _ (after : Lists) (behind_it : Behind) (after_it : Account) (now : ℕ)
+      (finishes : (steps : List Step) → StandsSo texts part phase lists behind a start steps → HasShown texts part after behind_it after_it now steps) where
+    pub ends_in_none : found ≡ handled.NoRecord → (next : ℕ) → next ≡ number + 1 → TellsTaken texts part before left intake is first after after_it (ended.NoRecord next)
+    unfolding host
+    ends_in_none none next is_next =
+        let meets : MeetsNoRecord host written = subst (HandlesAlone host last written) none arrives.handles in
+        tells_so after behind_it after_it now finishes (ended.NoRecord next) (λ more nothing. (
+          are_records more (Bad (length more_read.so.entries + 1)) (ended.NoRecord next)
+              (laws.bad (length first.files) more_read.taken more_read.so.entries host.held.bytes more more_read.so.handed
+              (ap (λ n. front all_kinds n host.held.bytes) (sym more_read.of_texts) ∙ meets.front))
+              (ap ended.NoRecord (one_more next is_next ∙ ap (λ count. count + 1) (sym counted_entries))),
+          (one_more next is_next, stops more meets.now handled.NoRecord meets.alone),
+        ))
+
+    -- of a stream that ended
+    module _ (part : found ≡ handled.Part) where
+      waits : Waits host last written
+      unfolding host
+      waits = subst (HandlesAlone host last written) part arrives.handles
+
+      -- nothing follows
+      all_there : (more : List ℕ) → (is.is_ended ≡ true → more ≡ []) → more ≡ []
+      all_there more none = none (arrives.ended part)
+
+      at_end : (e : End) → records_of (length first.files) more_read.taken ≡ (more_read.so.entries, e) → (more : List ℕ) → more ≡ [] →
+          records_of (length first.files) (more_read.taken ++ more) ≡ (more_read.so.entries, e)
+      at_end e all more none = (λ i. records_of (length first.files) (more_read.taken ++ none i)) ∙ ap (records_of (length first.files)) (append-nil more_read.taken) ∙ all
+
+      by_left : (bytes : List ℕ) → host.held.bytes ≡ bytes → front all_kinds (length first.files) host.held.bytes ≡ part_of bytes →
+          TellsTaken texts part before left intake is first after after_it (ending_at bytes number)
+      by_left [] none here = tells_so after behind_it after_it now finishes (ended.Whole number) (λ more nothing. (
+        are_records more stream.Whole (ended.Whole number)
+            (at_end stream.Whole (laws.whole (length first.files) more_read.taken more_read.so.entries host.held.bytes more_read.so.handed here) more (all_there more nothing))
+            (ap ended.Whole (sym more_read.so.count)),
+        (sym more_read.so.count, (λ i. none i ++ all_there more nothing i)),
+      ))
+      by_left (byte ∷ bytes) some here = tells_so after behind_it after_it now finishes (ended.Cut (number + 1)) (λ more nothing. (
+        are_records more (Truncated (length more_read.so.entries + 1)) (ended.Cut (number + 1))
+            (at_end (Truncated (length more_read.so.entries + 1)) (laws.cut (length first.files) more_read.taken more_read.so.entries host.held.bytes more_read.so.handed here) more (all_there more nothing))
+            (ap ended.Cut (one_more (number + 1) refl ∙ ap (λ count. count + 1) (sym counted_entries))),
+        (one_more (number + 1) refl, stops more waits.now handled.Part waits.alone),
       ))
 
-  -- of a stream that ended
-  module _ (part : found ≡ handled.Part) where
-    waits : Waits host last written
-    unfolding host
-    waits = subst (HandlesAlone host last written) part arrives.handles
-
-    -- nothing follows
-    all_there : (more : List ℕ) → (is.is_ended ≡ true → more ≡ []) → more ≡ []
-    all_there more none = none (arrives.ended part)
-
-    at_end : (e : End) → records_of (length first.files) more_read.taken ≡ (more_read.so.entries, e) → (more : List ℕ) → more ≡ [] →
-        records_of (length first.files) (more_read.taken ++ more) ≡ (more_read.so.entries, e)
-    at_end e all more none = (λ i. records_of (length first.files) (more_read.taken ++ none i)) ∙ ap (records_of (length first.files)) (append-nil more_read.taken) ∙ all
-
-    by_left : (bytes : List ℕ) → host.held.bytes ≡ bytes → front all_kinds (length first.files) host.held.bytes ≡ part_of bytes →
-        TellsTaken texts before left intake is first lists a (ending_at bytes number)
-    by_left [] none here = tells_so (ended.Whole number) (λ more nothing. (
-      are_records more stream.Whole (ended.Whole number)
-          (at_end stream.Whole (laws.whole (length first.files) more_read.taken more_read.so.entries host.held.bytes more_read.so.handed here) more (all_there more nothing))
-          (ap ended.Whole (sym more_read.so.count)),
-      (sym more_read.so.count, (λ i. none i ++ all_there more nothing i)),
-    ))
-    by_left (byte ∷ bytes) some here = tells_so (ended.Cut (number + 1)) (λ more nothing. (
-      are_records more (Truncated (length more_read.so.entries + 1)) (ended.Cut (number + 1))
-          (at_end (Truncated (length more_read.so.entries + 1)) (laws.cut (length first.files) more_read.taken more_read.so.entries host.held.bytes more_read.so.handed here) more (all_there more nothing))
-          (ap ended.Cut (one_more (number + 1) refl ∙ ap (λ count. count + 1) (sym counted_entries))),
-      (one_more (number + 1) refl, stops more waits.now handled.Part waits.alone),
-    ))
-
-    pub ends_there : (ending : Ending) → ending ≡ ending_at last.held.bytes number → TellsTaken texts before left intake is first lists a ending
-    ends_there ending so =
-        let left_is : last.held.bytes ≡ host.held.bytes = ap (λ (it : Feeding). it.held.bytes) waits.same in
-        subst (TellsTaken texts before left intake is first lists a) (sym (so ∙ ap (λ bytes. ending_at bytes number) left_is))
-        (by_left host.held.bytes refl (ap (λ n. front all_kinds n host.held.bytes) (sym more_read.of_texts) ∙ waits.front))
+      pub ends_there : (ending : Ending) → ending ≡ ending_at last.held.bytes number → TellsTaken texts part before left intake is first after after_it ending
+      ends_there ending so =
+          let left_is : last.held.bytes ≡ host.held.bytes = ap (λ (it : Feeding). it.held.bytes) waits.same in
+          subst (TellsTaken texts part before left intake is first after after_it) (sym (so ∙ ap (λ bytes. ending_at bytes number) left_is))
+          (by_left host.held.bytes refl (ap (λ n. front all_kinds n host.held.bytes) (sym more_read.of_texts) ∙ waits.front))
 
 -- .. of a run that began so
-pub all_read : StepsAreARun → (sources : List (List ℕ)) (schedule : Schedule) (read : OfTexts) (pairs : List TablePair) (first : Feeding) (before between left : Option (List ℕ)) (old was is : Intake) (lists : Lists) (a : Account)
+pub all_read : StepsAreARun → (sources : List (List ℕ)) (schedule : Schedule) (part : Part) (read : OfTexts) (pairs : List TablePair) (first : Feeding) (before between left : Option (List ℕ)) (old was is : Intake) (lists : Lists) (a : Account)
     (ending : Ending) (bytes : ℕ) (digest : List ℕ) → HaveItems sources read.texts → AreRead read → AreAllCompiled sources pairs → BeginsWith sources schedule first →
-    TellsTaken (run_of read pairs) before between old was first lists a ending → TookAll between left was is → old.count ≡ 0 → Holds256 old.hasher [] → old.is_ended ≡ false →
-    bytes ≡ is.count → ((stream : List ℕ) → Holds256 is.hasher stream → digest ≡ sha256 stream) → TellsRead sources schedule before left lists a bytes digest ending
-all_read law sources schedule read pairs first before between left old was is lists a ending bytes digest items are_read compiled begins told all none_counted none_hashed unended sized hashed = record {
+    TellsTaken (run_of read pairs) part before between old was first lists a ending → TookAll between left was is → old.count ≡ 0 → Holds256 old.hasher [] → old.is_ended ≡ false →
+    bytes ≡ is.count → ((stream : List ℕ) → Holds256 is.hasher stream → digest ≡ sha256 stream) → TellsRead sources schedule part before left lists a bytes digest ending
+all_read law sources schedule part read pairs first before between left old was is lists a ending bytes digest items are_read compiled begins told all none_counted none_hashed unended sized hashed = record {
   stream = told.taken ++ all.taken;
   consumes = took.consumes;
   at_end = took.at_end (λ ended. absurd (false≢true (sym unended ∙ ended))) all.ended;
@@ -339,7 +335,7 @@ all_read law sources schedule read pairs first before between left old was is li
     have_run = law sources schedule (told.taken ++ all.taken) first tells.host tells.steps tells.rest ending begins tells.went tells.bytes tells.are_records;
   };
 } where
-  tells : Tells (run_of read pairs) (told.taken ++ all.taken) first lists a ending
+  tells : Tells (run_of read pairs) part (told.taken ++ all.taken) first lists a ending
   tells = told.tells all.taken (λ ended. (all.took.none_behind ended).0)
 
   took : Took before left old is (told.taken ++ all.taken)

@@ -265,8 +265,29 @@ pub record HasShown (texts : OfRun) (part : Part) (lists : Lists) (behind : Behi
 abbrev pub StandsSo : OfRun → Part → Phase → Lists → Behind → Account → ℕ → List Step → Type 0
 StandsSo texts part Before lists behind a start all = NoneBegins part all × HasTold texts lists behind a start [] all
 StandsSo texts part Inside lists behind a start all =
-    (shown : HasShown texts part lists behind a start all) × (shown.later ≡ [])
-StandsSo texts part After lists behind a start all = HasShown texts part lists behind a start all
+    (told : HasShown texts part lists behind a start all) × (told.later ≡ []) × (0 < length told.shown)
+StandsSo texts part After lists behind a start all = (told : HasShown texts part lists behind a start all) × (0 < length told.later)
+
+-- where it stands once it came to a phase, before the record that led to it: if that begins the part, nothing is told of the part yet
+abbrev pub CameTo : OfRun → Part → (phase next : Phase) → Lists → Behind → Account → ℕ → List Step → Type 0
+CameTo texts part Before Before lists behind a start all = NoneBegins part all × HasTold texts lists behind a start [] all
+CameTo texts part Before Inside lists behind a start all = NoneBegins part all × HasTold texts lists behind a start all []
+CameTo texts part Before After lists behind a start all = NoneBegins part all × HasTold texts lists behind a start all []
+CameTo texts part Inside next lists behind a start all = StandsSo texts part Inside lists behind a start all
+CameTo texts part After next lists behind a start all = StandsSo texts part After lists behind a start all
+
+-- a step with these bytes and packets, after which the host is this one, whatever it holds of its stream
+pub record IsStep (step : Step) (bytes : List ℕ) (host : Feeding) (written : List ℕ) : Type 0 where
+  pub bytes_are : step.bytes ≡ bytes
+  pub host_is : step.host.host ≡ host.host
+  pub written_is : step.written ≡ written
+
+-- how a run stands with one more record, which has this number
+abbrev pub Adds : OfRun → Part → (phase next : Phase) → (lists after : Lists) → (behind behind_it : Behind) → (a after_it : Account) → (start now number : ℕ) →
+    (bytes : List ℕ) → Feeding → (written : List ℕ) → Type 0
+Adds texts part phase next lists after behind behind_it a after_it start now number bytes host written =
+    (step : Step) (steps : List Step) → IsStep step bytes host written → number ≡ length steps + 1 → StandsSo texts part phase lists behind a start steps →
+    StandsSo texts part next after behind_it after_it now (steps ++ step ∷ [])
 
 -- the host can't handle the front of these bytes
 pub record StopsAt (host : Feeding) (rest : List ℕ) (handled : Handled) : Type 0 where

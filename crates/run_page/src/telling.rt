@@ -9,6 +9,7 @@ ghost use Rattle.lc_model.specs.Host.Schedule.{Schedule as Plan};
 ghost use Rattle.rpn_compiler.specs.declared.files.TablePair.{TablePair};
 ghost use Rattle.rpn_compiler.specs.TextParts.{AreTextsOf};
 ghost use Rattle.run_stepper.specs.Force.{text_in_force};
+ghost use Rattle.run_stepper.specs.Steps.{Step};
 ghost use Rattle.run_stepper.specs.Stepping.{BeginsWith, IsAtRest, engine_among, host_in, written_by};
 ghost use Rattle.run_summary.specs.Account.{account_of, begun_anew, is_asked, shown_if};
 ghost use Rattle.run_summary.specs.Brought.{brings};
@@ -17,7 +18,7 @@ ghost use Rattle.run_summary.specs.declared.texts.Field.{Field};
 ghost use Rattle.run_summary.specs.Run as run;
 ghost use Rattle.run_summary.specs.Run.{AreRead, OfTexts};
 ghost use Rattle.run_summary.specs.Texts.{HaveItems};
-ghost use Rattle.run_page.specs.Model.{HasShown, HasTaken, HasTold, IsKept, IsNew, KeepsStands, ListsTell, SaidLast, StandsSo, TellsRead, TellsTaken, ending_at, led_to, nothing_told, place_of, run_of, stands_of, stood_more, types_of, values_more};
+ghost use Rattle.run_page.specs.Model.{Adds, CameTo, HasShown, HasTaken, HasTold, IsKept, IsNew, KeepsStands, ListsTell, OfRun, SaidLast, StandsSo, TellsRead, TellsTaken, ending_at, led_to, nothing_told, place_of, run_of, stands_of, stood_more, types_of, values_more};
 ghost use Rattle.run_page.specs.Times.{ticks_of};
 
 use crate::arriving::handle_next;
@@ -272,16 +273,27 @@ impl<'a> Telling<'a> {
         self.account.begin_anew()
     }
 
-    /// Comes to this phase, before the record with this time, after this number of records.
-    fn come_to(&mut self, phase: Phase, ticks: u64, records: u64) -> Result<(), AllocError> {
-        if self.phase.is_before() && !phase.is_before() {
-            self.begin_anew()?;
-            self.begun = Begun {
-                records,
-                packets: self.account.figures.packets,
-                start: if phase.is_after() { 0 } else { ticks },
-            };
+    /// Comes to this phase, before the record with this time, after this number of records. The only error is a lack of memory.
+    fn come_to(&mut self, phase: Phase, ticks: u64, records: u64) -> Result<(), AllocError>
+        ensures part { self.new.part ≡ self.old.part }
+        ensures start { self.new.clock.start ≡ self.old.clock.start }
+        ensures phase { OnOk result (self.new.phase ≡ phase) }
+        ensures told { (texts : OfRun) (steps : List Step) →
+            StandsSo texts self.old.part self.old.phase self.old.lists self.old.behind
+            (account_of self.old.account) self.old.clock.start steps →
+            OnOk result (CameTo texts self.old.part self.old.phase phase self.new.lists
+            self.new.behind (account_of self.new.account) self.new.clock.start steps) }
+    {
+        if !self.phase.is_before() || phase.is_before() {
+            self.phase = phase;
+            return Ok(());
         }
+        self.begin_anew()?;
+        self.begun = Begun {
+            records,
+            packets: self.account.figures.packets,
+            start: if phase.is_after() { 0 } else { ticks },
+        };
         self.phase = phase;
         Ok(())
     }
@@ -299,15 +311,11 @@ impl<'a> Telling<'a> {
         requires start { self.old.clock.start < 2 ^ 48 }
         ensures part { self.new.part ≡ self.old.part }
         ensures small { self.new.clock.start < 2 ^ 48 }
-        ensures stands { (read : OfTexts) (steps : List Step) → number ≡ length steps + 1 →
-            StandsSo (run_of read pairs.now) self.old.part self.old.phase self.old.lists self.old.behind
-            (account_of self.old.account) self.old.clock.start steps → OnOk result
-            (StandsSo (run_of read pairs.now) self.new.part self.new.phase self.new.lists self.new.behind
-            (account_of self.new.account) self.new.clock.start (steps ++ (record {
-              bytes = record.now;
-              host = host_in stepping.now;
-              written = written_by stepping.now;
-            }) ∷ [])) }
+        ensures stands { (read : OfTexts) → OnOk result
+            (Adds (run_of read pairs.now) self.old.part self.old.phase self.new.phase self.old.lists
+            self.new.lists self.old.behind self.new.behind (account_of self.old.account)
+            (account_of self.new.account) self.old.clock.start self.new.clock.start number
+            record.now (host_in stepping.now) (written_by stepping.now)) }
     {
         let ticks = ticks_in(record);
         let phase = self.part.phase_after(self.phase, ticks);
