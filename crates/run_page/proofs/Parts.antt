@@ -198,9 +198,9 @@ taken_by : (b c : Bool) (texts : OfRun) (part : Part) (phase : Phase) (lists aft
     is_from part.from (ticks_of step.bytes) ≡ b → is_until part.until (ticks_of step.bytes) ≡ c → is_after (phase_by phase b c) ≡ false →
     CameTo texts part phase (phase_by phase b c) lists behind a start all → Takes texts lists after behind behind_it a after_it start now (length all + 1) step →
     StandsSo texts part (phase_by phase b c) after behind_it after_it now (all ++ step ∷ [])
-taken_by false c texts part Before lists after behind behind_it a after_it start now all step from until open came takes =
+taken_by false c texts part Before lists after behind behind_it a after_it start now all step from until ongoing came takes =
     (none_begins_more part all step came.0 from, told_next texts lists after behind behind_it a after_it start now [] all step takes came.1)
-taken_by true false texts part Before lists after behind behind_it a after_it start now all step from until open came takes =
+taken_by true false texts part Before lists after behind behind_it a after_it start now all step from until ongoing came takes =
     let same : length all ≡ length (all ++ []) = sym (ap length (append-nil all)) in (
       record {
         earlier = all;
@@ -214,8 +214,8 @@ taken_by true false texts part Before lists after behind behind_it a after_it st
       refl,
       omega arith,
     )
-taken_by true true texts part Before lists after behind behind_it a after_it start now all step from until open came takes = absurd (cc open)
-taken_by b false texts part Inside lists after behind behind_it a after_it start now all step from until open came takes =
+taken_by true true texts part Before lists after behind behind_it a after_it start now all step from until ongoing came takes = absurd (cc ongoing)
+taken_by b false texts part Inside lists after behind behind_it a after_it start now all step from until ongoing came takes =
     let so : HasShown texts part lists behind a start all = came.0 in
     let whole : so.earlier ++ so.shown ≡ all =
     sym (ap (λ later. so.earlier ++ (so.shown ++ later)) came.1 ∙ ap (λ shown. so.earlier ++ shown) (append-nil so.shown)) ∙ so.are_all in
@@ -237,8 +237,8 @@ taken_by b false texts part Inside lists after behind behind_it a after_it start
       refl,
       omega (arith, length-append so.shown (step ∷ [])),
     )
-taken_by b true texts part Inside lists after behind behind_it a after_it start now all step from until open came takes = absurd (cc open)
-taken_by b c texts part After lists after behind behind_it a after_it start now all step from until open came takes = absurd (cc open)
+taken_by b true texts part Inside lists after behind behind_it a after_it start now all step from until ongoing came takes = absurd (cc ongoing)
+taken_by b c texts part After lists after behind behind_it a after_it start now all step from until ongoing came takes = absurd (cc ongoing)
 
 -- .. that comes after it
 passed_by : (b c : Bool) (texts : OfRun) (part : Part) (phase : Phase) (lists : Lists) (behind : Behind) (a : Account) (start : ℕ) (all : List Step) (step : Step) →
@@ -289,11 +289,11 @@ passed_by b c texts part After lists behind a start all step from until over cam
 pub stands_taken : (texts : OfRun) (part : Part) (phase next : Phase) (lists after : Lists) (behind behind_it : Behind) (a after_it : Account) (start now : ℕ) (all : List Step) (step : Step) →
     next ≡ phase_after part phase (ticks_of step.bytes) → is_after next ≡ false → CameTo texts part phase next lists behind a start all →
     Takes texts lists after behind behind_it a after_it start now (length all + 1) step → StandsSo texts part next after behind_it after_it now (all ++ step ∷ [])
-stands_taken texts part phase next lists after behind behind_it a after_it start now all step is open came takes =
+stands_taken texts part phase next lists after behind behind_it a after_it start now all step is ongoing came takes =
     let by : next ≡ phase_by phase (is_from part.from (ticks_of step.bytes)) (is_until part.until (ticks_of step.bytes)) = is ∙ phases phase in
     subst (λ (p : Phase). StandsSo texts part p after behind_it after_it now (all ++ step ∷ [])) (sym by)
     (taken_by (is_from part.from (ticks_of step.bytes)) (is_until part.until (ticks_of step.bytes)) texts part phase lists after behind behind_it a after_it start now all step refl refl
-    (ap is_after (sym by) ∙ open) (subst (λ (p : Phase). CameTo texts part phase p lists behind a start all) by came) takes)
+    (ap is_after (sym by) ∙ ongoing) (subst (λ (p : Phase). CameTo texts part phase p lists behind a start all) by came) takes)
   where
     phases : (p : Phase) → phase_after part p (ticks_of step.bytes) ≡ phase_by p (is_from part.from (ticks_of step.bytes)) (is_until part.until (ticks_of step.bytes))
     phases Before = refl
