@@ -42,7 +42,7 @@ const TEN_RECORDS: ResultRow = (
             1,
         ),
         (
-            r#"{"packet":5,"record":7,"time":393216,"rule":0,"text":0,"sequence":7,"count":0,"event":6,"counted":2,"samples":[[5,262144,[[2399,4,196608,"true"]]],[7,393216,[[2399,6,327680,"true"]]]]}"#,
+            r#"{"packet":5,"record":7,"time":393216,"rule":0,"text":0,"sequence":7,"count":0,"event":6,"held":null,"counted":2,"samples":[[5,262144,[[2399,4,196608,"true"]]],[7,393216,[[2399,6,327680,"true"]]]]}"#,
             1,
         ),
         (
@@ -130,11 +130,11 @@ const BOTH: ResultRow = (
     &[BEGIN, FAIL, FAIL, PASS, ASK],
     &[
         (
-            r#""record":7,"time":393216,"rule":0,"text":0,"sequence":7,"count":0,"event":6,"counted":2,"#,
+            r#""record":7,"time":393216,"rule":0,"text":0,"sequence":7,"count":0,"event":6,"held":null,"counted":2,"#,
             1,
         ),
         (
-            r#""record":7,"time":393216,"rule":1,"text":0,"sequence":8,"count":1,"event":8,"counted":2,"#,
+            r#""record":7,"time":393216,"rule":1,"text":0,"sequence":8,"count":1,"event":8,"held":null,"counted":2,"#,
             1,
         ),
         (r#"[[0,"\u003c","0x960"]]"#, 1),
@@ -360,7 +360,7 @@ fn a_failed_read_is_told_and_nothing_written(rt: HostRuntime) {
 /// answered; else it is whole.
 #[test]
 fn want_of_memory_is_answered(rt: HostRuntime) {
-    if let Some(error) = answer_within(&rt, &mut [0; 70_000]) {
+    if let Some(error) = answer_within(&rt, &mut [0; 100_000]) {
         same(&rt, "the answer", error, ReportError::Memory);
     }
 }
