@@ -10,29 +10,27 @@ use Rattle.lc_model.specs.Condition.{And, Condition, Join, Not}
 use Rattle.lc_model.specs.Tables.Equation.{mentions}
 use Rattle.rule_analysis.specs.declared.fields.Field.{Field}
 use Rattle.rule_analysis.specs.Fields.{AreFieldsOf, HasField, field_number}
-use Rattle.lc_model.specs.declared.truth.Truth.TheVariants.{True}
+use Rattle.lc_model.specs.declared.truth.Truth.TheVariants.{False, True}
 use Rattle.lc_model.specs.LimitChecker.Watch.{combined, judgement, truth_by}
-use Rattle.rule_analysis.specs.Judgement.{Place, place_of, value_by, found_by, NeverFails, HoldsForSome}
+use Rattle.rule_analysis.specs.Judgement.{Place, place_of, value_by, found_by, NeverHolds, HoldsForSome}
 use Rattle.rule_analysis.specs.declared.open.Open.{Open}
 use Rattle.rule_analysis.specs.declared.walk.Outcome.{Outcome}
 use Rattle.rule_analysis.specs.declared.walk.Outcome.TheVariants.{Found, Excluded, Spent}
-use Rattle.rule_analysis.specs.Open.{Has, left_of, truth_with, AreShownApart, IsShownTrue}
+use Rattle.rule_analysis.specs.Open.{Has, left_of}
 use Rattle.rule_analysis.specs.Search.{found_so_far, found_everywhere, GoesOnFrom, IsNever, IsWalked, AreReady, AreRepresented}
 use Rattle.rule_analysis.specs.Steps.{IsWithin}
 use Rattle.rule_analysis.specs.Findings.{HoldsWith, IsFoundBits, IsSought}
 use Rattle.rule_analysis.proofs.Each.{each}
 use Rattle.rule_analysis.proofs.FieldLaws.{place_numbered, named, at_place, number_of_place}
-use Rattle.rule_analysis.proofs.Known.{never_holds_never_fails}
-use Rattle.rule_analysis.proofs.OpenLaws.{by_numbers, of_one, is_mentioned}
+use Rattle.rule_analysis.proofs.OpenLaws.{of_one, is_mentioned}
 use Rattle.rule_analysis.proofs.StepLaws.{few_for}
 use Rattle.rule_analysis.proofs.WalkLaws.{by_mentions, true_stays, never_holds}
 
 abbrev nowhere : Place
 nowhere = record { kind = U8; mid = 0; offset = 0; mask = 0 }
 
-pub never_of : (fields : List Field) (c : Condition) → AllByRecursion (λ t. HasField fields t) (mentions c) → IsNever (field_number fields) c → NeverFails c
-never_of fields c has never =
-    never_holds_never_fails c (never_holds (field_number fields) (place_numbered fields nowhere) c (each (mentions c) (named fields nowhere) has) never)
+pub never_of : (fields : List Field) (c : Condition) → AllByRecursion (λ t. HasField fields t) (mentions c) → IsNever (field_number fields) c → NeverHolds c
+never_of fields c has never = never_holds (field_number fields) (place_numbered fields nowhere) c (each (mentions c) (named fields nowhere) has) never
 
 -- what holds of the terms, the fields and the rows that were made holds of those that are handed on
 pub handed_on : (terms others : List Term) (fields again : List Field) (rows seen : List (Vec ℕ Global)) → terms ≡ others → fields ≡ again → rows ≡ seen →
@@ -104,20 +102,6 @@ held c fields again terms bits same are exact found = record {
 
 -- ---- bits that were tried
 
--- a condition, with the numbers of its fields
-abbrev pub IsNumbered : List Field → Open → Type 0
-IsNumbered fields o = (at : ℕ) (t : Term) → Has o at t → field_number fields t ≡ at
-
-with_numbers : (fields : List Field) (c : Condition) (o : Open) (bits : List ℕ) → left_of o ≡ c → IsNumbered fields o →
-    truth_by (found_so_far (field_number fields) bits) c ≡ truth_with bits o
-with_numbers fields c o bits same numbered =
-    sym (by_numbers (field_number fields) bits o numbered ∙ ap (truth_by (found_so_far (field_number fields) bits)) same)
-
-pub shown_true : (fields : List Field) (c : Condition) (o : Open) → left_of o ≡ c → IsNumbered fields o → IsShownTrue o → HoldsForSome c
-shown_true fields c o same numbered shown = some_of fields c shown.0 (with_numbers fields c o shown.0 same numbered ∙ shown.1)
-
-pub shown_apart : (fields : List Field) (a b : Condition) (one other : Open) → left_of one ≡ a → IsNumbered fields one → left_of other ≡ b → IsNumbered fields other →
-    AreShownApart one other → HoldsForSome (Join And a (Not b))
-shown_apart fields a b one other same numbered same_other numbered_other shown =
-    some_of fields (Join And a (Not b)) shown.0 (ap₂ (λ x y. combined And x (truth_not y))
-    (with_numbers fields a one shown.0 same numbered ∙ shown.1.0) (with_numbers fields b other shown.0 same_other numbered_other ∙ shown.1.1))
+pub apart_with : (fields : List Field) (a b : Condition) (bits : List ℕ) → truth_by (found_so_far (field_number fields) bits) a ≡ True →
+    truth_by (found_so_far (field_number fields) bits) b ≡ False → HoldsForSome (Join And a (Not b))
+apart_with fields a b bits fails passes = some_of fields (Join And a (Not b)) bits (ap₂ (λ x y. combined And x (truth_not y)) fails passes)

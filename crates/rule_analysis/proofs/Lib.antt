@@ -14,6 +14,7 @@ pub mod FieldLists
 pub mod ClassLaws
 pub mod StepLaws
 pub mod PairLaws
+pub mod AlikeLaws
 pub mod SpareLaws
 pub mod OrderLaws
 pub mod SeenLaws

@@ -1,14 +1,12 @@
 -- What is left of a condition, at each part of a walk.
-use Rattle.std.proofs.Common.{◌≡◌, ℕ, zero, suc, ◌≤◌, ◌<◌, List, [], ◌∷◌, ◌++◌, length, slice_get, refl, ap, ap₂, sym, ◌∙◌, subst, arith, Some, inl, inr}
+use Rattle.std.proofs.Common.{◌≡◌, ℕ, zero, suc, ◌≤◌, ◌<◌, List, [], ◌∷◌, ◌++◌, length, slice_get, refl, ap, sym, ◌∙◌, subst, arith, Some, inl, inr}
 use Rattle.std.specs.Prelude.{◌≢◌, Contains}
 use Rattle.std.specs.List.{AllByRecursion}
 use Rattle.std.proofs.lemmas.List.Elements.{Contains-append_left, Contains-append_right}
 use Rattle.lc_model.specs.declared.truth.Truth.{Truth}
 use Rattle.lc_model.specs.declared.truth.Truth.TheVariants.{True}
 use Rattle.lc_model.specs.declared.field.Term.{Term}
-use Rattle.lc_model.specs.Truth.{truth_not}
-use Rattle.lc_model.specs.Condition.{And, Or, Xor}
-use Rattle.lc_model.specs.LimitChecker.Watch.{combined, truth_by}
+use Rattle.lc_model.specs.LimitChecker.Watch.{truth_by}
 use Rattle.lc_model.specs.Tables.Equation.{mentions}
 use Rattle.rule_analysis.specs.declared.open.Open.{Open}
 use Rattle.rule_analysis.specs.declared.open.Open.TheVariants as tree
@@ -17,7 +15,7 @@ use Rattle.rule_analysis.specs.declared.open.Left.TheVariants as left
 use Rattle.rule_analysis.specs.declared.walk.Outcome.{Outcome}
 use Rattle.rule_analysis.specs.declared.walk.Outcome.TheVariants.{Found, Excluded, Spent}
 use Rattle.rule_analysis.specs.Classes.{truth_there, SaysTheSame}
-use Rattle.rule_analysis.specs.Open.{Has, HasBits, HasLeft, left_of, truth_left, truth_with}
+use Rattle.rule_analysis.specs.Open.{Has, HasBits, HasLeft, left_of, truth_left}
 use Rattle.rule_analysis.specs.Search.{found_so_far, found_everywhere, IsNever, IsNeverWith, Represent, IsWalked, IsReady, AreReady, IsLeftWith, Extends}
 use Rattle.rule_analysis.proofs.Each.{both}
 use Rattle.rule_analysis.proofs.StepLaws.{next_size}
@@ -50,18 +48,6 @@ is_mentioned (tree.Or' p a b) at t (inl has) = Contains-append_left (mentions (l
 is_mentioned (tree.Or' p a b) at t (inr has) = Contains-append_right (mentions (left_of a)) (mentions (left_of b)) t (is_mentioned b at t has)
 is_mentioned (tree.Xor' p a b) at t (inl has) = Contains-append_left (mentions (left_of a)) (mentions (left_of b)) t (is_mentioned a at t has)
 is_mentioned (tree.Xor' p a b) at t (inr has) = Contains-append_right (mentions (left_of a)) (mentions (left_of b)) t (is_mentioned b at t has)
-
--- a condition's result by the numbers that its comparisons have is that by their fields
-pub by_numbers : (number : Term → ℕ) (chosen : List ℕ) (o : Open) → ((at : ℕ) (t : Term) → Has o at t → number t ≡ at) →
-    truth_with chosen o ≡ truth_by (found_so_far number chosen) (left_of o)
-by_numbers number chosen (tree.Compare field t) numbered = ap (λ at. truth_there t (slice_get chosen at)) (sym (numbered field t (refl, refl)))
-by_numbers number chosen (tree.Not' p o) numbered = ap truth_not (by_numbers number chosen o numbered)
-by_numbers number chosen (tree.And' p a b) numbered =
-    ap₂ (combined And) (by_numbers number chosen a (λ at t has. numbered at t (inl has))) (by_numbers number chosen b (λ at t has. numbered at t (inr has)))
-by_numbers number chosen (tree.Or' p a b) numbered =
-    ap₂ (combined Or) (by_numbers number chosen a (λ at t has. numbered at t (inl has))) (by_numbers number chosen b (λ at t has. numbered at t (inr has)))
-by_numbers number chosen (tree.Xor' p a b) numbered =
-    ap₂ (combined Xor) (by_numbers number chosen a (λ at t has. numbered at t (inl has))) (by_numbers number chosen b (λ at t has. numbered at t (inr has)))
 
 -- each condition has a comparison
 pub some_comparison : (o : Open) → (at : ℕ) × (t : Term) × Has o at t

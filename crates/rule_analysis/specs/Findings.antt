@@ -8,8 +8,9 @@ use Rattle.lc_model.specs.declared.truth.Truth.TheVariants.{True}
 use Rattle.lc_model.specs.Field.{value_of}
 use Rattle.lc_model.specs.Packet.{stream_fault, message_id, is_telemetry_mid}
 use Rattle.lc_model.specs.declared.field.Term.{Term}
-use Rattle.lc_model.specs.Condition.{And, Condition, Watch, Not, Join}
+use Rattle.lc_model.specs.Condition.{And, Condition, Watch, Not, Join, condition_of}
 use Rattle.lc_model.specs.Rule.{NamedRule}
+use Rattle.lc_model.specs.declared.rule.Rule.{Rule}
 use Rattle.lc_model.specs.Tables.Equation.{mentions}
 use Rattle.lc_model.specs.LimitChecker.Watch.{truth_by, truth_of}
 use Rattle.rule_analysis.specs.declared.deciding.Decision.{Decision}
@@ -26,7 +27,7 @@ use Rattle.rule_analysis.specs.declared.finding.RuleJudgement.{RuleJudgement}
 use Rattle.rule_analysis.specs.declared.finding.Relation.{Relation}
 use Rattle.rule_analysis.specs.declared.finding.Relation.TheVariants as relation
 use Rattle.rule_analysis.specs.declared.finding.PairJudgement.{PairJudgement}
-use Rattle.rule_analysis.specs.Judgement.{NeverFails, HoldsForSome, FailsWherever}
+use Rattle.rule_analysis.specs.Judgement.{AreAlike, NeverFails, NeverHolds, HoldsForSome, FailsWherever}
 use Rattle.rule_analysis.specs.Steps.{AreFewFor, AreFewByNames}
 use Rattle.rule_analysis.specs.declared.fields.Field.{Field}
 use Rattle.rule_analysis.specs.Fields.{AreFieldsOf, field_number, read_one_field}
@@ -52,12 +53,12 @@ pub record IsFoundBits (c : Condition) (fields : List Field) (bits : List ℕ) :
 -- what is found of them: these bits, or none make it true, or this number of steps may be too few
 abbrev pub IsSought : Condition → List Field → ℕ → Outcome → List ℕ → Type 0
 IsSought c fields steps outcome.Found bits = IsFoundBits c fields bits
-IsSought c fields steps outcome.Excluded bits = NeverFails c
+IsSought c fields steps outcome.Excluded bits = NeverHolds c
 IsSought c fields steps outcome.Spent bits = AreFewByNames c steps
 
 -- no values of its fields make the condition true, or some do, or this number of steps may be too few
 abbrev pub IsDecided : Condition → ℕ → Decision → Type 0
-IsDecided c steps decision.Never = NeverFails c
+IsDecided c steps decision.Never = NeverHolds c
 IsDecided c steps (decision.Holds fields bits) = HoldsWith c fields.items bits.items
 IsDecided c steps decision.Spent = AreFewByNames c steps
 
@@ -138,6 +139,15 @@ pub record IsPair (rules : List NamedRule) (p : PairJudgement) : Type 0 where
   pub second : NamedRule
   pub second_is : slice_get rules p.second ≡ Some second
   pub related : IsRelated first.action.condition second.action.condition p.relation
+
+-- the first of these rules is alike the one at this place
+abbrev pub IsFirst : List Rule → ℕ → ℕ → Type 0
+IsFirst rules first at =
+    (a b : Rule) × (slice_get rules first ≡ Some a) × (slice_get rules at ≡ Some b) × AreAlike (condition_of a.cond) (condition_of b.cond)
+
+-- each number is of a rule that is alike the rule at its place
+abbrev pub AreFirsts : List Rule → List ℕ → Type 0
+AreFirsts rules firsts = (at first : ℕ) → slice_get firsts at ≡ Some first → IsFirst rules first at
 
 -- ---- which pairs are told
 

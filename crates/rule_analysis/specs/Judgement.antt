@@ -73,6 +73,10 @@ NeverHolds c = (readings : Readings) → truth_by (found_by readings) c ≢ True
 abbrev pub HoldsForSome : Condition → Type 0
 HoldsForSome c = (readings : Readings) × (truth_by (found_by readings) c ≡ True)
 
+-- for all numbers of the fields they have the same result
+abbrev pub AreAlike : Condition → Condition → Type 0
+AreAlike a b = (readings : Readings) → truth_by (found_by readings) a ≡ truth_by (found_by readings) b
+
 -- ---- more is known
 
 -- what is known stays

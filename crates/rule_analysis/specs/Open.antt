@@ -1,11 +1,10 @@
 -- What is left of a condition when some of its fields have bits. This project's own.
-use Rattle.std.specs.Prelude.{◌≡◌, ◌⊎◌, ℕ, List, Some, if◌then◌else◌, slice_get}
+use Rattle.std.specs.Prelude.{◌≡◌, ◌⊎◌, ℕ, Some, if◌then◌else◌}
 use Rattle.lc_model.specs.declared.truth.Truth.{Truth}
 use Rattle.lc_model.specs.declared.truth.Truth.TheVariants.{True, False}
 use Rattle.lc_model.specs.declared.field.Term.{Term}
 use Rattle.lc_model.specs.Condition.{And, Or, Xor, Condition, Watch, Not, Join}
-use Rattle.lc_model.specs.Truth.{truth_not}
-use Rattle.lc_model.specs.LimitChecker.Watch.{combined, truth_by}
+use Rattle.lc_model.specs.LimitChecker.Watch.{truth_by}
 use Rattle.rule_analysis.specs.Classes.{truth_there}
 use Rattle.rule_analysis.specs.declared.open.Open.{Open}
 use Rattle.rule_analysis.specs.declared.open.Open.TheVariants as tree
@@ -38,14 +37,6 @@ abbrev pub truth_left : (Term → Truth) → Left → Truth
 truth_left found (left.Known value) = if value then True else False
 truth_left found (left.Open o) = truth_by found (left_of o)
 
--- the result of a condition if the first fields have these bits and the others are stale
-abbrev pub truth_with : List ℕ → Open → Truth
-truth_with chosen (tree.Compare field t) = truth_there t (slice_get chosen field)
-truth_with chosen (tree.Not' p o) = truth_not (truth_with chosen o)
-truth_with chosen (tree.And' p a b) = combined And (truth_with chosen a) (truth_with chosen b)
-truth_with chosen (tree.Or' p a b) = combined Or (truth_with chosen a) (truth_with chosen b)
-truth_with chosen (tree.Xor' p a b) = combined Xor (truth_with chosen a) (truth_with chosen b)
-
 -- the comparisons of a condition are among those of one other, or of two others
 abbrev pub AreOf : Open → Open → Type 0
 AreOf o made = (at : ℕ) (t : Term) → Has made at t → Has o at t
@@ -63,15 +54,3 @@ AreOfBothLeft a b made = (at : ℕ) (t : Term) → HasLeft made at t → HasLeft
 -- the field of this number has these bits
 abbrev pub HasBits : (Term → Truth) → ℕ → ℕ → Open → Type 0
 HasBits found field bits o = (t : Term) → Has o field t → found t ≡ truth_there t (Some bits)
-
--- with these bits the first condition is true and the second one false
-abbrev pub AreApartWith : List ℕ → Open → Open → Type 0
-AreApartWith bits a b = (truth_with bits a ≡ True) × (truth_with bits b ≡ False)
-
--- some bits do that
-abbrev pub AreShownApart : Open → Open → Type 0
-AreShownApart a b = (bits : List ℕ) × AreApartWith bits a b
-
--- some make the condition true
-abbrev pub IsShownTrue : Open → Type 0
-IsShownTrue o = (bits : List ℕ) × (truth_with bits o ≡ True)

@@ -1,6 +1,7 @@
 //! Judges rules before any packet comes: whether they can fail and pass, and how they are related.
 #![tactic(auto)]
 
+mod alike;
 mod bits;
 mod boundary;
 mod chance;
@@ -18,6 +19,7 @@ mod outcomes;
 mod packets;
 mod pairs;
 mod reach;
+mod samples;
 mod seen;
 mod spare;
 mod thresholds;

@@ -7,12 +7,12 @@ ghost use Rattle.lc_model.specs.Condition.{And, Or, Xor, condition_of};
 ghost use Rattle.lc_model.specs.Truth.{truth_not};
 ghost use Rattle.lc_model.specs.LimitChecker.Watch.{combined, truth_by};
 ghost use Rattle.rule_analysis.specs.Fields.{field_number};
-ghost use Rattle.rule_analysis.specs.Open.{AreOf, AreOfBoth, AreOfBothLeft, AreOfLeft, Has, HasBits, HasLeft, left_of, truth_left, truth_with};
+ghost use Rattle.rule_analysis.specs.Open.{AreOf, AreOfBoth, AreOfBothLeft, AreOfLeft, Has, HasBits, HasLeft, left_of, truth_left};
 
 use crate::conditions::are_one;
 use crate::fields::{Field, number};
-use crate::outcomes::{holds, outcome};
-use lc_model::{Cond, Term, Truth};
+use crate::outcomes::holds;
+use lc_model::{Cond, Term};
 use std::alloc::{AllocError, Global};
 
 /// A condition over fields that have no bits yet.
@@ -215,28 +215,17 @@ pub(crate) fn settle(
     }
 }
 
-/// The truth of a condition if the first fields have these bits and the others are stale.
-pub(crate) fn evaluate_open(tree: &Open, chosen: &[u32]) -> Truth
-    ensures { result ≡ truth_with chosen.now tree.now }
-{
+/// Whether a condition is true if its fields have these bits; without bits for its field a comparison is false.
+pub(crate) fn is_true(tree: &Open, bits: &[u32]) -> bool {
     match tree {
-        Open::Compare { field, term } => match chosen.get(*field) {
-            None => Truth::Stale,
-            Some(bits) => outcome(term, *bits),
+        Open::Compare { field, term } => match bits.get(*field) {
+            None => false,
+            Some(bits) => holds(term, *bits),
         },
-        Open::Not(operand) => evaluate_open(operand, chosen).not(),
-        Open::And(operands) => {
-            let first = evaluate_open(&operands.0, chosen);
-            first.and(evaluate_open(&operands.1, chosen))
-        }
-        Open::Or(operands) => {
-            let first = evaluate_open(&operands.0, chosen);
-            first.or(evaluate_open(&operands.1, chosen))
-        }
-        Open::Xor(operands) => {
-            let first = evaluate_open(&operands.0, chosen);
-            first.xor(evaluate_open(&operands.1, chosen))
-        }
+        Open::Not(operand) => !is_true(operand, bits),
+        Open::And(operands) => is_true(&operands.0, bits) && is_true(&operands.1, bits),
+        Open::Or(operands) => is_true(&operands.0, bits) || is_true(&operands.1, bits),
+        Open::Xor(operands) => is_true(&operands.0, bits) != is_true(&operands.1, bits),
     }
 }
 

@@ -6,22 +6,23 @@ ghost use Rattle.lc_model.specs.Condition.{And, Join, Not, Xor, condition_of};
 ghost use Rattle.lc_model.specs.Rule.{rule_of, rules_of};
 ghost use Rattle.rule_analysis.specs.declared.finding.PairJudgement.{PairJudgement as Pair};
 ghost use Rattle.rule_analysis.specs.Fields.{read_one_field};
-ghost use Rattle.rule_analysis.specs.Findings.{AreBefore, AreInOrder, AreSettled, IsPair, IsRelated, IsRelationSettled, IsSettledAt, MayDiffer, are_near, least_pair_steps};
-ghost use Rattle.rule_analysis.specs.Judgement.{FailsWherever, HoldsForSome, NeverFails};
+ghost use Rattle.rule_analysis.specs.Findings.{AreBefore, AreFirsts, AreInOrder, AreSettled, IsPair, IsRelated, IsRelationSettled, IsSettledAt, MayDiffer, are_near, least_pair_steps};
+ghost use Rattle.rule_analysis.specs.Judgement.{AreAlike, FailsWherever, HoldsForSome, NeverFails};
 ghost use Rattle.rule_analysis.specs.Steps.{AreFewByNames};
 
-use crate::chance::{are_shown_apart, tell_apart};
-use crate::conditions::{are_equal, but_not, copy_condition};
+use crate::alike::{Difference, PAIR_STEPS, are_known_alike, firsts_of, seek_difference};
+use crate::conditions::{are_equal, but_not};
 use crate::counting::{count_one, count_some};
-use crate::deciding::{Decision, decide, holds_for_some, is_never};
+use crate::deciding::holds_for_some;
 use crate::fields::{field_of, is_read};
 use crate::finding::{PairJudgement, PairJudgements, Relation};
 use crate::judging::comparisons_of;
+use crate::samples::{Samples, samples_of};
 use lc_model::{Cond, Rule, Rules, Term};
 use std::alloc::{AllocError, Global};
 
-/// The most steps for one question about two rules.
-const PAIR_STEPS: u32 = 1 << 14;
+/// How many samples are sought with which a rule fails, and how many with which it passes.
+const PAIR_SAMPLES: usize = 4;
 
 /// The steps that each question has even after `TEXT_STEPS` is used up: enough for eight different comparisons.
 const LEAST_PAIR_STEPS: u32 = 1 << 8;
@@ -68,70 +69,29 @@ fn are_apart(
     ask(alloc, &apart, LEAST_PAIR_STEPS, steps)
 }
 
-/// What is known of where two conditions differ.
-#[derive(Clone, Copy)]
-struct Difference {
-    /// No values make one of them true and the other one false.
-    is_none: bool,
-    /// Some values make the first one true and the second one false.
-    is_first: bool,
-    /// Some values make the second one true and the first one false.
-    is_second: bool,
-}
-
-/// Looks for values that make one of the conditions true and the other one false, in at most `PAIR_STEPS` of the steps.
-fn seek_difference(
-    alloc: Global,
-    first: &Cond,
-    second: &Cond,
-    steps: &mut u32,
-) -> Result<Difference, AllocError>
-    ensures none { IfOk result (λ found. IsTrue found.is_none →
-        NeverFails (Join Xor (condition_of first.now) (condition_of second.now))) }
-    ensures first { IfOk result (λ found. IsTrue found.is_first →
-        HoldsForSome (Join And (condition_of first.now) (Not (condition_of second.now)))) }
-    ensures second { IfOk result (λ found. IsTrue found.is_second →
-        HoldsForSome (Join And (condition_of second.now) (Not (condition_of first.now)))) }
-{
-    let one = copy_condition(alloc, first)?;
-    let other = copy_condition(alloc, second)?;
-    let differ = Cond::Xor(Box::new(alloc, (one, other))?);
-    let given = PAIR_STEPS.min(*steps);
-    let mut left = given;
-    let decision = decide(alloc, &differ, &mut left)?;
-    *steps -= given.saturating_sub(left).min(*steps);
-    let (is_first, is_second) = match &decision {
-        Decision::Holds { fields, bits } => tell_apart(alloc, first, second, fields, bits)?,
-        Decision::Never | Decision::Spent => (false, false),
-    };
-    Ok(Difference {
-        is_none: is_never(&decision),
-        is_first,
-        is_second,
-    })
-}
-
-/// What is known of where the conditions differ, by values picked by chance, and else by a search.
+/// What is known of where the conditions differ: `known` where that says anything, and else what a search finds.
 fn find_difference(
     alloc: Global,
     first: &Cond,
     second: &Cond,
+    known: Difference,
     steps: &mut u32,
 ) -> Result<Difference, AllocError>
+    requires none { IsTrue known.is_none →
+        AreAlike (condition_of first.now) (condition_of second.now) }
+    requires first { IsTrue known.is_first →
+        HoldsForSome (Join And (condition_of first.now) (Not (condition_of second.now))) }
+    requires second { IsTrue known.is_second →
+        HoldsForSome (Join And (condition_of second.now) (Not (condition_of first.now))) }
     ensures none { IfOk result (λ found. IsTrue found.is_none →
-        NeverFails (Join Xor (condition_of first.now) (condition_of second.now))) }
+        AreAlike (condition_of first.now) (condition_of second.now)) }
     ensures first { IfOk result (λ found. IsTrue found.is_first →
         HoldsForSome (Join And (condition_of first.now) (Not (condition_of second.now)))) }
     ensures second { IfOk result (λ found. IsTrue found.is_second →
         HoldsForSome (Join And (condition_of second.now) (Not (condition_of first.now)))) }
 {
-    let (is_first, is_second) = are_shown_apart(alloc, first, second)?;
-    if is_first || is_second {
-        return Ok(Difference {
-            is_none: false,
-            is_first,
-            is_second,
-        });
+    if known.is_none || known.is_first || known.is_second {
+        return Ok(known);
     }
     seek_difference(alloc, first, second, steps)
 }
@@ -166,14 +126,21 @@ fn follows(
     }
 }
 
-/// How the conditions are related; `None` if they aren't, or if it isn't known. Counts in `unsettled` what isn't known.
+/// How the conditions are related; `None` if they aren't, or if it isn't known. `known` is what is known before any search. Counts in `unsettled` what isn't known.
 fn relation(
     alloc: Global,
     first: &Cond,
     second: &Cond,
+    known: Difference,
     steps: &mut u32,
     unsettled: &mut usize,
 ) -> Result<Option<Relation>, AllocError>
+    requires none { IsTrue known.is_none →
+        AreAlike (condition_of first.now) (condition_of second.now) }
+    requires first { IsTrue known.is_first →
+        HoldsForSome (Join And (condition_of first.now) (Not (condition_of second.now))) }
+    requires second { IsTrue known.is_second →
+        HoldsForSome (Join And (condition_of second.now) (Not (condition_of first.now))) }
     ensures related { IfOk result (λ found. IfSome found (λ relation.
         IsRelated (condition_of first.now) (condition_of second.now) relation)) }
     ensures settled { IfOk result (λ found.
@@ -182,7 +149,7 @@ fn relation(
     if are_equal(first, second) {
         return Ok(Some(Relation::Same));
     }
-    let found = find_difference(alloc, first, second, steps)?;
+    let found = find_difference(alloc, first, second, known, steps)?;
     if found.is_none {
         return Ok(Some(Relation::Same));
     }
@@ -221,6 +188,8 @@ fn are_near(alloc: Global, first: &Rule, second: &Rule) -> Result<bool, AllocErr
 fn judge_pair(
     alloc: Global,
     rules: &[Rule],
+    samples: &Samples,
+    firsts: &[usize],
     first: usize,
     second: usize,
     steps: &mut u32,
@@ -229,6 +198,7 @@ fn judge_pair(
 ) -> Result<(), AllocError>
     requires order { first < second }
     requires inside { second < length rules.now }
+    requires firsts { AreFirsts rules.now firsts.now }
     ensures sound { OnOk result (AllByRecursion (IsPair (rules_of rules.now)) pairs.old.items →
         AllByRecursion (IsPair (rules_of rules.now)) pairs.new.items) }
     ensures kept { OnOk result ((p : Pair) → Contains pairs.old.items p →
@@ -242,14 +212,14 @@ fn judge_pair(
     if !are_near(alloc, &rules[first], &rules[second])? {
         return Ok(());
     }
+    let (one, other) = (&rules[first].cond, &rules[second].cond);
+    let known = Difference {
+        is_none: are_known_alike(rules, firsts, first, second),
+        is_first: samples.is_apart(one, other, (first, second)),
+        is_second: samples.is_apart(other, one, (second, first)),
+    };
     let mut unknown = 0;
-    let found = relation(
-        alloc,
-        &rules[first].cond,
-        &rules[second].cond,
-        steps,
-        &mut unknown,
-    )?;
+    let found = relation(alloc, one, other, known, steps, &mut unknown)?;
     count_some(unsettled, unknown);
     match found {
         Some(relation) => Ok(pairs.push(PairJudgement {
@@ -265,12 +235,15 @@ fn judge_pair(
 fn judge_with_earlier(
     alloc: Global,
     rules: &[Rule],
+    samples: &Samples,
+    firsts: &[usize],
     second: usize,
     steps: &mut u32,
     unsettled: &mut usize,
     pairs: &mut Vec<PairJudgement>,
 ) -> Result<(), AllocError>
-    requires { second < length rules.now }
+    requires inside { second < length rules.now }
+    requires firsts { AreFirsts rules.now firsts.now }
     ensures sound { OnOk result (AllByRecursion (IsPair (rules_of rules.now)) pairs.old.items →
         AllByRecursion (IsPair (rules_of rules.now)) pairs.new.items) }
     ensures kept { OnOk result ((p : Pair) → Contains pairs.old.items p →
@@ -282,7 +255,9 @@ fn judge_with_earlier(
         AreBefore pairs.new.items 0 (second + 1)) }
 {
     for first in 0..second {
-        judge_pair(alloc, rules, first, second, steps, unsettled, pairs)?;
+        judge_pair(
+            alloc, rules, samples, firsts, first, second, steps, unsettled, pairs,
+        )?;
     }
     Ok(())
 }
@@ -298,11 +273,22 @@ pub fn judge_pairs(alloc: Global, rules: &Rules) -> Result<PairJudgements, Alloc
     ensures once { IfOk result (λ found. AreInOrder found.related.items) }
 {
     let rules = rules.as_slice();
+    let samples = samples_of(alloc, rules, PAIR_SAMPLES)?;
     let mut steps = TEXT_STEPS;
+    let firsts = firsts_of(alloc, rules, &samples, &mut steps)?;
     let mut unsettled = 0;
     let mut pairs = Vec::new(alloc);
     for second in 0..rules.len() {
-        judge_with_earlier(alloc, rules, second, &mut steps, &mut unsettled, &mut pairs)?;
+        judge_with_earlier(
+            alloc,
+            rules,
+            &samples,
+            &firsts,
+            second,
+            &mut steps,
+            &mut unsettled,
+            &mut pairs,
+        )?;
     }
     Ok(PairJudgements {
         related: pairs,

@@ -11,14 +11,17 @@ ghost use Rattle.rule_analysis.specs.Spare.{AreOfRulesBefore, AreOfTermsBefore, 
 ghost use Rattle.rule_analysis.specs.Judgement.{HoldsForSome, NeverFails};
 ghost use Rattle.rule_analysis.specs.Steps.{AreFewByNames};
 
-use crate::chance::is_shown_true;
 use crate::conditions::{are_one, copy_condition};
 use crate::counting::{count_one, count_some};
 use crate::finding::{SpareComparison, SpareJudgements};
 use crate::judging::comparisons_of;
 use crate::pairs::{TEXT_STEPS, ask};
+use crate::samples::{Samples, samples_of};
 use lc_model::{Cond, Rule, Rules, Term};
 use std::alloc::{AllocError, Global};
+
+/// How many samples are sought with which a rule fails, and how many with which it passes.
+const SPARE_SAMPLES: usize = 16;
 
 /// The steps that each question has even after `TEXT_STEPS` is used up: enough for eight different comparisons.
 const LEAST_SPARE_STEPS: u32 = 1 << 8;
@@ -83,6 +86,7 @@ fn difference(alloc: Global, cond: &Cond, term: &Term, value: bool) -> Result<Co
 fn is_never_true(
     alloc: Global,
     cond: &Cond,
+    samples: &Samples,
     steps: &mut u32,
     unsettled: &mut usize,
 ) -> Result<bool, AllocError>
@@ -92,7 +96,7 @@ fn is_never_true(
         (AreFewByNames (condition_of cond.now) least_spare_steps × (0 < unsettled.new))) }
     ensures grows { unsettled.old ≤ unsettled.new }
 {
-    if is_shown_true(alloc, cond)? {
+    if samples.is_shown_true(cond) {
         return Ok(false);
     }
     match ask(alloc, cond, LEAST_SPARE_STEPS, steps)? {
@@ -108,6 +112,7 @@ fn is_never_true(
 fn does_without(
     alloc: Global,
     cond: &Cond,
+    samples: &Samples,
     term: &Term,
     value: bool,
     steps: &mut u32,
@@ -121,13 +126,14 @@ fn does_without(
     ensures grows { unsettled.old ≤ unsettled.new }
 {
     let both = difference(alloc, cond, term, value)?;
-    is_never_true(alloc, &both, steps, unsettled)
+    is_never_true(alloc, &both, samples, steps, unsettled)
 }
 
 /// The value that can stand in the place of the term; `None` if none is known. Counts in `unsettled` what isn't known.
 fn taken_as(
     alloc: Global,
     cond: &Cond,
+    samples: &Samples,
     term: &Term,
     steps: &mut u32,
     unsettled: &mut usize,
@@ -138,10 +144,10 @@ fn taken_as(
     ensures needed { IfOk result (λ found. found ≡ None →
         MayBeNeeded unsettled.new (condition_of cond.now) term.now) }
 {
-    if does_without(alloc, cond, term, true, steps, unsettled)? {
+    if does_without(alloc, cond, samples, term, true, steps, unsettled)? {
         return Ok(Some(true));
     }
-    if does_without(alloc, cond, term, false, steps, unsettled)? {
+    if does_without(alloc, cond, samples, term, false, steps, unsettled)? {
         return Ok(Some(false));
     }
     Ok(None)
@@ -151,6 +157,7 @@ fn taken_as(
 fn judge_term(
     alloc: Global,
     rules: &[Rule],
+    samples: &Samples,
     rule: usize,
     term: &Term,
     steps: &mut u32,
@@ -169,7 +176,7 @@ fn judge_term(
     ensures once { OnOk result (IsToldAtMost spare.old.items spare.new.items rule term.now) }
 {
     let mut unknown = 0;
-    match taken_as(alloc, &rules[rule].cond, term, steps, &mut unknown)? {
+    match taken_as(alloc, &rules[rule].cond, samples, term, steps, &mut unknown)? {
         Some(taken_as) => Ok(spare.push(SpareComparison {
             rule,
             term: *term,
@@ -202,6 +209,7 @@ fn is_again(terms: &[Term], at: usize) -> bool
 fn judge_at(
     alloc: Global,
     rules: &[Rule],
+    samples: &Samples,
     rule: usize,
     terms: &[Term],
     at: usize,
@@ -227,7 +235,9 @@ fn judge_at(
     if is_again(terms, at) {
         return Ok(());
     }
-    judge_term(alloc, rules, rule, &terms[at], steps, unsettled, spare)?;
+    judge_term(
+        alloc, rules, samples, rule, &terms[at], steps, unsettled, spare,
+    )?;
     Ok(())
 }
 
@@ -252,8 +262,11 @@ fn judge_terms(
         AreOfRulesBefore spare.new.items (rule + 1)) }
 {
     let terms = comparisons_of(alloc, &rules[rule].cond)?;
+    let samples = samples_of(alloc, &rules[rule..rule + 1], SPARE_SAMPLES)?;
     for at in 0..terms.len() {
-        judge_at(alloc, rules, rule, &terms, at, steps, unsettled, spare)?;
+        judge_at(
+            alloc, rules, &samples, rule, &terms, at, steps, unsettled, spare,
+        )?;
     }
     Ok(())
 }
