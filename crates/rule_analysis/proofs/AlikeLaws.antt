@@ -15,6 +15,7 @@ use Rattle.rule_analysis.specs.declared.finding.Relation.TheVariants.{Same}
 use Rattle.rule_analysis.specs.Findings.{AreFirsts, IsFirst, IsRelated}
 use Rattle.rule_analysis.specs.Judgement.{AreAlike, NeverHolds, Readings, found_by, is_known, place_of, value_by}
 use Rattle.rule_analysis.proofs.Known.{known_where_all_is, never_holds_never_fails}
+use Rattle.rule_analysis.proofs.OpenLaws.{never_one}
 use Rattle.rule_analysis.proofs.PairLaws.{never_differ_is_same}
 
 -- ---- two conditions
@@ -46,12 +47,6 @@ never_differ_alike a b never readings =
   where
     known : (c : Condition) → IsTrue (is_known (truth_by (found_by readings) c))
     known c = known_where_all_is (found_by readings) c (each_known readings (mentions c))
-
-never_one : (x : Truth) → combined Xor x x ≢ True
-never_one True e = cc
-never_one False e = cc
-never_one Stale e = cc
-never_one Error e = cc
 
 pub alike_is_same : (a b : Condition) → AreAlike a b → IsRelated a b Same
 alike_is_same a b alike = never_differ_is_same a b (never_holds_never_fails (Join Xor a b) never)

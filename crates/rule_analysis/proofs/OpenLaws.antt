@@ -4,9 +4,11 @@ use Rattle.std.specs.Prelude.{◌≢◌, Contains}
 use Rattle.std.specs.List.{AllByRecursion}
 use Rattle.std.proofs.lemmas.List.Elements.{Contains-append_left, Contains-append_right}
 use Rattle.lc_model.specs.declared.truth.Truth.{Truth}
-use Rattle.lc_model.specs.declared.truth.Truth.TheVariants.{True}
+use Rattle.lc_model.specs.declared.truth.Truth.TheVariants.{True, False, Stale, Error}
+use Rattle.lc_model.specs.Truth.{truth_not}
+use Rattle.lc_model.specs.Condition.{And, Condition, Join, Not, Xor}
 use Rattle.lc_model.specs.declared.field.Term.{Term}
-use Rattle.lc_model.specs.LimitChecker.Watch.{truth_by}
+use Rattle.lc_model.specs.LimitChecker.Watch.{combined, truth_by}
 use Rattle.lc_model.specs.Tables.Equation.{mentions}
 use Rattle.rule_analysis.specs.declared.open.Open.{Open}
 use Rattle.rule_analysis.specs.declared.open.Open.TheVariants as tree
@@ -167,3 +169,35 @@ module _ (number : Term → ℕ) (terms : List Term) (field count : ℕ) (o : Op
 
   pub never_on : (chosen : List ℕ) → field ≡ length chosen → IsNever number (left_of rest) → IsNeverWith number (left_of o) (length chosen) candidate
   never_on chosen at never = subst (λ n. IsNeverWith number (left_of o) n candidate) at (left_open.never never)
+
+-- ---- contradictions
+
+never_and_not : (x : Truth) → combined And x (truth_not x) ≢ True
+never_and_not True e = cc
+never_and_not False e = cc
+never_and_not Stale e = cc
+never_and_not Error e = cc
+
+never_not_and : (x : Truth) → combined And (truth_not x) x ≢ True
+never_not_and True e = cc
+never_not_and False e = cc
+never_not_and Stale e = cc
+never_not_and Error e = cc
+
+pub never_one : (x : Truth) → combined Xor x x ≢ True
+never_one True e = cc
+never_one False e = cc
+never_one Stale e = cc
+never_one Error e = cc
+
+pub never_with_negation_first : (found : Term → Truth) (a b : Condition) → a ≡ Not b → truth_by found (Join And a b) ≢ True
+never_with_negation_first found a b is holds =
+    never_not_and (truth_by found b) (subst (λ c. combined And (truth_by found c) (truth_by found b) ≡ True) is holds)
+
+pub never_with_negation_second : (found : Term → Truth) (a b : Condition) → b ≡ Not a → truth_by found (Join And a b) ≢ True
+never_with_negation_second found a b is holds =
+    never_and_not (truth_by found a) (subst (λ c. combined And (truth_by found a) (truth_by found c) ≡ True) is holds)
+
+pub never_one_of_same : (found : Term → Truth) (a b : Condition) → a ≡ b → truth_by found (Join Xor a b) ≢ True
+never_one_of_same found a b same holds =
+    never_one (truth_by found b) (subst (λ c. combined Xor (truth_by found c) (truth_by found b) ≡ True) same holds)

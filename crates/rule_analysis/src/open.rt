@@ -2,8 +2,9 @@
 
 ghost use Rattle.std.specs.Prelude.{◌≡◌, ◌≢◌, ℕ, IfOk, IsTrue};
 ghost use Rattle.lc_model.specs.declared.truth.Truth.{Truth as AnyTruth};
+ghost use Rattle.lc_model.specs.declared.truth.Truth.TheVariants.{True};
 ghost use Rattle.lc_model.specs.declared.field.Term.{Term as Comparison};
-ghost use Rattle.lc_model.specs.Condition.{And, Or, Xor, condition_of};
+ghost use Rattle.lc_model.specs.Condition.{And, Not, Or, Xor, condition_of};
 ghost use Rattle.lc_model.specs.Truth.{truth_not};
 ghost use Rattle.lc_model.specs.LimitChecker.Watch.{combined, truth_by};
 ghost use Rattle.rule_analysis.specs.Fields.{field_number};
@@ -243,5 +244,29 @@ pub(crate) fn are_same(first: &Open, second: &Open) -> bool
         (Open::Xor(one), Open::Xor(other)) => are_same(&one.0, &other.0)
             && are_same(&one.1, &other.1),
         _ => false,
+    }
+}
+
+/// Whether the first condition is the second one's negation.
+fn is_negation(first: &Open, second: &Open) -> bool
+    ensures { IsTrue result → left_of first.now ≡ Not (left_of second.now) }
+{
+    match first {
+        Open::Not(operand) => are_same(operand, second),
+        Open::Compare { .. } | Open::And(_) | Open::Or(_) | Open::Xor(_) => false,
+    }
+}
+
+/// Whether both operands of a condition contradict each other, whatever their results are.
+pub(crate) fn is_contradiction(tree: &Open) -> bool
+    ensures { IsTrue result →
+        (found : Comparison → AnyTruth) → truth_by found (left_of tree.now) ≢ True }
+{
+    match tree {
+        Open::And(operands) => {
+            is_negation(&operands.0, &operands.1) || is_negation(&operands.1, &operands.0)
+        }
+        Open::Xor(operands) => are_same(&operands.0, &operands.1),
+        Open::Compare { .. } | Open::Not(_) | Open::Or(_) => false,
     }
 }

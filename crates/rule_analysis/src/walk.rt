@@ -11,7 +11,7 @@ ghost use Rattle.rule_analysis.specs.Search.{AreReady, AreRepresented, Extends, 
 ghost use Rattle.rule_analysis.specs.Steps.{AreNotMany, IsWithin};
 
 use crate::fields::{Field, number};
-use crate::open::{Left, Open, are_same, settle};
+use crate::open::{Left, Open, are_same, is_contradiction, settle};
 use crate::outcomes::outcome;
 use lc_model::{Cond, Term, Truth};
 use std::alloc::{AllocError, Global};
@@ -77,11 +77,14 @@ fn may_choose(numbers: usize, steps: &mut u32) -> bool
     true
 }
 
-/// Whether what is left is known to be true for no values, since it was left before.
+/// Whether what is left is known to be true for no values, since it contradicts itself or was left before.
 fn leads_nowhere(dead: &[DeadEnd], field: usize, left: &Open, fields: &[Field]) -> bool
     requires { AllByRecursion (IsDeadEnd (field_number fields.now)) dead.now }
     ensures { IsTrue result → IsNever (field_number fields.now) (left_of left.now) }
 {
+    if is_contradiction(left) {
+        return true;
+    }
     for end in dead {
         if end.field == field && are_same(&end.left, left) {
             return true;
