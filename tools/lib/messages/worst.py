@@ -72,6 +72,16 @@ def paired_by_chance(rule):
     return " and ".join(one)
 
 
+def beside_xor(rule):
+    """A comparison whose number grows with the rule, and fifteen comparisons by `xor` that all rules share."""
+    return f"F0<{1 + rule % 160} and (" + " xor ".join(f"F{field}<1" for field in range(1, 16)) + ")"
+
+
+def turned(rule):
+    """The same eight pairs of comparisons in an order of the rule's own."""
+    return " xor ".join(f"(F{2 * ((rule + n) % 8)}<3 or F{2 * ((rule + n) % 8) + 1}>2)" for n in range(8))
+
+
 def contradicted(rule, of=limit):
     """Fourteen comparisons by `xor`, and one that contradicts some of them."""
     return "(" + " xor ".join(f"F{field}<{of(rule, field)}" for field in range(14)) + ") and F0>9"
@@ -89,6 +99,8 @@ TEXTS = {
     "both of eight pairs": judged(lambda rule: paired("or", "and", rule)),
     "one of eight pairs": judged(lambda rule: paired("and", "or", rule)),
     "both of eight pairs by chance": judged(paired_by_chance),
+    "one of eight pairs by xor in another order": judged(turned),
+    "rules of which each follows the next beside fifteen comparisons by xor": judged(beside_xor),
     "comparisons by xor beside one that they contradict": judged(contradicted),
     "comparisons by xor with numbers by chance beside one that they contradict": judged(lambda rule: contradicted(rule, lambda rule, field: chance(rule, field, 12))),
     "rules of which each follows the next": judged(lambda rule: f"F0<{1 + rule}"),
