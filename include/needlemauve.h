@@ -2,9 +2,12 @@
  * record.
  *
  * Archives. `libneedlemauve_board.a` has needlemauve_validate alone: it asks for no memory, calls nothing outside itself, and
- * goes on board as it is. `libneedlemauve.a` has the other calls. They take memory by the three functions of
- * crates/needlemauve/memory.c, which is malloc, realloc and free as it stands: compile it with your program, or put a pool of
- * your own into it. They also call memcpy, memmove and memset.
+ * goes on board as it is. `libneedlemauve.a` has the other calls. They take memory by the three functions of memory.c
+ * (crates/needlemauve in the sources, share/needlemauve of an installation), which is malloc, realloc and free as it stands: compile
+ * it with your program, or put a pool of your own into it. They also call memcpy, memmove and memset.
+ *
+ * Processors. The archives for x86-64 run on every processor of that kind: they use SSE2 and nothing that came after it. Those for
+ * aarch64 run on every ARMv8-A. There is none for a processor of 32 bits.
  *
  * Who owns what. All memory that a call is given stays the caller's. A call reads and writes it while it runs and keeps no
  * pointer to it afterwards; it gives back what it took by memory.c before it returns. There is one exception: a host that was
@@ -217,7 +220,7 @@ static inline uint32_t needlemauve_half_record(uint8_t header[NEEDLEMAUVE_RECORD
   return needlemauve_record(header, 4, seconds, subseconds, NEEDLEMAUVE_HALF);
 }
 
-/* ---- what the archives can't see: NULL, and lengths that no object has */
+/* ---- what the archives can't see: NULL, lengths that no object has, and a handle that is in use */
 
 static inline uint32_t needlemauve_misused(const void *at, size_t length)
 {
@@ -226,12 +229,20 @@ static inline uint32_t needlemauve_misused(const void *at, size_t length)
   return NEEDLEMAUVE_DONE;
 }
 
-static inline void needlemauve_tell(uint32_t code, uint32_t of, struct needlemauve_refusal *told)
+static inline void needlemauve_tell(uint32_t code, uint32_t of, struct needlemauve_refusal *told,
+                                    struct needlemauve_sentence *sentence)
 {
+  const char *words = code == NEEDLEMAUVE_NULL       ? "NULL in the place of something"
+                      : code == NEEDLEMAUVE_HAS_HOST ? "the handle holds a host already"
+                                                     : "a length is above PTRDIFF_MAX";
+  uint32_t n;
   told->code = code;
   told->of = of;
   told->at = 0;
   told->text = 0;
+  for (n = 0; n < sizeof sentence->bytes; n++) sentence->bytes[n] = 0;
+  for (n = 0; words[n] != 0; n++) sentence->bytes[n] = words[n];
+  sentence->length = n;
 }
 
 static inline uint32_t needlemauve_validate_tested(uint32_t kind, const uint8_t *file, size_t length,
@@ -252,11 +263,9 @@ static inline uint32_t needlemauve_compile_tested(const uint8_t *text, size_t le
   if (told == NULL) return NEEDLEMAUVE_NULL;
   if (code == NEEDLEMAUVE_DONE && (wdt == NULL || adt == NULL)) code = NEEDLEMAUVE_NULL;
   if (code == NEEDLEMAUVE_DONE) return needlemauve_compile(text, length, wdt, adt, told);
-  needlemauve_tell(code, NEEDLEMAUVE_NOTHING, &told->refusal);
+  needlemauve_tell(code, NEEDLEMAUVE_NOTHING, &told->refusal, &told->sentence);
   told->watchpoints = 0;
   told->rules = 0;
-  told->sentence.length = 0;
-  told->sentence.bytes[0] = 0;
   return code;
 }
 
@@ -274,10 +283,8 @@ static inline uint32_t needlemauve_run_tested(const uint8_t *texts, size_t size,
   if (code == NEEDLEMAUVE_DONE) code = needlemauve_misused(output, room);
   if (code == NEEDLEMAUVE_DONE)
     return needlemauve_run(texts, size, lengths, count, schedule, schedule_length, stream, stream_length, output, room, told);
-  needlemauve_tell(code, NEEDLEMAUVE_NOT_RUN, &told->ending);
+  needlemauve_tell(code, NEEDLEMAUVE_NOT_RUN, &told->ending, &told->sentence);
   told->written = 0;
-  told->sentence.length = 0;
-  told->sentence.bytes[0] = 0;
   return code;
 }
 
@@ -295,9 +302,7 @@ static inline uint32_t needlemauve_host_new_tested(const uint8_t *texts, size_t 
   if (code == NEEDLEMAUVE_DONE && host->at != NULL) code = NEEDLEMAUVE_HAS_HOST;
   if (code == NEEDLEMAUVE_DONE)
     return needlemauve_host_new(texts, size, lengths, count, schedule, schedule_length, room, host, told);
-  needlemauve_tell(code, NEEDLEMAUVE_NOT_RUN, &told->refusal);
-  told->sentence.length = 0;
-  told->sentence.bytes[0] = 0;
+  needlemauve_tell(code, NEEDLEMAUVE_NOT_RUN, &told->refusal, &told->sentence);
   return code;
 }
 
