@@ -257,6 +257,18 @@ static enum status take(struct bridge *bridge, size_t length)
   return feed(bridge, bridge->bytes, NEEDLEMAUVE_RECORD + length);
 }
 
+static void say_counts(const struct bridge *bridge)
+{
+  static const char *const words[KINDS] = {"telemetry", "no packet", "command", "without a secondary header",
+                                           "segment", "over 2,048 bytes", "event or housekeeping"};
+  int kind;
+  fprintf(stderr, "cfs_bridge: fed: %lu packets, %lu ticks; requests: %lu sent, %lu not sent; dropped",
+          bridge->datagrams[TELEMETRY], bridge->ticks, bridge->requests[1], bridge->requests[0]);
+  for (kind = NO_PACKET; kind < KINDS; kind++)
+    fprintf(stderr, "%c %s: %lu", kind == NO_PACKET ? ':' : ',', words[kind], bridge->datagrams[kind]);
+  fprintf(stderr, "\n");
+}
+
 /* Goes on until a signal ends it, which is looked at between datagrams. */
 static enum status serve(struct bridge *bridge)
 {
@@ -271,6 +283,7 @@ static enum status serve(struct bridge *bridge)
     else if (errno != EAGAIN && errno != EINTR) status = failed(DEVICE, "telemetry", strerror(errno));
     if (status == FINE) status = tick_by_clock(bridge);
   }
+  say_counts(bridge);
   return status;
 }
 
@@ -357,18 +370,6 @@ static enum status open_devices(struct bridge *bridge, const struct plan *plan)
   return bridge->record != NULL ? FINE : failed(DEVICE, plan->record, strerror(errno));
 }
 
-static void say_counts(const struct bridge *bridge)
-{
-  static const char *const words[KINDS] = {"telemetry", "no packet", "command", "without a secondary header",
-                                           "segment", "over 2,048 bytes", "event or housekeeping"};
-  int kind;
-  fprintf(stderr, "cfs_bridge: fed: %lu packets, %lu ticks; requests: %lu sent, %lu not sent; dropped",
-          bridge->datagrams[TELEMETRY], bridge->ticks, bridge->requests[1], bridge->requests[0]);
-  for (kind = NO_PACKET; kind < KINDS; kind++)
-    fprintf(stderr, "%c %s: %lu", kind == NO_PACKET ? ':' : ',', words[kind], bridge->datagrams[kind]);
-  fprintf(stderr, "\n");
-}
-
 /* Gives back all that the bridge holds. */
 static enum status close_all(struct bridge *bridge, enum status status)
 {
@@ -395,6 +396,5 @@ int main(int count, char **words)
   status = make_host(bridge, &plan);
   if (status == FINE) status = open_devices(bridge, &plan);
   if (status == FINE) status = serve(bridge);
-  say_counts(bridge);
   return close_all(bridge, status);
 }
