@@ -46,8 +46,8 @@ def built(folder):
 
 
 def documents():
-    """README and CHANGELOG, and the documents that they link to."""
-    paths = ["README.md", "CHANGELOG.md", *glob.glob("docs/*.md", root_dir=ROOT), *glob.glob("docs/*.png", root_dir=ROOT)]
+    """README and CHANGELOG, the documents that they link to, and the examples."""
+    paths = ["README.md", "CHANGELOG.md", *(path for it in ("docs/*.md", "docs/*.png", "examples/*/*") for path in glob.glob(it, root_dir=ROOT))]
     return {f"share/doc/needlemauve/{it}": content(f"{ROOT}/{it}") for it in paths}
 
 
