@@ -62,7 +62,7 @@ def noise(number, seed, telemetry):
         sort = n & 7
         at = int(draw() * 1_000_000)
         if sort < 4:
-            yield pool[at : at + pool[at] % (64 if sort else 2200)]
+            yield pool[at : at + (pool[at] % 64 if sort else 9 * pool[at])]
             continue
         spoiled = bytearray(telemetry[at % len(telemetry)])
         if sort < 6:
