@@ -33,8 +33,9 @@ fn target_of<R: Files + AllocGlobal>(rt: &R, name: &str) -> Result<String, FileF
 /// A draft of the file `own`, under a name with this process's number; drafts that killed calls of this user left there are removed.
 fn beside<R: Files + AllocGlobal>(rt: &R, own: String) -> Result<Draft<R::File>, FileFault> {
     remove_leftovers(rt, own.as_str());
-    let process = own_process(rt)?;
-    let Ok(beside) = draft_name(rt.alloc(), own.as_str(), process.as_str()) else {
+    let process = own_process(rt);
+    let number = process.as_ref().map_or("0", |number| number.as_str());
+    let Ok(beside) = draft_name(rt.alloc(), own.as_str(), number) else {
         return Err(FileFault::Memory);
     };
     match File::create_new(rt, beside.as_str()) {

@@ -1,6 +1,5 @@
 //! The names of drafts, and the drafts that killed calls left: a program can't catch signals, so the next call removes them.
 
-use crate::why::{FileFault, fault_of};
 use std::alloc::{AllocError, Global};
 use std::fs::{self, DirEntry, Files};
 use std::io::ErrorKind;
@@ -18,12 +17,9 @@ pub fn draft_name(alloc: Global, own: &str, process: &str) -> Result<String, All
     format!(in alloc; "{own}{BEFORE}{process}{BEHIND}")
 }
 
-/// The number of this process.
-pub fn own_process<R: Files + AllocGlobal>(rt: &R) -> Result<PathBuf, FileFault> {
-    match fs::read_link(rt, "/proc/self") {
-        Ok(number) => Ok(number),
-        Err(error) => Err(fault_of(&error)),
-    }
+/// The number of this process, if the system says it.
+pub fn own_process<R: Files + AllocGlobal>(rt: &R) -> Option<PathBuf> {
+    fs::read_link(rt, "/proc/self").ok()
 }
 
 /// The user that this process runs as, if the system says it.
