@@ -1,3 +1,4 @@
 pub mod Asked
 pub mod Taken
 pub mod Ends
+pub mod Import

@@ -5,6 +5,8 @@
 mod ends;
 mod exporting;
 mod forms;
+mod import_options;
+mod import_stream;
 mod importing;
 mod listing;
 mod record_line;

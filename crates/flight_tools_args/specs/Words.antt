@@ -44,6 +44,7 @@ IsFlag id rows is_given = (one_of id rows ≡ Some (codes "true") → is_given �
 -- what is given of an import's options
 abbrev pub HoldsImport : List Row → ImportWords → Type 0
 HoldsImport rows how = IsFlag (codes "marked") rows how.marked
+    × IsFlag (codes "resync") rows how.resync
     × IsFlag (codes "keep-idle") rows how.keep_idle
     × IsFlag (codes "keep-faulty") rows how.keep_faulty
     × (first_of (codes "only") rows ≡ option_map (λ word. word.now) how.only)

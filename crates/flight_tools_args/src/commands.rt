@@ -181,6 +181,11 @@ fn with_choices<'a>(alloc: Global, command: Command<'a>) -> Result<Command<'a>, 
             "marked",
             "A marker (1ACFFC1D) stands before each packet",
         ))?
+        .arg(flag_word(
+            alloc,
+            "resync",
+            "Skips bytes that begin no plausible packet, and says which",
+        ))?
         .arg(flag_word(alloc, "keep-idle", "Idle packets become records, too"))?
         .arg(flag_word(
             alloc,

@@ -182,6 +182,7 @@ fn import_words<'a>(found: &ArgMatches<'a>) -> ImportWords<'a>
 {
     ImportWords {
         marked: flag(found, "marked"),
+        resync: flag(found, "resync"),
         keep_idle: flag(found, "keep-idle"),
         keep_faulty: flag(found, "keep-faulty"),
         only: option_value(found, "only"),

@@ -101,6 +101,8 @@ pub struct RowWords<'a> {
 pub struct ImportWords<'a> {
     /// Whether a marker is before each packet.
     pub marked: bool,
+    /// Whether bytes that begin no plausible packet are skipped.
+    pub resync: bool,
     /// Whether idle packets become records.
     pub keep_idle: bool,
     /// Whether packets with a fault become records.

@@ -11,66 +11,74 @@ use Rattle.packet_archive.specs.declared.choice.Fate.TheVariants.{Kept, Idle, Ot
 use Rattle.packet_archive.specs.declared.import.Met.{Met}
 use Rattle.packet_archive.specs.declared.import.Met.TheVariants.{Taken, LeftOut, Leap, Stands}
 use Rattle.packet_archive.specs.declared.front.ArchiveFront.{ArchiveFront}
-use Rattle.packet_archive.specs.declared.front.ArchiveFront.TheVariants.{Over, Gap, Cut, Foreign, Unmarked, Packet}
+use Rattle.packet_archive.specs.declared.front.ArchiveFront.TheVariants.{Over, Gap, Cut, Foreign, Unmarked, Stray, Packet}
+use Rattle.packet_archive.specs.declared.front.Resync.{Resync}
+use Rattle.packet_archive.specs.declared.front.Resync.TheVariants.{Never, Within, AtEnd}
 use Rattle.packet_archive.specs.Choice.{Chosen, fate_by_fault, fate_of, is_asked_for, is_idle}
 use Rattle.packet_archive.specs.Clock.{Clocked, moment_by}
 use Rattle.packet_archive.specs.Export.{ImportsAreGivenBack, exported, is_leap_met, keeps, kept_in, packets_by, packets_in, packets_within}
-use Rattle.packet_archive.specs.Front.{front_in}
-use Rattle.packet_archive.specs.Import.{Asking, Imported, Step, behind, by_fate, by_front, imported, is_leap, kept_at, next_step, nothing, passed, records_at}
+use Rattle.packet_archive.specs.Front.{front_by}
+use Rattle.packet_archive.specs.Import.{Asking, Imported, Step, behind, by_fate, by_front, clock_at, front_for, imported, is_leap, kept_at, next_step, nothing, passed, records_at}
 use Rattle.packet_archive.proofs.Pieces.{no_step, one_step}
-use Rattle.packet_archive.proofs.Stays.{bounds, gap_is, zeros_within}
+use Rattle.packet_archive.proofs.Sought.{bounds_by, gap_is_by, stray_there}
+use Rattle.packet_archive.proofs.Stays.{zeros_within}
 use Rattle.packet_archive.proofs.Written.{Brings, brings_both, brings_kept, brings_none}
 
 -- ---- the packets of an archive, by what stands in front
 
 -- how far what stands in front goes
-record Goes (marked : Bool) (bytes : List ℕ) (size : ℕ) : Type 0 where
+record Goes (bytes : List ℕ) (size : ℕ) : Type 0 where
   some : 1 ≤ size
   inside : size ≤ length bytes
 
-packet_goes : (marked : Bool) (bytes : List ℕ) (b s : ℕ) → front_in marked bytes ≡ Packet b s → Goes marked bytes (b + s)
-packet_goes marked bytes b s is = let found = bounds marked bytes b s is in record { some = found.0; inside = found.1 }
+packet_goes : (resync : Resync) (marked : Bool) (bytes : List ℕ) (b s : ℕ) → front_by resync marked bytes ≡ Packet b s → Goes bytes (b + s)
+packet_goes resync marked bytes b s is = let found = bounds_by resync marked bytes b s is in record { some = found.0; inside = found.1 }
 
-gap_goes : (marked : Bool) (bytes : List ℕ) (n : ℕ) → front_in marked bytes ≡ Gap n → Goes marked bytes n
-gap_goes marked bytes n is =
-    let found = gap_is marked bytes n is in record { some = omega (arith, found.0, found.1); inside = omega (arith, found.1, zeros_within bytes) }
+gap_goes : (resync : Resync) (marked : Bool) (bytes : List ℕ) (n : ℕ) → front_by resync marked bytes ≡ Gap n → Goes bytes n
+gap_goes resync marked bytes n is =
+    let found = gap_is_by resync marked bytes n is in record { some = omega (arith, found.0, found.1); inside = omega (arith, found.1, zeros_within bytes) }
 
-enough : (m n : ℕ) (marked : Bool) (bytes : List ℕ) → length bytes < m → length bytes < n → packets_within m marked bytes ≡ packets_within n marked bytes
+stray_goes : (resync : Resync) (marked : Bool) (bytes : List ℕ) → front_by resync marked bytes ≡ Stray → Goes bytes 1
+stray_goes resync marked bytes is = record { some = omega arith; inside = stray_there resync marked bytes is }
+
+enough : (m n : ℕ) (resync : Resync) (marked : Bool) (bytes : List ℕ) → length bytes < m → length bytes < n → packets_within m resync marked bytes ≡ packets_within n resync marked bytes
 unfolding packets_within
-enough zero n marked bytes p q = absurd (omega (arith, p))
-enough (suc m) zero marked bytes p q = absurd (omega (arith, q))
-enough (suc m) (suc n) marked bytes p q =
-    by_front (front_in marked bytes) refl
-    (λ size goes. enough m n marked (drop size bytes) (omega (arith, length-drop size bytes, goes.some, goes.inside, p)) (omega (arith, length-drop size bytes, goes.some, goes.inside, q)))
+enough zero n resync marked bytes p q = absurd (omega (arith, p))
+enough (suc m) zero resync marked bytes p q = absurd (omega (arith, q))
+enough (suc m) (suc n) resync marked bytes p q =
+    by_front (front_by resync marked bytes) refl
+    (λ size goes. enough m n resync marked (drop size bytes) (omega (arith, length-drop size bytes, goes.some, goes.inside, p)) (omega (arith, length-drop size bytes, goes.some, goes.inside, q)))
   where
-    by_front : (f : ArchiveFront) → front_in marked bytes ≡ f →
-        ((size : ℕ) → Goes marked bytes size → packets_within m marked (drop size bytes) ≡ packets_within n marked (drop size bytes)) →
-        packets_by (packets_within m marked) bytes f ≡ packets_by (packets_within n marked) bytes f
+    by_front : (f : ArchiveFront) → front_by resync marked bytes ≡ f →
+        ((size : ℕ) → Goes bytes size → packets_within m resync marked (drop size bytes) ≡ packets_within n resync marked (drop size bytes)) →
+        packets_by (packets_within m resync marked) bytes f ≡ packets_by (packets_within n resync marked) bytes f
     by_front Over is others = refl
     by_front Cut is others = refl
     by_front Foreign is others = refl
     by_front Unmarked is others = refl
-    by_front (Gap size) is others = others size (gap_goes marked bytes size is)
-    by_front (Packet b s) is others = ap (λ (packets : List (List ℕ)). take s (drop b bytes) ∷ packets) (others (b + s) (packet_goes marked bytes b s is))
+    by_front Stray is others = others 1 (stray_goes resync marked bytes is)
+    by_front (Gap size) is others = others size (gap_goes resync marked bytes size is)
+    by_front (Packet b s) is others = ap (λ (packets : List (List ℕ)). take s (drop b bytes) ∷ packets) (others (b + s) (packet_goes resync marked bytes b s is))
 
-first_of : (marked : Bool) (bytes : List ℕ) → packets_in marked bytes ≡ packets_by (packets_within (length bytes) marked) bytes (front_in marked bytes)
+first_of : (resync : Resync) (marked : Bool) (bytes : List ℕ) → packets_in resync marked bytes ≡ packets_by (packets_within (length bytes) resync marked) bytes (front_by resync marked bytes)
 unfolding packets_within
-first_of marked bytes = let most : length bytes + 1 ≡ suc (length bytes) = omega arith in ap (λ n. packets_within n marked bytes) most
+first_of resync marked bytes = let most : length bytes + 1 ≡ suc (length bytes) = omega arith in ap (λ n. packets_within n resync marked bytes) most
 
-pub packets_front : (marked : Bool) (bytes : List ℕ) → packets_in marked bytes ≡ packets_by (packets_in marked) bytes (front_in marked bytes)
-packets_front marked bytes = first_of marked bytes ∙ by_front (front_in marked bytes) refl
+pub packets_front : (resync : Resync) (marked : Bool) (bytes : List ℕ) → packets_in resync marked bytes ≡ packets_by (packets_in resync marked) bytes (front_by resync marked bytes)
+packets_front resync marked bytes = first_of resync marked bytes ∙ by_front (front_by resync marked bytes) refl
   where
-    same : (size : ℕ) → Goes marked bytes size → packets_within (length bytes) marked (drop size bytes) ≡ packets_in marked (drop size bytes)
+    same : (size : ℕ) → Goes bytes size → packets_within (length bytes) resync marked (drop size bytes) ≡ packets_in resync marked (drop size bytes)
     same size goes =
-        enough (length bytes) (length (drop size bytes) + 1) marked (drop size bytes) (omega (arith, length-drop size bytes, goes.some, goes.inside)) (omega arith)
+        enough (length bytes) (length (drop size bytes) + 1) resync marked (drop size bytes) (omega (arith, length-drop size bytes, goes.some, goes.inside)) (omega arith)
 
-    by_front : (f : ArchiveFront) → front_in marked bytes ≡ f → packets_by (packets_within (length bytes) marked) bytes f ≡ packets_by (packets_in marked) bytes f
+    by_front : (f : ArchiveFront) → front_by resync marked bytes ≡ f → packets_by (packets_within (length bytes) resync marked) bytes f ≡ packets_by (packets_in resync marked) bytes f
     by_front Over is = refl
     by_front Cut is = refl
     by_front Foreign is = refl
     by_front Unmarked is = refl
-    by_front (Gap size) is = same size (gap_goes marked bytes size is)
-    by_front (Packet b s) is = ap (λ (packets : List (List ℕ)). take s (drop b bytes) ∷ packets) (same (b + s) (packet_goes marked bytes b s is))
+    by_front Stray is = same 1 (stray_goes resync marked bytes is)
+    by_front (Gap size) is = same size (gap_goes resync marked bytes size is)
+    by_front (Packet b s) is = ap (λ (packets : List (List ℕ)). take s (drop b bytes) ∷ packets) (same (b + s) (packet_goes resync marked bytes b s is))
 
 -- ---- those that become records
 
@@ -90,19 +98,24 @@ chosen_first chosen packet packets = by_test (keeps (fate_of chosen packet)) ref
     by_test false is = rw is refl
 
 abbrev kept_by : Asking → List ℕ → ArchiveFront → List ℕ
-kept_by asking bytes f = chosen_of asking.chosen (packets_by (packets_in asking.marked) bytes f)
+kept_by asking bytes f = chosen_of asking.chosen (packets_by (packets_in asking.resync asking.marked) bytes f)
 
-kept_front : (asking : Asking) (bytes : List ℕ) (f : ArchiveFront) → front_in asking.marked bytes ≡ f → kept_in asking bytes ≡ kept_by asking bytes f
-kept_front asking bytes f is = ap (chosen_of asking.chosen) (packets_front asking.marked bytes ∙ ap (packets_by (packets_in asking.marked) bytes) is)
+kept_front : (asking : Asking) (bytes : List ℕ) (f : ArchiveFront) → front_for asking bytes ≡ f → kept_in asking bytes ≡ kept_by asking bytes f
+kept_front asking bytes f is = ap (chosen_of asking.chosen) (packets_front asking.resync asking.marked bytes ∙ ap (packets_by (packets_in asking.resync asking.marked) bytes) is)
 
 pub kept_nothing : (asking : Asking) → kept_in asking [] ≡ []
-kept_nothing asking = kept_front asking [] Over refl
+kept_nothing asking = kept_front asking [] Over (over asking.resync)
+  where
+    over : (resync : Resync) → front_by resync asking.marked [] ≡ Over
+    over Never = refl
+    over Within = refl
+    over AtEnd = refl
 
-pub kept_packet : (asking : Asking) (bytes : List ℕ) (b s : ℕ) (fate : Fate) → front_in asking.marked bytes ≡ Packet b s → fate_of asking.chosen (take s (drop b bytes)) ≡ fate →
+pub kept_packet : (asking : Asking) (bytes : List ℕ) (b s : ℕ) (fate : Fate) → front_for asking bytes ≡ Packet b s → fate_of asking.chosen (take s (drop b bytes)) ≡ fate →
     kept_in asking bytes ≡ one_first (keeps fate) (take s (drop b bytes)) (kept_in asking (drop (b + s) bytes))
 kept_packet asking bytes b s fate is becomes =
     kept_front asking bytes (Packet b s) is
-    ∙ chosen_first asking.chosen (take s (drop b bytes)) (packets_in asking.marked (drop (b + s) bytes))
+    ∙ chosen_first asking.chosen (take s (drop b bytes)) (packets_in asking.resync asking.marked (drop (b + s) bytes))
     ∙ ap (λ (f : Fate). one_first (keeps f) (take s (drop b bytes)) (kept_in asking (drop (b + s) bytes))) becomes
 
 -- a packet that becomes a record is none that no record can hold
@@ -156,34 +169,34 @@ abbrev GivesBehind : Asking → List ℕ → Type 0
 GivesBehind asking bytes = (size : ℕ) (clock : Clocked) → 1 ≤ size → size ≤ length bytes → Gives asking (drop size bytes) (imported asking clock (drop size bytes))
 
 -- a packet by what becomes of it
-module _ (asking : Asking) (clock : Clocked) (bytes : List ℕ) (b s : ℕ) (is : front_in asking.marked bytes ≡ Packet b s) (others : GivesBehind asking bytes) where
+module _ (asking : Asking) (clock : Clocked) (bytes : List ℕ) (b s : ℕ) (is : front_for asking bytes ≡ Packet b s) (others : GivesBehind asking bytes) where
   abbrev packet : List ℕ
   packet = take s (drop b bytes)
 
-  step_is : (fate : Fate) → fate_of asking.chosen packet ≡ fate → next_step asking clock bytes ≡ by_fate fate asking (b + s) clock packet
+  step_is : (fate : Fate) → fate_of asking.chosen packet ≡ fate → next_step asking clock bytes ≡ by_fate fate asking b (b + s) clock packet
   step_is fate becomes =
-      ap (λ (f : ArchiveFront). by_front f asking clock bytes) is ∙ ap (λ (f : Fate). by_fate f asking (b + s) clock packet) becomes
+      ap (λ (f : ArchiveFront). by_front f asking clock bytes) is ∙ ap (λ (f : Fate). by_fate f asking b (b + s) clock packet) becomes
 
-  left_out : (fate : Fate) → fate_of asking.chosen packet ≡ fate → keeps fate ≡ false → by_fate fate asking (b + s) clock packet ≡ nothing (LeftOut (b + s) fate) clock →
+  left_out : (fate : Fate) → fate_of asking.chosen packet ≡ fate → keeps fate ≡ false → by_fate fate asking b (b + s) clock packet ≡ nothing (LeftOut (b + s) b fate) clock →
       Gives asking bytes (imported asking clock bytes)
   left_out fate becomes never so =
-      let goes : Goes asking.marked bytes (b + s) = packet_goes asking.marked bytes b s is in
-      goes_on asking clock bytes [] (b + s) (nothing (LeftOut (b + s) fate) clock) (step_is fate becomes ∙ so) refl brings_none
+      let goes : Goes bytes (b + s) = packet_goes asking.resync asking.marked bytes b s is in
+      goes_on asking clock bytes [] (b + s) (nothing (LeftOut (b + s) b fate) clock) (step_is fate becomes ∙ so) refl brings_none
       (kept_packet asking bytes b s fate is becomes ∙ ap (λ k. one_first k packet (kept_in asking (drop (b + s) bytes))) never) (others (b + s) clock goes.some goes.inside)
 
   kept : fate_of asking.chosen packet ≡ Kept → Gives asking bytes (imported asking clock bytes)
   kept becomes = by_test (is_leap clock moment) refl
     where
       moment : Moment
-      moment = moment_by asking.times clock.last packet
+      moment = moment_by asking.times clock packet
 
       by_test : (t : Bool) → is_leap clock moment ≡ t → Gives asking bytes (imported asking clock bytes)
       by_test true leap =
           let late : kept_at (b + s) clock moment packet ≡ nothing Leap clock = rw leap refl in
           ends asking clock bytes Leap (step_is Kept becomes ∙ late) refl (λ never. absurd (cc never))
       by_test false leap =
-          let goes : Goes asking.marked bytes (b + s) = packet_goes asking.marked bytes b s is in
-          let step : Step = record { met = Taken (b + s); written = records_at clock moment packet; clock = record { period = clock.period; last = moment; next = (kept_at (b + s) clock moment packet).clock.next } } in
+          let goes : Goes bytes (b + s) = packet_goes asking.resync asking.marked bytes b s is in
+          let step : Step = record { met = Taken (b + s); written = records_at clock moment packet; clock = clock_at clock moment } in
           let now : kept_at (b + s) clock moment packet ≡ step = rw leap refl in
           goes_on asking clock bytes packet (b + s) step (step_is Kept becomes ∙ now) refl
           (brings_kept clock moment packet (not_long asking.chosen packet becomes)) (kept_packet asking bytes b s Kept is becomes) (others (b + s) step.clock goes.some goes.inside)
@@ -194,7 +207,7 @@ module _ (asking : Asking) (clock : Clocked) (bytes : List ℕ) (b s : ℕ) (is 
   by_fates Other becomes = left_out Other becomes refl refl
   by_fates (Faulty fault) becomes = left_out (Faulty fault) becomes refl refl
 
-by_parts : (asking : Asking) (clock : Clocked) (bytes : List ℕ) (f : ArchiveFront) → front_in asking.marked bytes ≡ f → GivesBehind asking bytes →
+by_parts : (asking : Asking) (clock : Clocked) (bytes : List ℕ) (f : ArchiveFront) → front_for asking bytes ≡ f → GivesBehind asking bytes →
     Gives asking bytes (imported asking clock bytes)
 by_parts asking clock bytes Over is others =
     ends asking clock bytes (Stands Over) (ap (λ (f : ArchiveFront). by_front f asking clock bytes) is) refl (λ never. kept_front asking bytes Over is)
@@ -204,8 +217,12 @@ by_parts asking clock bytes Foreign is others =
     ends asking clock bytes (Stands Foreign) (ap (λ (f : ArchiveFront). by_front f asking clock bytes) is) refl (λ never. kept_front asking bytes Foreign is)
 by_parts asking clock bytes Unmarked is others =
     ends asking clock bytes (Stands Unmarked) (ap (λ (f : ArchiveFront). by_front f asking clock bytes) is) refl (λ never. kept_front asking bytes Unmarked is)
+by_parts asking clock bytes Stray is others =
+    let goes : Goes bytes 1 = stray_goes asking.resync asking.marked bytes is in
+    goes_on asking clock bytes [] 1 (nothing (Stands Stray) clock) (ap (λ (f : ArchiveFront). by_front f asking clock bytes) is) refl brings_none
+    (kept_front asking bytes Stray is) (others 1 clock goes.some goes.inside)
 by_parts asking clock bytes (Gap n) is others =
-    let goes : Goes asking.marked bytes n = gap_goes asking.marked bytes n is in
+    let goes : Goes bytes n = gap_goes asking.resync asking.marked bytes n is in
     goes_on asking clock bytes [] n (nothing (Stands (Gap n)) clock) (ap (λ (f : ArchiveFront). by_front f asking clock bytes) is) refl brings_none
     (kept_front asking bytes (Gap n) is) (others n clock goes.some goes.inside)
 by_parts asking clock bytes (Packet b s) is others = by_fates asking clock bytes b s is others (fate_of asking.chosen (take s (drop b bytes))) refl
@@ -213,7 +230,7 @@ by_parts asking clock bytes (Packet b s) is others = by_fates asking clock bytes
 gives : (most : ℕ) (asking : Asking) (clock : Clocked) (bytes : List ℕ) → length bytes < most → Gives asking bytes (imported asking clock bytes)
 gives zero asking clock bytes less = absurd (omega (arith, less))
 gives (suc most) asking clock bytes less =
-    by_parts asking clock bytes (front_in asking.marked bytes) refl
+    by_parts asking clock bytes (front_for asking bytes) refl
     (λ size after some inside. gives most asking after (drop size bytes) (omega (arith, length-drop size bytes, some, inside, less)))
 
 pub imports_are_given_back : ImportsAreGivenBack

@@ -2,6 +2,8 @@ mod ArchivesGivenBack
 mod Importing
 mod Kept
 mod Pieces
+mod Places
+mod Sought
 mod Stays
 mod Ticks
 mod Counting

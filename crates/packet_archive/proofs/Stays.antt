@@ -8,7 +8,7 @@ use Rattle.std.proofs.lemmas.List.Folds.{prefix_len-append}
 use Rattle.lc_model.specs.Bytes.{u16_at}
 use Rattle.lc_model.specs.Packet.{version, primary_header_size, message_id_end}
 use Rattle.packet_archive.specs.declared.front.ArchiveFront.{ArchiveFront}
-use Rattle.packet_archive.specs.declared.front.ArchiveFront.TheVariants.{Over, Gap, Cut, Foreign, Unmarked, Packet}
+use Rattle.packet_archive.specs.declared.front.ArchiveFront.TheVariants.{Over, Gap, Cut, Foreign, Unmarked, Stray, Packet}
 use Rattle.packet_archive.specs.Front.{front_in, marked_in, marker, packet_in, packet_size, zeros}
 
 -- ---- numbers and lists
@@ -18,7 +18,7 @@ two_in_front [] ys some = absurd (omega (arith, some))
 two_in_front (d ∷ []) ys some = absurd (omega (arith, some))
 two_in_front (d ∷ e ∷ ds) ys some = refl
 
-same_u16 : (xs ys : List ℕ) (at : ℕ) → at + 2 ≤ length xs → u16_at (xs ++ ys) at ≡ u16_at xs at
+pub same_u16 : (xs ys : List ℕ) (at : ℕ) → at + 2 ≤ length xs → u16_at (xs ++ ys) at ≡ u16_at xs at
 same_u16 xs ys at inside =
     ap (from_be_bytes w16) (drop-append-le at xs ys (omega (arith, inside)))
     ∙ two_in_front (drop at xs) ys (omega (arith, length-drop at xs, inside))
@@ -40,7 +40,7 @@ joined xs ys b is =
     by_test true = omega (arith, zeros_is ys)
     by_test false = sym (zeros_is xs)
 
-zeros_stay : (xs ys : List ℕ) → zeros xs < length xs → zeros (xs ++ ys) ≡ zeros xs
+pub zeros_stay : (xs ys : List ℕ) → zeros xs < length xs → zeros (xs ++ ys) ≡ zeros xs
 zeros_stay xs ys less = joined xs ys false (grind (arith, zeros_is xs, less))
 
 pub zeros_go_on : (xs ys : List ℕ) → zeros xs ≡ length xs → zeros (xs ++ ys) ≡ length xs + zeros ys
@@ -68,7 +68,7 @@ is_there before bytes b s is =
     let passed = tests_passed before b s (packet_size bytes) (nat_lt (length bytes) primary_header_size) (version bytes == 0) (nat_lt (length bytes) (packet_size bytes)) is in
     record { header = grind (arith, passed.0); known = passed.1; whole = grind (arith, passed.2); same = passed.3 }
 
-packet_stays : (before : ℕ) (xs ys : List ℕ) (b s : ℕ) → packet_in before xs ≡ Packet b s → packet_in before (xs ++ ys) ≡ Packet b s
+pub packet_stays : (before : ℕ) (xs ys : List ℕ) (b s : ℕ) → packet_in before xs ≡ Packet b s → packet_in before (xs ++ ys) ≡ Packet b s
 packet_stays before xs ys b s is =
     let there : IsThere before xs b s = is_there before xs b s is in
     let long : length (xs ++ ys) ≡ length xs + length ys = length-append xs ys in
@@ -112,11 +112,11 @@ front_passed b s count true some marked with_marker plain is = cc
 front_passed b s count false true marked with_marker plain is = cc
 front_passed b s count false false marked with_marker plain is = (refl, refl, is)
 
-none_of : (n : ℕ) → nat_lt 0 n ≡ false → n ≡ 0
+pub none_of : (n : ℕ) → nat_lt 0 n ≡ false → n ≡ 0
 none_of zero is = refl
 none_of (suc n) is = let more : nat_lt 0 (suc n) ≡ true = grind arith in absurd (true≢false (sym more ∙ is))
 
-not_none : (n : ℕ) → 0 < n → (n == 0) ≡ false
+pub not_none : (n : ℕ) → 0 < n → (n == 0) ≡ false
 not_none n some = grind (arith, some)
 
 pub front_stays : (marked : Bool) (xs ys : List ℕ) (b s : ℕ) → front_in marked xs ≡ Packet b s → front_in marked (xs ++ ys) ≡ Packet b s
@@ -155,12 +155,12 @@ gap_in_front marked xs some =
 
 -- ---- how long it is
 
-abbrev number_of : ArchiveFront → ℕ × ℕ
+abbrev pub number_of : ArchiveFront → ℕ × ℕ
 number_of (Gap size) = (0, size)
 number_of (Packet b s) = (b, s)
 number_of front = (0, 0)
 
-packet_bounds : (before : ℕ) (bytes : List ℕ) (b s : ℕ) → packet_in before bytes ≡ Packet b s → (b ≡ before) × (7 ≤ s) × (s ≤ length bytes)
+pub packet_bounds : (before : ℕ) (bytes : List ℕ) (b s : ℕ) → packet_in before bytes ≡ Packet b s → (b ≡ before) × (7 ≤ s) × (s ≤ length bytes)
 packet_bounds before bytes b s is =
     let there : IsThere before bytes b s = is_there before bytes b s is in
     let same : packet_size bytes ≡ s = ap (λ f. (number_of f).1) there.same in
@@ -201,7 +201,7 @@ marked_no_gap m true false marked packet p is = cc
 marked_no_gap m false begun true packet p is = p is
 marked_no_gap m false begun false packet p is = cc
 
-no_gap : (before : ℕ) (bytes : List ℕ) (m : ℕ) → packet_in before bytes ≢ Gap m
+pub no_gap : (before : ℕ) (bytes : List ℕ) (m : ℕ) → packet_in before bytes ≢ Gap m
 no_gap before bytes m = packet_no_gap before (packet_size bytes) m (nat_lt (length bytes) primary_header_size) (version bytes == 0) (nat_lt (length bytes) (packet_size bytes))
 
 pub gap_is : (marked : Bool) (xs : List ℕ) (n : ℕ) → front_in marked xs ≡ Gap n → (0 < zeros xs) × (zeros xs ≡ n)
@@ -210,3 +210,35 @@ gap_is marked xs n is =
     (λ m. marked_no_gap m (nat_lt (length xs) 4) (bytes_eq xs (take (length xs) marker)) (bytes_eq (take 4 xs) marker) (packet_in 4 (drop 4 xs)) (no_gap 4 (drop 4 xs) m))
     (λ m. no_gap 0 xs m) is in
     (grind (arith, passed.0), passed.1)
+
+-- ---- it is no skipped byte
+
+packet_no_stray : (before size : ℕ) (short known cut : Bool) →
+    (if short then Cut else if not known then Foreign else if cut then Cut else Packet before size) ≢ Stray
+packet_no_stray before size true known cut is = cc
+packet_no_stray before size false false cut is = cc
+packet_no_stray before size false true true is = cc
+packet_no_stray before size false true false is = cc
+
+pub no_stray : (before : ℕ) (bytes : List ℕ) → packet_in before bytes ≢ Stray
+no_stray before bytes = packet_no_stray before (packet_size bytes) (nat_lt (length bytes) primary_header_size) (version bytes == 0) (nat_lt (length bytes) (packet_size bytes))
+
+marked_no_stray : (short begun marked : Bool) (packet : ArchiveFront) → packet ≢ Stray →
+    (if short then (if begun then Cut else Unmarked) else if marked then packet else Unmarked) ≢ Stray
+marked_no_stray true true marked packet p is = cc
+marked_no_stray true false marked packet p is = cc
+marked_no_stray false begun true packet p is = p is
+marked_no_stray false begun false packet p is = cc
+
+front_tests : (count : ℕ) (none some marked : Bool) (with_marker plain : ArchiveFront) → with_marker ≢ Stray → plain ≢ Stray →
+    (if none then Over else if some then Gap count else if marked then with_marker else plain) ≢ Stray
+front_tests count true some marked with_marker plain p q is = cc
+front_tests count false true marked with_marker plain p q is = cc
+front_tests count false false true with_marker plain p q is = p is
+front_tests count false false false with_marker plain p q is = q is
+
+pub front_no_stray : (marked : Bool) (xs : List ℕ) → front_in marked xs ≢ Stray
+front_no_stray marked xs =
+    front_tests (zeros xs) (length xs == 0) (nat_lt 0 (zeros xs)) marked (marked_in xs) (packet_in 0 xs)
+    (marked_no_stray (nat_lt (length xs) 4) (bytes_eq xs (take (length xs) marker)) (bytes_eq (take 4 xs) marker) (packet_in 4 (drop 4 xs)) (no_stray 4 (drop 4 xs)))
+    (no_stray 0 xs)

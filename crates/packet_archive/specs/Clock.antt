@@ -1,21 +1,22 @@
 -- When a packet of an archive came, and which ticks come before it. This project's own.
-use Rattle.std.specs.Prelude.{ℕ, ◌+◌, ◌-◌, ◌*◌, ◌/◌, ◌%◌, Bool, not, ◌&&◌, ◌||◌, ◌==◌, List, length, nat_lt, nat_le, ◌<◌, IfSome, Option, Some, None, if◌then◌else◌}
+use Rattle.std.specs.Prelude.{ℕ, ◌+◌, ◌-◌, ◌*◌, ◌/◌, ◌%◌, ◌^◌, Bool, not, ◌&&◌, ◌||◌, ◌==◌, List, length, min, nat_lt, nat_le, ◌<◌, IfSome, Option, Some, None, if◌then◌else◌}
 use Rattle.lc_model.specs.Bytes.{u16_at, u32_at}
 use Rattle.lc_model.specs.Packet.{is_command}
 use Rattle.lc_model.specs.declared.record.Moment.{Moment}
 use Rattle.packet_archive.specs.declared.clock.Times.{Times}
 use Rattle.packet_archive.specs.declared.clock.Times.TheVariants.{Header, Steps}
 
--- where the clock stands: how many seconds lie between ticks (0: there are none), the last packet's moment, and the second of
--- the next tick, once a packet came
+-- where the clock stands: how many seconds lie between ticks (0: there are none), the last packet's moment, how many packets came,
+-- and the second of the next tick, once a packet came
 pub record Clocked : Type 0 where
   pub period : ℕ
   pub last : Moment
+  pub count : ℕ
   pub next : Option ℕ
 
 -- before the first packet
 abbrev pub stopped : ℕ → Clocked
-stopped period = record { period = period; last = record { seconds = 0; subseconds = 0 }; next = None }
+stopped period = record { period = period; last = record { seconds = 0; subseconds = 0 }; count = 0; next = None }
 
 -- the parts of a second
 abbrev pub parts : ℕ
@@ -29,19 +30,27 @@ seconds_end = 4294967296
 abbrev pub has_time : ℕ → ℕ → List ℕ → Bool
 has_time at epoch packet = not (is_command packet) && nat_le (at + 6) (length packet) && nat_le epoch (u32_at packet at)
 
--- the moment that is a step after this one
-abbrev pub later_by : Moment → Moment → Moment
-later_by step moment = record {
-  seconds = (moment.seconds + step.seconds + (moment.subseconds + step.subseconds) / parts) % seconds_end;
-  subseconds = (moment.subseconds + step.subseconds) % parts;
+-- the parts of a second in which a step is said
+abbrev pub millionths : ℕ
+millionths = 1000000
+
+-- the moment after this number of steps of so many millionths of a second: their product, rounded down once
+abbrev pub moment_after : ℕ → ℕ → Moment
+moment_after step steps = record {
+  seconds = steps * step / millionths % seconds_end;
+  subseconds = steps * step % millionths * parts / millionths;
 }
 
+-- the number of packets with the next one; it stops at 2^64 - 1
+abbrev pub next_count : ℕ → ℕ
+next_count count = min (count + 1) (2 ^ 64 - 1)
+
 -- The moment of the next packet: that of its secondary header, seconds since the epoch and the upper 16 bits of the part of a
--- second; where it has none, the moment of the packet before. Or, without times, a fixed step after it.
-abbrev pub moment_by : Times → Moment → List ℕ → Moment
-moment_by (Header at epoch) last packet =
-    if has_time at epoch packet then record { seconds = u32_at packet at - epoch; subseconds = u16_at packet (at + 4) } else last
-moment_by (Steps step) last packet = later_by step last
+-- second; where it has none, the moment of the packet before. Or, without times, that after as many steps as there are packets.
+abbrev pub moment_by : Times → Clocked → List ℕ → Moment
+moment_by (Header at epoch) clock packet =
+    if has_time at epoch packet then record { seconds = u32_at packet at - epoch; subseconds = u16_at packet (at + 4) } else clock.last
+moment_by (Steps step) clock packet = moment_after step (next_count clock.count)
 
 -- how many ticks are due up to this second, where the next one is at that second and one comes every `period` seconds
 abbrev pub ticks_due : ℕ → Option ℕ → ℕ → ℕ

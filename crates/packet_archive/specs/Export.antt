@@ -1,5 +1,5 @@
 -- What an export writes: the packets that a stream brings, one behind the other. This project's own.
-use Rattle.std.specs.Prelude.{◌≡◌, ℕ, zero, suc, ◌+◌, ◌<◌, Bool, true, false, List, [], ◌∷◌, ◌++◌, length, take, drop, flat_map, map, slice_index, Option, Some, None, if◌then◌else◌}
+use Rattle.std.specs.Prelude.{◌≡◌, ℕ, zero, suc, ◌+◌, ◌<◌, Bool, true, false, List, [], ◌∷◌, ◌++◌, length, take, drop, flat_map, map, slice_index, Option, Some, None}
 use Rattle.std.specs.List.{AllByRecursion, concat, filter}
 use Rattle.lc_model.specs.Host.Stream.{Contents, StreamEntry, Whole, all_kinds, records_of}
 use Rattle.lc_model.specs.Host.Stream as stream
@@ -13,12 +13,13 @@ use Rattle.packet_archive.specs.declared.choice.Fate.{Fate}
 use Rattle.packet_archive.specs.declared.choice.Fate.TheVariants.{Kept}
 use Rattle.packet_archive.specs.declared.clock.Times.{Times}
 use Rattle.packet_archive.specs.declared.front.ArchiveFront.{ArchiveFront}
-use Rattle.packet_archive.specs.declared.front.ArchiveFront.TheVariants.{Gap, Packet}
+use Rattle.packet_archive.specs.declared.front.ArchiveFront.TheVariants.{Gap, Stray, Packet}
+use Rattle.packet_archive.specs.declared.front.Resync.{Resync}
 use Rattle.packet_archive.specs.declared.import.Met.{Met}
 use Rattle.packet_archive.specs.declared.import.Met.TheVariants.{Leap}
 use Rattle.packet_archive.specs.Choice.{fate_of}
 use Rattle.packet_archive.specs.Clock.{Clocked}
-use Rattle.packet_archive.specs.Front.{front_in, marker}
+use Rattle.packet_archive.specs.Front.{before_each, front_by}
 use Rattle.packet_archive.specs.Import.{Asking, Imported, imported}
 
 -- ---- what an export writes
@@ -74,16 +75,18 @@ ExportsInPieces = (first next : List ℕ) → exported (first ++ next) ≡ expor
 abbrev pub packets_by : (List ℕ → List (List ℕ)) → List ℕ → ArchiveFront → List (List ℕ)
 packets_by others bytes (Packet before size) = take size (drop before bytes) ∷ others (drop (before + size) bytes)
 packets_by others bytes (Gap size) = others (drop size bytes)
+packets_by others bytes Stray = others (drop 1 bytes)
 packets_by others bytes front = []
 
--- at most this number of packets and gaps of zeros
-unfoldable pub packets_within : ℕ → Bool → List ℕ → List (List ℕ)
-packets_within zero marked bytes = []
-packets_within (suc most) marked bytes = packets_by (packets_within most marked) bytes (front_in marked bytes)
+-- at most this number of packets, gaps of zeros, and bytes that are skipped
+unfoldable pub packets_within : ℕ → Resync → Bool → List ℕ → List (List ℕ)
+packets_within zero resync marked bytes = []
+packets_within (suc most) resync marked bytes = packets_by (packets_within most resync marked) bytes (front_by resync marked bytes)
 
--- the packets of an archive in order, up to where no whole packet stands
-abbrev pub packets_in : Bool → List ℕ → List (List ℕ)
-packets_in marked bytes = packets_within (length bytes + 1) marked bytes
+-- The packets of an archive in order. Without resynchronizing they end where no whole packet stands; with it they are those at each
+-- place behind the packet before where a plausible packet begins.
+abbrev pub packets_in : Resync → Bool → List ℕ → List (List ℕ)
+packets_in resync marked bytes = packets_within (length bytes + 1) resync marked bytes
 
 -- whether a packet becomes a record
 abbrev pub keeps : Fate → Bool
@@ -92,7 +95,7 @@ keeps fate = false
 
 -- the packets of an archive that become records, one behind the other
 abbrev pub kept_in : Asking → List ℕ → List ℕ
-kept_in asking archive = concat (filter (λ packet. keeps (fate_of asking.chosen packet)) (packets_in asking.marked archive))
+kept_in asking archive = concat (filter (λ packet. keeps (fate_of asking.chosen packet)) (packets_in asking.resync asking.marked archive))
 
 -- whether an import stops at a packet that is too late
 abbrev pub is_leap_met : Met → Bool
@@ -120,11 +123,11 @@ ExportsGoOn = (first next : List ℕ) → (records_of any_text first).1 ≡ Whol
 
 -- an archive of these packets, each after a marker or not
 abbrev pub archive_of : Bool → List (List ℕ) → List ℕ
-archive_of marked packets = concat (map (λ packet. (if marked then marker else []) ++ packet) packets)
+archive_of marked packets = concat (map (λ packet. before_each marked ++ packet) packets)
 
 -- all that an archive holds is asked for
-abbrev pub all_of : Bool → Bool → Times → Asking
-all_of marked faulty times = record { marked = marked; chosen = record { idle = true; faulty = faulty; only = [] }; times = times }
+abbrev pub all_of : Bool → Resync → Bool → Times → Asking
+all_of marked resync faulty times = record { marked = marked; resync = resync; chosen = record { idle = true; faulty = faulty; only = [] }; times = times }
 
 -- bytes that are a packet without a fault
 pub record IsFine (packet : List ℕ) : Type 0 where
@@ -132,8 +135,9 @@ pub record IsFine (packet : List ℕ) : Type 0 where
   pub fault : stream_fault packet ≡ None
 
 -- An archive of packets without a fault, of which all are asked for, is given back byte for byte, without its markers: without
--- markers it is what it was.
+-- markers it is what it was. So it is with or without resynchronizing.
 abbrev pub ArchivesAreGivenBack : Type 0
-ArchivesAreGivenBack = (marked faulty : Bool) (times : Times) (clock : Clocked) (packets : List (List ℕ)) → AllByRecursion IsFine packets →
-    is_leap_met (imported (all_of marked faulty times) clock (archive_of marked packets)).met ≡ false →
-    exported (imported (all_of marked faulty times) clock (archive_of marked packets)).written ≡ concat packets
+ArchivesAreGivenBack = (marked : Bool) (resync : Resync) (faulty : Bool) (times : Times) (clock : Clocked) (packets : List (List ℕ)) →
+    AllByRecursion IsFine packets →
+    is_leap_met (imported (all_of marked resync faulty times) clock (archive_of marked packets)).met ≡ false →
+    exported (imported (all_of marked resync faulty times) clock (archive_of marked packets)).written ≡ concat packets

@@ -8,10 +8,12 @@ use Rattle.packet_archive.specs.declared.clock.Times.{Times}
 use Rattle.packet_archive.specs.declared.import.Met.{Met}
 use Rattle.packet_archive.specs.declared.import.Met.TheVariants.{Taken, LeftOut, Leap, Stands}
 use Rattle.packet_archive.specs.declared.front.ArchiveFront.{ArchiveFront}
-use Rattle.packet_archive.specs.declared.front.ArchiveFront.TheVariants.{Over, Gap, Cut, Packet}
+use Rattle.packet_archive.specs.declared.front.ArchiveFront.TheVariants.{Over, Gap, Cut, Stray, Packet}
+use Rattle.packet_archive.specs.declared.front.Resync.{Resync}
+use Rattle.packet_archive.specs.declared.front.Resync.TheVariants.{Never, Within, AtEnd}
 use Rattle.packet_archive.specs.Choice.{Chosen, fate_of}
-use Rattle.packet_archive.specs.Clock.{Clocked, moment_by, most_ticks, next_tick, ticks_due}
-use Rattle.packet_archive.specs.Front.{front_in}
+use Rattle.packet_archive.specs.Clock.{Clocked, moment_by, most_ticks, next_count, next_tick, ticks_due}
+use Rattle.packet_archive.specs.Front.{front_by}
 
 -- a record in bytes: its kind, its moment, the length of its body, and the body
 abbrev pub record_bytes : ℕ → Moment → List ℕ → List ℕ
@@ -46,11 +48,13 @@ records_at clock moment packet =
 
 -- the clock after the packet
 abbrev pub clock_at : Clocked → Moment → Clocked
-clock_at clock moment = record { period = clock.period; last = moment; next = next_tick clock.period clock.next moment.seconds }
+clock_at clock moment = record { period = clock.period; last = moment; count = next_count clock.count; next = next_tick clock.period clock.next moment.seconds }
 
--- the options of an import: whether the archive has markers, which packets become records, and the source of their times
+-- the options of an import: whether the archive has markers, what it does where no packet stands, which packets become records, and
+-- the source of their times
 pub record Asking : Type 0 where
   pub marked : Bool
+  pub resync : Resync
   pub chosen : Chosen
   pub times : Times
 
@@ -70,27 +74,32 @@ kept_at size clock moment packet =
     if is_leap clock moment then nothing Leap clock
     else record { met = Taken size; written = records_at clock moment packet; clock = clock_at clock moment }
 
--- a step with a packet, by what becomes of it
-abbrev pub by_fate : Fate → Asking → ℕ → Clocked → List ℕ → Step
-by_fate Kept asking size clock packet = kept_at size clock (moment_by asking.times clock.last packet) packet
-by_fate fate asking size clock packet = nothing (LeftOut size fate) clock
+-- a step with a packet after `before` bytes of its marker, by what becomes of it; `size` is its size with its marker
+abbrev pub by_fate : Fate → Asking → ℕ → ℕ → Clocked → List ℕ → Step
+by_fate Kept asking before size clock packet = kept_at size clock (moment_by asking.times clock packet) packet
+by_fate fate asking before size clock packet = nothing (LeftOut size before fate) clock
 
 -- a step, by what is in front
 abbrev pub by_front : ArchiveFront → Asking → Clocked → List ℕ → Step
 by_front (Packet before size) asking clock bytes =
     let packet : List ℕ = take size (drop before bytes) in
-    by_fate (fate_of asking.chosen packet) asking (before + size) clock packet
+    by_fate (fate_of asking.chosen packet) asking before (before + size) clock packet
 by_front front asking clock bytes = nothing (Stands front) clock
+
+-- what stands in front for an import
+abbrev pub front_for : Asking → List ℕ → ArchiveFront
+front_for asking bytes = front_by asking.resync asking.marked bytes
 
 -- what an import makes of what is in front
 abbrev pub next_step : Asking → Clocked → List ℕ → Step
-next_step asking clock bytes = by_front (front_in asking.marked bytes) asking clock bytes
+next_step asking clock bytes = by_front (front_for asking bytes) asking clock bytes
 
 -- the number of bytes that a step passes; none if the import stops there
 abbrev pub passed : Met → Option ℕ
 passed (Taken size) = Some size
-passed (LeftOut size fate) = Some size
+passed (LeftOut size before fate) = Some size
 passed (Stands (Gap size)) = Some size
+passed (Stands Stray) = Some 1
 passed met = None
 
 -- the state of an import: what it wrote, the clock, the rest of the archive, and what it met there
@@ -128,8 +137,21 @@ may_go_on (Stands Over) = true
 may_go_on (Stands Cut) = true
 may_go_on met = false
 
+-- the same options, but for what is done where no packet stands
+abbrev pub with_resync : Resync → Asking → Asking
+with_resync resync asking = record { marked = asking.marked; resync = resync; chosen = asking.chosen; times = asking.times }
+
+-- whether the next piece may be imported so after one that was imported so: as before, or as the last piece
+abbrev pub follows : Resync → Resync → Bool
+follows Never Never = true
+follows Within Within = true
+follows Within AtEnd = true
+follows first next = false
+
 -- an archive that comes in pieces becomes what it becomes as a whole: what is left of the first goes in front of the next
 abbrev pub ImportsInPieces : Type 0
-ImportsInPieces = (asking : Asking) (clock : Clocked) (first next : List ℕ) → may_go_on (imported asking clock first).met ≡ true →
-    imported asking clock (first ++ next)
-    ≡ behind (imported asking clock first).written (imported asking (imported asking clock first).clock ((imported asking clock first).left ++ next))
+ImportsInPieces = (asking : Asking) (last : Resync) (clock : Clocked) (first next : List ℕ) →
+    follows asking.resync last ≡ true → may_go_on (imported asking clock first).met ≡ true →
+    imported (with_resync last asking) clock (first ++ next)
+    ≡ behind (imported asking clock first).written
+    (imported (with_resync last asking) (imported asking clock first).clock ((imported asking clock first).left ++ next))

@@ -4,6 +4,7 @@ use Rattle.packet_archive.specs.declared.front.ArchiveFront.TheVariants.{Cut, Fo
 use Rattle.packet_archive.specs.declared.import.Met.{Met}
 use Rattle.packet_archive.specs.declared.import.Met.TheVariants.{Leap, Stands}
 use Rattle.packet_archive.specs.declared.tally.Faulty.{Faulty}
+use Rattle.packet_archive.specs.declared.tally.SkippedPart.{SkippedPart}
 use Rattle.packet_archive.specs.declared.tally.Tally.{Tally}
 use Rattle.packet_archive.specs.Tally.{named}
 
@@ -36,6 +37,22 @@ fault_line name (Some f) = name ++ codes ": byte " ++ decimal f.at ++ codes ": a
 abbrev pub more_line : List ℕ → ℕ → List ℕ
 more_line name faulty = if nat_lt named faulty then name ++ codes ": and " ++ decimal (faulty - named) ++ codes " more\n" else []
 
+-- a part that was skipped: where it begins, and how many bytes it has
+abbrev pub part_line : List ℕ → Option SkippedPart → List ℕ
+part_line name None = []
+part_line name (Some part) =
+    name ++ codes ": byte " ++ decimal part.at ++ codes ": no plausible packet begins here; bytes skipped: " ++ decimal part.size ++ codes "\n"
+
+-- how many more parts there are than are named, and all that was skipped
+abbrev pub more_parts_line : List ℕ → ℕ → ℕ → List ℕ
+more_parts_line name parts skipped =
+    if nat_lt named parts then name ++ codes ": and " ++ decimal (parts - named) ++ codes " more such parts; bytes skipped in all: " ++ decimal skipped ++ codes "\n"
+    else []
+
+-- what was skipped
+abbrev pub skipped_lines : List ℕ → Tally → List ℕ
+skipped_lines name t = flat_map (part_line name) t.first_parts ++ more_parts_line name t.parts t.skipped
+
 -- where the first zero byte between packets stands, and how many there are
 abbrev pub zeros_line : List ℕ → Option ℕ → ℕ → List ℕ
 zeros_line name None count = []
@@ -61,4 +78,4 @@ packet_lines name t =
 
 -- all that is said of an archive of this name, by what was counted, what stands behind it, and how many bytes are left there
 abbrev pub report_lines : List ℕ → Tally → Met → ℕ → List ℕ
-report_lines name t met left = packet_lines name t ++ zeros_line name t.first_zero t.zeros ++ end_line name t.bytes left met
+report_lines name t met left = packet_lines name t ++ skipped_lines name t ++ zeros_line name t.first_zero t.zeros ++ end_line name t.bytes left met

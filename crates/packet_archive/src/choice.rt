@@ -48,7 +48,7 @@ impl<'a> Model for Choice<'a> {
 }
 
 /// Whether a packet is idle.
-fn is_idle(packet: &[u8]) -> bool
+pub(crate) fn is_idle(packet: &[u8]) -> bool
     requires { primary_header_size ≤ length packet.now }
     ensures { result ≡ is_idle packet.now }
 {

@@ -2,17 +2,18 @@
 
 ghost use Rattle.std.specs.Prelude.{◌≡◌, ◌≤◌, ◌<◌, length};
 ghost use Rattle.lc_model.specs.Packet.{primary_header_size};
-ghost use Rattle.packet_archive.specs.Clock.{has_time, later_by, moment_by, next_tick, stopped, ticks_due, IsNextTick};
+ghost use Rattle.packet_archive.specs.Clock.{has_time, moment_after, moment_by, next_count, next_tick, stopped, ticks_due, IsNextTick};
 
+use crate::front::COMMAND;
 use lc_model::packet::message_id;
 use lc_model::{Moment, SUBSECONDS, u16_at, u32_at};
 use std::marker::Model;
 
 /// The number of seconds at which the clock begins again from 0.
-const SECONDS_END: u64 = 4_294_967_296;
+const SECONDS_END: u128 = 4_294_967_296;
 
-/// The bit of a message id that makes a packet a command.
-const COMMAND: u16 = 0x1000;
+/// The parts of a second in which a step is said.
+const MILLIONTHS: u128 = 1_000_000;
 
 /// The source of the packets' times.
 #[derive(Clone, Copy, Debug, PartialEq, Eq)]
@@ -20,16 +21,18 @@ pub enum Times {
     /// Each telemetry packet itself: 4 bytes of seconds at byte `at`, less `epoch`, then 2 bytes of 65,536ths of a second, both big
     /// endian. A packet without such a time has that of the packet before it.
     Header { at: u16, epoch: u32 },
-    /// No times in the packets: each packet comes `step` after the one before.
-    Steps { step: Moment },
+    /// No times in the packets: each comes `step` millionths of a second after the one before, the first after one step. Its moment is
+    /// the number of packets times the step, rounded down once to 65,536ths of a second.
+    Steps { step: u64 },
 }
 
-/// The clock of an import: the seconds between ticks (0: no ticks), the last packet's moment, and the second of the next tick, which
-/// is set by the first packet.
+/// The clock of an import: the seconds between ticks (0: no ticks), the last packet's moment, the number of packets, and the second of
+/// the next tick, which is set by the first packet.
 #[derive(Debug, Drop)]
 pub struct Clock {
     pub(crate) period: u32,
     pub(crate) last: Moment,
+    pub(crate) count: u64,
     pub(crate) next: Option<u64>,
 }
 
@@ -38,7 +41,7 @@ impl Model for Clock {
 
     ghost Value = { Clocked };
 
-    ghost view = { λ c. record { period = c.period; last = c.last; next = c.next } };
+    ghost view = { λ c. record { period = c.period; last = c.last; count = c.count; next = c.next } };
 
     ghost invariant = { λ c. IsNextTick c.period c.next };
 }
@@ -54,6 +57,7 @@ impl Clock {
                 seconds: 0,
                 subseconds: 0,
             },
+            count: 0,
             next: None,
         }
     }
@@ -71,38 +75,42 @@ fn has_time(at: usize, epoch: u32, packet: &[u8]) -> bool
     epoch <= u32_at(packet, at)
 }
 
-/// The moment that is `step` after this one; seconds begin again from 0 at 2^32.
-fn later_by(step: Moment, moment: Moment) -> Moment
-    ensures { result ≡ later_by step moment }
+/// The moment after this number of steps of so many millionths of a second; seconds begin again from 0 at 2^32.
+fn moment_after(step: u64, steps: u64) -> Moment
+    ensures { result ≡ moment_after step steps }
 {
-    let parts = u32::from(moment.subseconds) + u32::from(step.subseconds);
-    let seconds = u64::from(moment.seconds)
-        + u64::from(step.seconds)
-        + u64::from(parts / SUBSECONDS);
+    let elapsed = u128::from(steps) * u128::from(step);
     Moment {
-        seconds: (seconds % SECONDS_END) as u32,
-        subseconds: (parts % SUBSECONDS) as u16,
+        seconds: (elapsed / MILLIONTHS % SECONDS_END) as u32,
+        subseconds: (elapsed % MILLIONTHS * u128::from(SUBSECONDS) / MILLIONTHS) as u16,
     }
 }
 
+/// The number of packets with the next one; it stops at 2^64 - 1.
+pub(crate) fn next_count(count: u64) -> u64
+    ensures { result ≡ next_count count }
+{
+    count.saturating_add(1)
+}
+
 impl Times {
-    /// The moment of a packet after one at `last`. With `Header`, a packet without a time of its own has the moment `last`.
-    pub fn moment_of(self, last: Moment, packet: &[u8]) -> Moment
+    /// The moment of the next packet. With `Header`, a packet without a time of its own has the moment of the last one.
+    pub fn moment_of(self, clock: &Clock, packet: &[u8]) -> Moment
         requires header { primary_header_size ≤ length packet.now }
-        ensures exact { result ≡ moment_by self last packet.now }
+        ensures exact { result ≡ moment_by self clock.now packet.now }
     {
         match self {
             Times::Header { at, epoch } => {
                 let at = usize::from(at);
                 if !has_time(at, epoch, packet) {
-                    return last;
+                    return clock.last;
                 }
                 Moment {
                     seconds: u32_at(packet, at) - epoch,
                     subseconds: u16_at(packet, at + 4),
                 }
             }
-            Times::Steps { step } => later_by(step, last),
+            Times::Steps { step } => moment_after(step, next_count(clock.count)),
         }
     }
 }

@@ -8,8 +8,8 @@ ghost use Rattle.packet_archive.specs.Import.{kept_at, imported, next_step, pass
 ghost use Rattle.packet_archive.specs.Tally.{tallied};
 
 use crate::choice::{Choice, Fate};
-use crate::clock::{Clock, Times, next_tick, ticks_due};
-use crate::front::{ArchiveFront, front_of};
+use crate::clock::{Clock, Times, next_count, next_tick, ticks_due};
+use crate::front::{ArchiveFront, Resync, front_by};
 use crate::record::push_record;
 use crate::tally::Tally;
 use lc_model::Moment;
@@ -31,8 +31,9 @@ impl Met {
         ensures { result ≡ passed self }
     {
         match self {
-            Met::Taken(size) | Met::LeftOut(size, _) => Some(size),
+            Met::Taken(size) | Met::LeftOut { size, .. } => Some(size),
             Met::Stands(ArchiveFront::Gap { size }) => Some(size),
+            Met::Stands(ArchiveFront::Stray) => Some(1),
             Met::Stands(_) | Met::Leap => None,
         }
     }
@@ -62,6 +63,8 @@ fn push_ticks(out: &mut Vec<u8>, period: u32, first: u64, second: u32) -> Result
 pub struct ImportOptions<'a> {
     /// Whether a marker stands before each packet.
     pub marked: bool,
+    /// What it does where no packet is in front.
+    pub resync: Resync,
     /// Which packets become records.
     pub choice: Choice<'a>,
     /// The source of the packets' times.
@@ -73,7 +76,7 @@ impl<'a> Model for ImportOptions<'a> {
 
     ghost Value = { Asking };
 
-    ghost view = { λ a. record { marked = a.marked; chosen = a.choice; times = a.times } };
+    ghost view = { λ a. record { marked = a.marked; resync = a.resync; chosen = a.choice; times = a.times } };
 }
 
 /// What one step of an import met at the front of the rest of an archive.
@@ -81,8 +84,12 @@ impl<'a> Model for ImportOptions<'a> {
 pub enum Met {
     /// A packet that became a record, and its size in bytes with its marker.
     Taken(usize),
-    /// A packet that was left out: its size in bytes with its marker, and why.
-    LeftOut(usize, Fate),
+    /// A packet that was left out: its size in bytes with its marker, the size of its marker, and why.
+    LeftOut {
+        size: usize,
+        before: usize,
+        fate: Fate,
+    },
     /// A packet so late that more than 86,400 ticks would come before it. Nothing was written for it.
     Leap,
     /// Not a whole packet: what is there instead.
@@ -111,15 +118,15 @@ fn keep(
 ) -> Result<Met, AllocError>
     requires header { primary_header_size ≤ length packet.now }
     requires fits { length packet.now ≤ max_body }
-    ensures met { let moment = moment_by times clock.old.last packet.now in
+    ensures met { let moment = moment_by times clock.old packet.now in
         IfOk result (λ met. met ≡ (kept_at size clock.old moment packet.now).met) }
-    ensures written { let moment = moment_by times clock.old.last packet.now in
+    ensures written { let moment = moment_by times clock.old packet.now in
         IfOk result (λ _. out.new.items ≡
         out.old.items ++ (kept_at size clock.old moment packet.now).written) }
-    ensures clock { let moment = moment_by times clock.old.last packet.now in
+    ensures clock { let moment = moment_by times clock.old packet.now in
         IfOk result (λ _. clock.new ≡ (kept_at size clock.old moment packet.now).clock) }
 {
-    let moment = times.moment_of(clock.last, packet);
+    let moment = times.moment_of(clock, packet);
     if ticks_due(clock.period, clock.next, moment.seconds) > MOST_TICKS {
         return Ok(Met::Leap);
     }
@@ -127,6 +134,7 @@ fn keep(
     push_record(out, PACKET, moment, packet)?;
     clock.next = next_tick(clock.period, clock.next, moment.seconds);
     clock.last = moment;
+    clock.count = next_count(clock.count);
     Ok(Met::Taken(size))
 }
 
@@ -146,7 +154,7 @@ pub fn import_next(
         (λ _. clock.new ≡ (next_step asked.now clock.old bytes.now).clock) }
     ensures inside { IfOk result (λ met. IfSome (passed met) (λ size. size ≤ length bytes.now)) }
 {
-    match front_of(asked.marked, bytes) {
+    match front_by(asked.resync, asked.marked, bytes) {
         ArchiveFront::Packet { before, size } => {
             let (_, behind) = bytes.split_at(before);
             let (packet, _) = behind.split_at(size);
@@ -155,7 +163,11 @@ pub fn import_next(
                     let met = keep(out, clock, asked.times, before + size, packet)?;
                     Ok(met)
                 }
-                fate => Ok(Met::LeftOut(before + size, fate)),
+                fate => Ok(Met::LeftOut {
+                    size: before + size,
+                    before,
+                    fate,
+                }),
             }
         }
         front => Ok(Met::Stands(front)),
@@ -163,7 +175,8 @@ pub fn import_next(
 }
 
 /// Imports packet after packet from these bytes until a step passes no bytes (`size_behind`): at the end, a packet cut short, bytes
-/// that aren't a packet, or a `Leap`. Returns the bytes that are left and what was met there. The only error is a lack of memory.
+/// that aren't a packet and aren't skipped, or a `Leap`. Returns the bytes that are left and what was met there. The only error is a
+/// lack of memory.
 pub fn import_held<'a>(
     out: &mut Vec<u8>,
     clock: &mut Clock,

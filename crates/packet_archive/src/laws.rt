@@ -2,10 +2,17 @@
 
 ghost use Rattle.packet_archive.specs.Export.{ArchivesAreGivenBack, ExportsGoOn, ExportsInPieces, ImportsAreGivenBack};
 ghost use Rattle.packet_archive.specs.Import.{ImportsInPieces};
+ghost use Rattle.packet_archive.specs.Parts.{EachByteHasAPlace};
 
 /// States that an archive imported in pieces gives the same stream as a whole, if the rest of each piece goes before the next.
 pub fn imports_in_pieces()
     ensures { ImportsInPieces }
+{}
+
+/// States that each byte of an archive is in a packet, a gap of zeros or a skipped part, or is left; and that an import that
+/// resynchronizes leaves none at an archive's end, unless a packet is too late.
+pub fn imports_lose_no_byte()
+    ensures { EachByteHasAPlace }
 {}
 
 /// States that the export of streams one after the other is the exports of each, one after the other.
@@ -23,7 +30,8 @@ pub fn imports_are_given_back()
     ensures { ImportsAreGivenBack }
 {}
 
-/// States that an archive of packets without a fault, wholly imported and exported again, is the same packets byte for byte.
+/// States that an archive of packets without a fault, wholly imported and exported again, is the same packets byte for byte, also if
+/// the import resynchronizes.
 pub fn archives_are_given_back()
     ensures { ArchivesAreGivenBack }
 {}

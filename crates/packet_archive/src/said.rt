@@ -1,11 +1,11 @@
 //! The report of an import, in lines.
 
 ghost use Rattle.std.specs.Prelude.{Some, flat_map};
-ghost use Rattle.packet_archive.specs.Said.{end_line, fault_line, fault_words, left_out_words, more_line, packet_lines, report_lines, taken_line, zeros_line};
+ghost use Rattle.packet_archive.specs.Said.{end_line, fault_line, fault_words, left_out_words, more_line, more_parts_line, packet_lines, part_line, report_lines, skipped_lines, taken_line, zeros_line};
 
 use crate::front::ArchiveFront;
 use crate::import::Met;
-use crate::tally::{Faulty, NAMED, Tally};
+use crate::tally::{Faulty, NAMED, SkippedPart, Tally};
 use std::fmt::{self, Display, Formatter, Write};
 
 /// What is wrong with a packet by its fault's number.
@@ -139,6 +139,106 @@ impl Display for MoreLine<'_> {
     }
 }
 
+/// The line of a part that was skipped; empty for `None`.
+#[derive(Clone, Copy)]
+struct PartLine<'a> {
+    name: &'a str,
+    part: Option<SkippedPart>,
+}
+
+impl Display for PartLine<'_> {
+    ghost output = { λ l. Some (part_line l.name.now l.part) };
+
+    fn fmt<W: Write>(&self, f: &mut Formatter<W>) -> fmt::Result {
+        let name = self.name;
+        match self.part {
+            Some(part) => {
+                let at = part.at;
+                let size = part.size;
+                write!(
+                    f,
+                    "{name}: byte {at}: no plausible packet begins here; bytes skipped: {size}\n"
+                )
+            }
+            None => Ok(()),
+        }
+    }
+}
+
+/// The lines of the first parts that were skipped.
+#[derive(Clone, Copy)]
+struct PartLines<'a> {
+    name: &'a str,
+    first: &'a [Option<SkippedPart>],
+}
+
+impl Display for PartLines<'_> {
+    ghost output = { λ l. Some (flat_map (part_line l.name.now) l.first.now) };
+
+    fn fmt<W: Write>(&self, f: &mut Formatter<W>) -> fmt::Result {
+        for part in self.first {
+            let line = PartLine {
+                name: self.name,
+                part: *part,
+            };
+            write!(f, "{line}")?;
+        }
+        Ok(())
+    }
+}
+
+/// The line with the number of skipped parts that aren't named.
+#[derive(Clone, Copy)]
+struct MorePartsLine<'a> {
+    name: &'a str,
+    parts: u64,
+    skipped: u64,
+}
+
+impl Display for MorePartsLine<'_> {
+    ghost output = { λ l. Some (more_parts_line l.name.now l.parts l.skipped) };
+
+    fn fmt<W: Write>(&self, f: &mut Formatter<W>) -> fmt::Result {
+        let name = self.name;
+        let skipped = self.skipped;
+        if self.parts > NAMED as u64 {
+            let more = self.parts - NAMED as u64;
+            write!(
+                f,
+                "{name}: and {more} more such parts; bytes skipped in all: {skipped}\n"
+            )
+        } else {
+            Ok(())
+        }
+    }
+}
+
+/// The lines about what was skipped.
+#[derive(Clone, Copy)]
+struct SkippedLines<'a> {
+    name: &'a str,
+    tally: &'a Tally,
+}
+
+impl Display for SkippedLines<'_> {
+    ghost output = { λ l. Some (skipped_lines l.name.now l.tally.now) };
+
+    fn fmt<W: Write>(&self, f: &mut Formatter<W>) -> fmt::Result {
+        let name = self.name;
+        let tally = self.tally;
+        let parts = PartLines {
+            name,
+            first: &tally.first_parts,
+        };
+        let more = MorePartsLine {
+            name,
+            parts: tally.parts,
+            skipped: tally.skipped,
+        };
+        write!(f, "{parts}{more}")
+    }
+}
+
 /// The zero bytes between packets.
 #[derive(Clone, Copy)]
 struct ZerosLine<'a> {
@@ -235,8 +335,8 @@ impl Display for PacketLines<'_> {
     }
 }
 
-/// The report of an import. It displays as lines: how many packets were taken and left out, the first packets with a fault, the first
-/// zero bytes, and where the archive ends early.
+/// The report of an import. It displays as lines: how many packets were taken and left out, the first packets with a fault, what was
+/// skipped, the first zero bytes, and where the archive ends early.
 #[derive(Drop)]
 pub struct Report<'a> {
     /// The archive's name.
@@ -256,6 +356,7 @@ impl Display for Report<'_> {
         let name = self.name;
         let tally = self.tally;
         let packets = PacketLines { name, tally };
+        let skipped = SkippedLines { name, tally };
         let zeros = ZerosLine {
             name,
             first: tally.first_zero,
@@ -267,6 +368,6 @@ impl Display for Report<'_> {
             left: self.left,
             met: self.met,
         };
-        write!(f, "{packets}{zeros}{end}")
+        write!(f, "{packets}{skipped}{zeros}{end}")
     }
 }

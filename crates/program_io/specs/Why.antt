@@ -4,7 +4,7 @@ use Rattle.std.specs.Fmt.{decimal}
 use Rattle.std_io.specs.declared.io.kind.ErrorKind.{ErrorKind}
 use Rattle.std_io.specs.declared.io.kind.ErrorKind.TheVariants as kind
 use Rattle.program_io.specs.declared.why.Why.{Why}
-use Rattle.program_io.specs.declared.why.Why.TheVariants.{NotThere, NotAllowed, Folder, NoFolder, Full, Itself, TooLong, Failed}
+use Rattle.program_io.specs.declared.why.Why.TheVariants.{NotThere, NotAllowed, Folder, NoFolder, Full, Itself, Nowhere, Loop, NotOwn, NoStream, TooLong, Failed}
 use Rattle.program_io.specs.declared.why.FileFault.{FileFault}
 use Rattle.program_io.specs.declared.why.FileFault.TheVariants.{Memory, Unusable}
 
@@ -18,6 +18,7 @@ why_of kind.NotADirectory = NoFolder
 why_of kind.StorageFull = Full
 why_of kind.QuotaExceeded = Full
 why_of kind.FileTooLarge = Full
+why_of kind.FilesystemLoop = Loop
 why_of rest = Failed
 
 -- want of memory is no fault of the file
@@ -33,5 +34,9 @@ reason Folder = codes "it is a folder"
 reason NoFolder = codes "what stands before its last / is no folder"
 reason Full = codes "the device is full"
 reason Itself = codes "the same call reads it, or writes it twice"
+reason Nowhere = codes "it is a link that leads nowhere"
+reason Loop = codes "it is a link that leads back to itself"
+reason NotOwn = codes "another user owns it"
+reason NoStream = codes "it is no stream, and the last name is the stream's"
 reason (TooLong most) = codes "it has more than " ++ (decimal most ++ codes " bytes")
 reason Failed = codes "it failed"

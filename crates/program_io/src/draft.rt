@@ -1,11 +1,10 @@
 //! Files that are written under a temporary name and renamed at the end.
 
+use crate::leftover::{draft_name, own_process, own_user, remove_leftovers};
 use crate::why::{FileFault, Why, fault_of};
 use std::fs::{self, File, Files, Metadata, OpenFile};
-use std::io::ErrorKind;
-
-/// The most temporary names that are tried.
-const TRIES: u32 = 100;
+use std::io::{self, ErrorKind};
+use std::os::unix::fs::MetadataExt;
 
 /// The temporary name of a file, and the name that it gets at the end.
 #[derive(Drop)]
@@ -23,41 +22,29 @@ pub struct Draft<F: Drop> {
     names: Option<DraftNames>,
 }
 
-/// The name that a link leads to; this name if it leads nowhere.
+/// The name that a link leads to.
 fn target_of<R: Files + AllocGlobal>(rt: &R, name: &str) -> Result<String, FileFault> {
     match fs::canonicalize(rt, name) {
         Ok(path) => Ok(path.into_string()),
-        Err(_) => String::from_str(rt.alloc(), name).map_err(|_| FileFault::Memory),
-    }
-}
-
-/// A new file with temporary name `number`; `None` if that name is taken.
-fn new_beside<R: Files + AllocGlobal>(
-    rt: &R,
-    own: &str,
-    number: u32,
-) -> Result<Option<(R::File, String)>, FileFault> {
-    let Ok(beside) = format!(in rt.alloc(); "{own}.part{number}") else {
-        return Err(FileFault::Memory);
-    };
-    match File::create_new(rt, beside.as_str()) {
-        Ok(file) => Ok(Some((file, beside))),
-        Err(error) if error.kind() == ErrorKind::AlreadyExists => Ok(None),
         Err(error) => Err(fault_of(&error)),
     }
 }
 
-/// A draft under the first free temporary name.
+/// A draft of the file `own`, under a name with this process's number; drafts that killed calls of this user left there are removed.
 fn beside<R: Files + AllocGlobal>(rt: &R, own: String) -> Result<Draft<R::File>, FileFault> {
-    for number in 0..TRIES {
-        if let Some((file, beside)) = new_beside(rt, own.as_str(), number)? {
-            return Ok(Draft {
-                file,
-                names: Some(DraftNames { beside, own }),
-            });
-        }
+    remove_leftovers(rt, own.as_str());
+    let process = own_process(rt);
+    let number = process.as_ref().map_or("0", |number| number.as_str());
+    let Ok(beside) = draft_name(rt.alloc(), own.as_str(), number) else {
+        return Err(FileFault::Memory);
+    };
+    match File::create_new(rt, beside.as_str()) {
+        Ok(file) => Ok(Draft {
+            file,
+            names: Some(DraftNames { beside, own }),
+        }),
+        Err(error) => Err(fault_of(&error)),
     }
-    Err(FileFault::Unusable(Why::Failed))
 }
 
 /// A draft of a device or a pipe, which is written directly.
@@ -68,12 +55,15 @@ fn as_it_stands<R: Files>(rt: &R, name: &str) -> Result<Draft<R::File>, FileFaul
     }
 }
 
-/// A draft for a file that exists, with its permissions if the system allows that.
+/// A draft for a file that exists, with its permissions if the system allows that. Error: `NotOwn` for another user's file.
 fn beside_old<R: Files + AllocGlobal>(
     rt: &R,
     name: &str,
     old: &Metadata,
 ) -> Result<Draft<R::File>, FileFault> {
+    if own_user(rt).is_some_and(|user| user != old.uid()) {
+        return Err(FileFault::Unusable(Why::NotOwn));
+    }
     let draft = beside(rt, target_of(rt, name)?)?;
     if let Some(names) = &draft.names {
         let _allowed = fs::set_permissions(rt, names.beside.as_str(), old.permissions());
@@ -81,13 +71,33 @@ fn beside_old<R: Files + AllocGlobal>(
     Ok(draft)
 }
 
-/// Begins a file that gets this name at the end. Errors are of the system, `Folder` for a folder's name, and a lack of memory.
+/// A draft for a name that the system finds no file for, with this error. Errors: `Nowhere` for a link that leads nowhere; those of the
+/// system.
+fn beside_none<R: Files + AllocGlobal>(
+    rt: &R,
+    name: &str,
+    error: &io::Error,
+) -> Result<Draft<R::File>, FileFault> {
+    if error.kind() != ErrorKind::NotFound {
+        return Err(fault_of(error));
+    }
+    match fs::symlink_metadata(rt, name) {
+        Ok(_) => Err(FileFault::Unusable(Why::Nowhere)),
+        Err(_) => match String::from_str(rt.alloc(), name) {
+            Ok(own) => beside(rt, own),
+            Err(_) => Err(FileFault::Memory),
+        },
+    }
+}
+
+/// Begins a file that gets this name at the end. Errors are of the system, `Folder` for a folder's name, `Nowhere` and `Loop` for a link
+/// that leads to no file, `NotOwn` for another user's file, and a lack of memory.
 pub fn begin<R: Files + AllocGlobal>(rt: &R, name: &str) -> Result<Draft<R::File>, FileFault> {
     match fs::metadata(rt, name) {
         Ok(there) if there.is_dir() => Err(FileFault::Unusable(Why::Folder)),
         Ok(there) if there.is_file() => beside_old(rt, name, &there),
         Ok(_) => as_it_stands(rt, name),
-        Err(_) => beside(rt, target_of(rt, name)?),
+        Err(error) => beside_none(rt, name, &error),
     }
 }
 

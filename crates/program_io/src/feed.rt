@@ -3,6 +3,7 @@
 use crate::error::{FileError, error_at};
 use crate::why::fault_of;
 use lc_model::stream::PIECE;
+use std::alloc::Global;
 use std::fs::{File, Files};
 use std::io::Read;
 
@@ -41,17 +42,22 @@ impl<'a, F: Read + Drop> Feed<'a, F> {
     }
 }
 
+/// What is read piece by piece from this reader; errors have this name.
+pub fn feed_over<F: Drop>(alloc: Global, name: &str, file: F) -> Feed<'_, F> {
+    Feed {
+        name,
+        file,
+        held: Vec::new(alloc),
+    }
+}
+
 /// Opens the file of this name; nothing of it is read yet.
 pub fn feed_of<'a, R: Files + AllocGlobal>(
     rt: &R,
     name: &'a str,
 ) -> Result<Feed<'a, R::File>, FileError<'a>> {
     match File::open(rt, name) {
-        Ok(file) => Ok(Feed {
-            name,
-            file,
-            held: Vec::new(rt.alloc()),
-        }),
+        Ok(file) => Ok(feed_over(rt.alloc(), name, file)),
         Err(error) => Err(error_at(name, fault_of(&error))),
     }
 }

@@ -4,12 +4,14 @@ use std::fs::{self, Files, Metadata};
 use std::os::unix::fs::MetadataExt;
 use std::path::{Path, PathBuf};
 
-/// Whether two files are the same regular file, by device and inode number.
+/// Whether two files are the same, by device and inode number.
+fn is_same(first: &Metadata, second: &Metadata) -> bool {
+    first.ino() != 0 && (first.dev(), first.ino()) == (second.dev(), second.ino())
+}
+
+/// Whether two files are the same regular file.
 fn is_one_node(first: &Metadata, second: &Metadata) -> bool {
-    first.is_file()
-        && second.is_file()
-        && first.ino() != 0
-        && (first.dev(), first.ino()) == (second.dev(), second.ino())
+    first.is_file() && second.is_file() && is_same(first, second)
 }
 
 /// The folder of a name, under its canonical name; `None` if there is none.
@@ -37,6 +39,14 @@ pub fn is_one_file<R: Files + AllocGlobal>(rt: &R, first: &str, second: &str) ->
     match (fs::metadata(rt, first), fs::metadata(rt, second)) {
         (Ok(one), Ok(other)) => is_one_node(&one, &other),
         (Err(_), Err(_)) => is_one_place(rt, first, second),
+        _ => false,
+    }
+}
+
+/// Whether a name is of the file, pipe or device that is standard output, as `/dev/stdout` is.
+pub fn is_standard_output<R: Files>(rt: &R, name: &str) -> bool {
+    match (fs::metadata(rt, name), fs::metadata(rt, "/dev/stdout")) {
+        (Ok(one), Ok(output)) => is_same(&one, &output),
         _ => false,
     }
 }

@@ -22,6 +22,14 @@ pub enum Why {
     Full,
     /// The same call also reads it, or writes it twice.
     Itself,
+    /// It is a link that leads nowhere.
+    Nowhere,
+    /// It is a link that leads back to itself.
+    Loop,
+    /// Another user owns it.
+    NotOwn,
+    /// It would be replaced by a stream, and it is none.
+    NoStream,
     /// It is longer than this greatest length for files of its kind, in bytes.
     TooLong(u64),
     /// It failed for another reason.
@@ -39,6 +47,10 @@ impl Display for Why {
             Why::NoFolder => write!(f, "what stands before its last / is no folder"),
             Why::Full => write!(f, "the device is full"),
             Why::Itself => write!(f, "the same call reads it, or writes it twice"),
+            Why::Nowhere => write!(f, "it is a link that leads nowhere"),
+            Why::Loop => write!(f, "it is a link that leads back to itself"),
+            Why::NotOwn => write!(f, "another user owns it"),
+            Why::NoStream => write!(f, "it is no stream, and the last name is the stream's"),
             Why::TooLong(most) => write!(f, "it has more than {most} bytes"),
             Why::Failed => write!(f, "it failed"),
         }
@@ -74,6 +86,7 @@ pub fn reason_for(kind: ErrorKind) -> Why
         ErrorKind::IsADirectory => Why::Folder,
         ErrorKind::NotADirectory => Why::NoFolder,
         ErrorKind::StorageFull | ErrorKind::QuotaExceeded | ErrorKind::FileTooLarge => Why::Full,
+        ErrorKind::FilesystemLoop => Why::Loop,
         _ => Why::Failed,
     }
 }

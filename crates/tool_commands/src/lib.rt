@@ -97,7 +97,9 @@ pub fn obey<'a, R: Files + Eprint + AllocGlobal, I: Read + Drop, W: Write>(
             check(rt, schedule, rules.as_slice(), asked, out)
         }
         CommandPlan::Explain { name } => explain(rt.alloc(), name, out),
-        CommandPlan::Import { files, how } => file_commands::import(rt, files.as_slice(), how, out),
+        CommandPlan::Import { files, how } => {
+            file_commands::import(rt, files.as_slice(), how, input, out)
+        }
         CommandPlan::Export { stream, raw } => file_commands::export(rt, stream, raw),
         CommandPlan::Compare {
             schedule,

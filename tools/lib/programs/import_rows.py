@@ -1,8 +1,8 @@
 """`flight_tools import` and `export`: archives of space packets, whole and with every kind of damage, and the streams that they
 become."""
 
-from row import Row
-from tool_rows import NOT_THERE
+from row import GONE, Has, Link, Row
+from tool_rows import BUS_STREAM, FULL, NOT_THERE
 
 MARKER = bytes([0x1A, 0xCF, 0xFC, 0x1D])
 
@@ -94,12 +94,124 @@ def start_of(text):
     return half(b"/cf/lc_def_wdt.tbl", 1, text) + half(b"/cf/lc_def_adt.tbl", 2, text) + started(b"LC") + started(b"SCH")
 
 
+STRAY = b"\xAA\xBB\xCC"
+RESYNC = [*IMPORT, "--resync"]
+# A header that says 65,542 bytes, and one of version 0 that says 2,000; both are those of no packet.
+FALSE_LONG = bytes([0x08, 0x83, 0xC0, 1, 0xFF, 0xFF])
+FALSE_PART = bytes([0x08, 0x83, 0x41, 1, 0x07, 0xC9])
+# A plausible header of 2,000 bytes of which the archive has fewer.
+CUT = bytes([0x08, 0x83, 0xC0, 1, 0x07, 0xC9])
+
+
+def skipped(name, at, size):
+    return line(name, at, f"no plausible packet begins here; bytes skipped: {size}")
+
+
+def resynced(title, raw, taken, said=b"", stream=STREAM, words=(), **others):
+    """An import that resynchronizes: its archive, the packets that it takes, and what it says of the rest."""
+    return Row(title, [*RESYNC, *words, "raw", "stream"], {"raw": raw}, output=counts("raw", taken) + said, after={"stream": stream}, **others)
+
+
+# Longer than a piece that is read at once: packets with stray bytes behind each 500, and once more than a piece of these.
+RUNS = [b"".join(telemetry(n, 100 + n // 10) for n in range(first, first + 500)) for first in range(0, 3_000, 500)]
+NOISE = STRAY * 7_000
+TORN = RUNS[0] + b"".join(STRAY + run for run in RUNS[1:]) + NOISE + PLAIN
+
+RESYNCED = [
+    resynced("stray bytes in the midst", b"".join(TEN[:3]) + STRAY + b"".join(TEN[3:]), 10, skipped("raw", 48, 3)),
+    resynced("stray bytes in front", STRAY + PLAIN, 10, skipped("raw", 0, 3)),
+    resynced("stray bytes behind zeros", bytes(4) + STRAY + PLAIN, 10, skipped("raw", 4, 3) + line("raw", 0, "zeros where a packet would begin, 4 in all")),
+    resynced("no stray bytes", PLAIN, 10),
+    resynced("nothing to resynchronize", b"", 0, stream=b""),
+    resynced("a header of a long packet that isn't there", FALSE_LONG + PLAIN, 10, skipped("raw", 0, 6)),
+    resynced("a header of a part of a packet", FALSE_PART + PLAIN, 10, skipped("raw", 0, 6)),
+    resynced("a plausible header of a packet that is not there as a whole", CUT + PLAIN, 10, skipped("raw", 0, 6)),
+    resynced(
+        "stray bytes with a zero among them, and zeros behind",
+        TEN[0] + b"\xAA\0\xBB" + bytes(5) + TEN[1],
+        2,
+        skipped("raw", 16, 8),
+        recorded(TEN[0], 100, 0x8000) + recorded(TEN[1], 101, 0x8000),
+    ),
+    resynced(
+        "a length that takes a byte of the next packet, which is skipped",
+        TOO_LONG + b"".join(TEN[1:]),
+        9,
+        skipped("raw", 17, 15),
+        recorded(TOO_LONG + TEN[1][:1], 100, 0x8000) + b"".join(recorded(TEN[n], 100 + n, 0x8000) for n in range(2, 10)),
+    ),
+    resynced("stray bytes behind the last packet, where the archive ends early", PLAIN + STRAY, 10, skipped("raw", 160, 3), status=4),
+    resynced("a packet that is cut at the end", PLAIN + TEN[0][:9], 10, skipped("raw", 160, 9), status=4),
+    resynced(
+        "stray bytes between markers, and a marker that is none",
+        STRAY + MARKER + TEN[0] + MARKER[:2] + STRAY + b"".join(MARKER + packet for packet in TEN[1:]),
+        10,
+        skipped("raw", 0, 3) + skipped("raw", 23, 5),
+        words=["--marked"],
+    ),
+    resynced("a missing marker", MARKER + TEN[0] + TEN[1] + MARKER + TEN[2], 2, skipped("raw", 20, 16), recorded(TEN[0], 100, 0x8000) + recorded(TEN[2], 102, 0x8000), ["--marked"]),
+    resynced(
+        "more than ten parts",
+        b"".join(STRAY + packet for packet in TEN + TEN[:2]),
+        12,
+        b"".join(skipped("raw", 19 * n, 3) for n in range(10)) + b"raw: and 2 more such parts; bytes skipped in all: 36\n",
+        STREAM + STREAM[: 2 * len(recorded(TEN[0], 100))],
+    ),
+    resynced(
+        "stray bytes in many pieces",
+        TORN,
+        3_010,
+        b"".join(skipped("raw", 8_000 * n + 3 * (n - 1), 3) for n in range(1, 6)) + skipped("raw", 48_015, 21_000),
+        MANY_STREAM + STREAM,
+    ),
+    Row(
+        "packets with a fault of their header are skipped, and the host's own are left out",
+        [*RESYNC, "raw", "stream"],
+        {"raw": PART + OWN + IDLE + TEN[0]},
+        output=counts("raw", 1, idle=1, faulty=1) + line("raw", 16, "a packet is left out: its message id is the host's own") + skipped("raw", 0, 16),
+        after={"stream": recorded(TEN[0], 100, 0x8000)},
+    ),
+]
+
+# What stands under the stream's name stays where it isn't replaced, and the reports go where the stream doesn't.
+STAYS = {"raw": PLAIN, "stream": BUS_STREAM}
+SAID = counts("raw", 10)
+
+PLACES = [
+    Row("a report that a full device doesn't take leaves the old stream", [*IMPORT, "raw", "stream"], STAYS, status=3, prints_to="/dev/full", error=b"cannot use standard output: %s\n" % FULL),
+    Row("a report that nobody reads, and the new stream", [*IMPORT, "raw", "stream"], STAYS, prints_to=GONE, after={"stream": STREAM}),
+    Row("a stream to standard output by its device's name", [*IMPORT, "raw", "/dev/stdout"], {"raw": PLAIN}, output=STREAM, error=SAID),
+    Row("a stream to standard output", [*IMPORT, "raw", "-"], {"raw": PLAIN}, output=STREAM, error=SAID),
+    Row("an archive from standard input", [*IMPORT, "-", "stream"], reads=PLAIN, output=counts("standard input", 10), after={"stream": STREAM}),
+    Row("from standard input to standard output", [*IMPORT, "-", "-"], reads=PLAIN, output=STREAM, error=counts("standard input", 10)),
+    Row("an archive behind standard input", [*IMPORT, "-", "raw", "-"], {"raw": OTHER}, reads=PLAIN, output=STREAM + recorded(OTHER, 200), error=counts("standard input", 10) + counts("raw", 1)),
+    Row("standard input twice", [*IMPORT, "-", "-", "stream"], reads=PLAIN, status=3, error=b"cannot use standard input: the same call reads it, or writes it twice\n"),
+    Row("a stream to a standard output that is full", [*IMPORT, "raw", "-"], {"raw": PLAIN}, status=3, prints_to="/dev/full", error=b"cannot use standard output: %s\n" % FULL),
+    Row("a file that is called -", [*IMPORT, "./-", "stream"], {"-": PLAIN}, output=counts("./-", 10), after={"stream": STREAM}),
+    *(
+        Row(
+            f"an archive in the stream's place: {title}",
+            [*IMPORT, "raw", "last"],
+            {"raw": PLAIN, "last": last},
+            status=3,
+            error=b"cannot use last: it is no stream, and the last name is the stream's\n",
+        )
+        for title, last in (("of packets", PLAIN), ("of a few bytes", tick(1)[:10]), ("of a command", COMMAND * 2))
+    ),
+    *(
+        Row(f"a file in the stream's place: {title}", [*IMPORT, "raw", "last"], {"raw": PLAIN, "last": last}, output=SAID, after={"last": STREAM})
+        for title, last in (("empty", b""), ("a tick", tick(1)), ("a stream that is cut", STREAM[:11]))
+    ),
+]
+
 ROWS = [
+    *RESYNCED,
+    *PLACES,
     Row("an archive", [*IMPORT, "raw", "stream"], {"raw": PLAIN}, output=counts("raw", 10), after={"stream": STREAM}),
     Row(
         "two archives, one behind the other, over an old stream",
         [*IMPORT, "first", "second", "stream"],
-        {"first": PLAIN, "second": OTHER, "stream": b"old"},
+        {"first": PLAIN, "second": OTHER, "stream": BUS_STREAM},
         output=counts("first", 10) + counts("second", 1),
         after={"stream": STREAM + recorded(OTHER, 200)},
     ),
@@ -143,6 +255,15 @@ ROWS = [
         {"raw": b"".join(MARKER + packet for packet in TEN)},
         output=counts("raw", 10),
         after={"stream": STREAM},
+    ),
+    Row(
+        "packets with a fault behind markers, named by their first bytes",
+        [*IMPORT, "--marked", "raw", "stream"],
+        {"raw": MARKER + TEN[0] + MARKER + SHORT + MARKER + OWN + MARKER + TEN[1]},
+        output=counts("raw", 2, faulty=2)
+        + line("raw", 24, "a packet is left out: it is shorter than its headers")
+        + line("raw", 35, "a packet is left out: its message id is the host's own"),
+        after={"stream": recorded(TEN[0], 100, 0x8000) + recorded(TEN[1], 101, 0x8000)},
     ),
     Row(
         "markers, of which one is missing",
@@ -197,6 +318,21 @@ ROWS = [
         after={"stream": recorded(TEN[0], 0, 0xC000) + recorded(TEN[1], 1, 0x8000)},
     ),
     Row(
+        "a thousand steps of a thousandth, rounded once",
+        [*IMPORT, "--step", "0.001", "raw", "stream"],
+        {"raw": b"".join(telemetry(n, 0) for n in range(1_000))},
+        output=counts("raw", 1_000),
+        after={"stream": b"".join(recorded(telemetry(n, 0), (n + 1) // 1_000, (n + 1) % 1_000 * 65_536 // 1_000) for n in range(1_000))},
+    ),
+    Row(
+        "the shortest and the longest step",
+        [*IMPORT, "--step", "0.000016", "raw", "stream"],
+        {"raw": TEN[0] * 3},
+        output=counts("raw", 3),
+        after={"stream": b"".join(recorded(TEN[0], 0, n) for n in (1, 2, 3))},
+        first=[[*IMPORT, "--step", "4294967295.999999", "raw", "stream"]],
+    ),
+    Row(
         "some message ids alone",
         [*IMPORT, "--only", "0x0884,6309", "raw", "stream"],
         {"raw": TEN[0] + OTHER + COMMAND},
@@ -239,7 +375,16 @@ ROWS = [
     ),
     Row("an id that is none", [*IMPORT, "--only", "0x0883,volts", "raw", "stream"], {"raw": PLAIN}, status=2, error=b"--only 0x0883,volts: write message ids, as 0x0883,0x0884\n"),
     Row("an epoch of an import that is no number", [*IMPORT, "--epoch", "noon", "raw", "stream"], {"raw": PLAIN}, status=2, error=b"--epoch noon: no such value\n"),
-    Row("a step that is none", [*IMPORT, "--step", "1.", "raw", "stream"], {"raw": PLAIN}, status=2, error=b"--step 1.: no such value\n"),
+    *(
+        Row(
+            f"a step of {step} s, which can't be told",
+            [*IMPORT, "--step", step, "raw", "stream"],
+            {"raw": PLAIN},
+            status=2,
+            error=f"--step {step}: write seconds from 0.000016 on, with at most six digits after the point\n".encode(),
+        )
+        for step in ("1.", "0", "0.000015", "0.0000160", "4294967296", ".5")
+    ),
     Row("a stream in the place of an archive", [*IMPORT, "raw", "raw"], {"raw": PLAIN}, status=3, error=b"cannot use raw: the same call reads it, or writes it twice\n"),
-    Row("no archive of that name", [*IMPORT, "raw", "stream"], {"stream": b"old"}, status=3, error=b"cannot use raw: %s\n" % NOT_THERE),
+    Row("no archive of that name", [*IMPORT, "raw", "stream"], {"stream": BUS_STREAM}, status=3, error=b"cannot use raw: %s\n" % NOT_THERE),
 ]

@@ -84,6 +84,11 @@ FAILED = [
     ),
 ]
 
+# The name of the draft of a file that the process of a number writes, numbers that no process has, and drafts of theirs.
+DRAFT = "{}.flight_tools-{}.part"
+NO_PROCESS = 4_294_967_295
+LEFT = [DRAFT.format("page", number) for number in (NO_PROCESS, NO_PROCESS - 1)]
+
 REPORT = ["flight_tools", "report", "schedule", "stream", "page", "rules"]
 OLD = {**FILES, "stream": BUS_STREAM, "page": b"an old page"}
 
@@ -115,15 +120,29 @@ OLD_RESULTS = [
         REPORT,
         OLD,
         status=-25,
-        after={"page.part0": Begins(b"<!DOCTYPE html>\n")},
+        after={DRAFT.format("page", "*"): Begins(b"<!DOCTYPE html>\n")},
         longest_file=1_000,
         is_killed=True,
     ),
     Row(
-        "a page takes the place of the old one, past names that are taken",
+        "what killed calls left is removed by the next one for that file, and nothing else",
         REPORT,
-        {**OLD, "page.part0": b"another's"},
-        after={"page": Begins(b"<!DOCTYPE html>\n")},
+        {
+            **OLD,
+            **{name: b"left" for name in LEFT},
+            DRAFT.format("page", 1): b"of a process that runs",
+            DRAFT.format("page", "1a"): b"of no process",
+            DRAFT.format("other", NO_PROCESS): b"of another file",
+            f"page.{NO_PROCESS}.part": b"another's",
+            DRAFT.format("old page", NO_PROCESS): b"another's",
+        },
+        after={"page": Begins(b"<!DOCTYPE html>\n"), **{name: None for name in LEFT}},
+    ),
+    Row(
+        "what a killed import left is removed by the next one, of a link to that file, too",
+        ["flight_tools", "scenario", "script", "link"],
+        {"script": BUS_SCRIPT, "stream": BUS_STREAM[:11], "link": Link("stream"), DRAFT.format("stream", NO_PROCESS): b"left"},
+        after={"stream": BUS_STREAM, DRAFT.format("stream", NO_PROCESS): None},
     ),
     Row(
         "a script that is refused leaves the old stream",

@@ -80,7 +80,8 @@ class Row:
     """One call of a program, in a new folder that has the files of `before`.
 
     A file is its bytes, FOLDER, a Link to a name, the Twin of a name before it, or, behind the call, Sized, Begins or Holds. `after` has the files that the call makes
-    or changes; all others stay as they were, and no further ones come. `first` are calls before, which end with status 0.
+    or changes; all others stay as they were, and no further ones come. A name with `*` there is that of the one new file that it
+    matches, and None says that a file is gone. `first` are calls before, which end with status 0.
     `prints_to` is a device in the place of standard output, and GONE one that nobody reads. `reads` is what stands on standard
     input. `forbidden` are files of `before` that the system lets nobody open; the call is then of a user without rights.
     `most_memory` is the most address space in bytes that the call has, and `longest_file` the longest file that it may write,

@@ -5,7 +5,7 @@ import os
 import re
 
 from records import HOUSEKEEPING, LOW_VOLTS, event, said_of_unended
-from row import FOLDER, Begins, Holds, Row
+from row import FOLDER, Begins, Holds, Link, Row
 
 CRATES = os.path.join(os.path.dirname(os.path.abspath(__file__)), "..", "..", "..", "crates")
 
@@ -246,6 +246,20 @@ UNUSABLE = [
         b"it is a folder",
         "report schedule folder page rules",
         OLD,
+    ),
+    *(
+        unusable(f"{what} by a link that leads {where}", b"link", why, words, {**FILES, "script": b"tick\n", "link": Link(to)})
+        for what, words in (
+            ("a page", "report schedule stream link rules"),
+            ("a stream", "scenario script link"),
+            ("an archive", "export stream link"),
+        )
+        for where, to, why in (("nowhere", "none", b"it is a link that leads nowhere"), ("back", "link", b"it is a link that leads back to itself"))
+    ),
+    *(
+        [unusable("a page in another user's place", b"page", b"another user owns it", "report schedule stream page rules", {**OLD, "other": b""}, forbidden=["other"])]
+        if os.geteuid() == 0
+        else []
     ),
     unusable("a report without its rules", b"none", NOT_THERE, "report schedule stream /dev/full none"),
     unusable("a report without its second rules", b"none", NOT_THERE, "report schedule stream /dev/full rules none"),

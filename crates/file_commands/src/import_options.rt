@@ -1,0 +1,138 @@
+//! The options of `import`.
+
+ghost use Rattle.std.specs.Prelude.{◌≡◌, ◌≤◌, IfOk, IfSome};
+ghost use Rattle.file_commands.specs.Import.{least_step, resync_by};
+
+use flight_tools_args::ImportWords;
+use packet_archive::{Resync, Times};
+use std::alloc::Global;
+use text_lines::decimal_number;
+use tool_faults::Fault;
+
+/// The byte at which the time of this profile's telemetry begins, counted from 0.
+const OWN_TIME: u32 = 6;
+
+/// The most decimal digits of a part of a second.
+const MOST_DIGITS: usize = 6;
+
+/// The millionths of a second.
+const MILLIONTHS: u64 = 1_000_000;
+
+/// The shortest step in millionths of a second: the first that is no shorter than the resolution of a stream, 1/65,536 s.
+const LEAST_STEP: u64 = 16;
+
+/// What is written for a step that is refused.
+const NO_STEP: &str = "write seconds from 0.000016 on, with at most six digits after the point";
+
+/// What is written for the word of a numeric option that is refused.
+const NO_VALUE: &str = "no such value";
+
+/// A decimal number, or a hexadecimal one after `0x`, of at most `most`.
+fn number_in(word: &str, most: u32) -> Option<u32>
+    ensures { IfSome result (λ number. number ≤ most) }
+{
+    let number = match word.strip_prefix("0x") {
+        Some(digits) => u32::from_str_radix(digits, 16),
+        None => u32::from_str_radix(word, 10),
+    };
+    match number {
+        Ok(number) if number <= most => Some(number),
+        _ => None,
+    }
+}
+
+/// The value of a numeric option, or `default` if it isn't given. Error: `Value` for any other word.
+pub fn number_of<'a>(
+    option: &'a str,
+    word: Option<&'a str>,
+    most: u32,
+    default: u32,
+) -> Result<u32, Fault<'a>>
+    requires { default ≤ most }
+    ensures { IfOk result (λ number. number ≤ most) }
+{
+    match word {
+        None => Ok(default),
+        Some(word) => match number_in(word, most) {
+            Some(number) => Ok(number),
+            None => Err(Fault::Value(option, word, NO_VALUE)),
+        },
+    }
+}
+
+/// A part of a second, in millionths, from one to six decimal digits.
+fn part_in(digits: &str) -> Option<u64> {
+    let mut part = decimal_number(MOST_DIGITS, digits.as_bytes())?;
+    for _ in digits.len()..MOST_DIGITS {
+        part = part.saturating_mul(10);
+    }
+    Some(part)
+}
+
+/// A step in millionths of a second, from seconds with up to six decimal digits after a point; `None` if it is shorter than a
+/// 65,536th of a second, so that packets would share a moment.
+fn step_in(word: &str) -> Option<u64>
+    ensures { IfSome result (λ step. least_step ≤ step) }
+{
+    let (seconds, part) = match word.split_once('.') {
+        Some((seconds, part)) => (seconds, part_in(part)?),
+        None => (word, 0),
+    };
+    let whole = u64::from(number_in(seconds, u32::MAX)?);
+    let step = whole.saturating_mul(MILLIONTHS).saturating_add(part);
+    if step < LEAST_STEP { None } else { Some(step) }
+}
+
+/// The source of the packets' times: the steps of an option, or the packets' headers.
+pub fn times_of<'a>(wanted: ImportWords<'a>) -> Result<Times, Fault<'a>> {
+    match wanted.step {
+        Some(word) => match step_in(word) {
+            Some(step) => Ok(Times::Steps { step }),
+            None => Err(Fault::Value("--step", word, NO_STEP)),
+        },
+        None => Ok(Times::Header {
+            at: number_of("--time-at", wanted.time_at, 65_535, OWN_TIME)? as u16,
+            epoch: number_of("--epoch", wanted.epoch, u32::MAX, 0)?,
+        }),
+    }
+}
+
+/// The message ids of `--only`, separated by commas; empty if it isn't given.
+pub fn ids_of<'a>(alloc: Global, word: Option<&'a str>) -> Result<Vec<u16>, Fault<'a>> {
+    let mut ids = Vec::new(alloc);
+    if let Some(word) = word {
+        for id in word.split(',') {
+            match number_in(id, 65_535) {
+                Some(id) => ids.push(id as u16)?,
+                None => {
+                    return Err(Fault::Value("--only", word, "write message ids, as 0x0883,0x0884"));
+                }
+            }
+        }
+    }
+    Ok(ids)
+}
+
+/// The number of the rule text with which the stream begins, from `--start`; `None` if it isn't given.
+pub fn start_number<'a>(word: Option<&'a str>) -> Result<Option<u16>, Fault<'a>> {
+    match word {
+        None => Ok(None),
+        Some(word) => match number_in(word, 65_535) {
+            Some(number) => Ok(Some(number as u16)),
+            None => Err(Fault::Value("--start", word, NO_VALUE)),
+        },
+    }
+}
+
+/// What an import does where no packet is in front: with `--resync` it skips bytes, and `is_more` says whether more bytes may come.
+pub fn resync_by(is_asked: bool, is_more: bool) -> Resync
+    ensures { result ≡ resync_by is_asked is_more }
+{
+    if !is_asked {
+        Resync::Never
+    } else if is_more {
+        Resync::Within
+    } else {
+        Resync::AtEnd
+    }
+}
