@@ -2,11 +2,12 @@
 
 use crate::error::ReportError;
 use crate::intake::Taken;
+use crate::part::Part;
 use crate::progress::Progress;
 use crate::telling::{Telling, tell_run};
 use crate::{page_front, page_script_0, page_script_1, page_script_2, page_script_3};
 use lc_model::ByteSource;
-use page_json::{CommandLine, Data, Ended, Run, Source, command_lines};
+use page_json::{CommandLine, Data, Ended, Run, Source, Window, command_lines};
 use run_stepper::Ending;
 use schedules::Schedule;
 use std::alloc::{AllocError, Global};
@@ -49,10 +50,29 @@ fn put_page<W: Write>(out: &mut W, data: &Data<'_, '_, '_, '_>) -> io::Result<()
     Ok(())
 }
 
+/// The part that a page shows; `None` if it shows the whole run.
+fn window_of(part: Part, telling: &Telling<'_>) -> Option<Window> {
+    if part.from.is_none() && part.until.is_none() {
+        return None;
+    }
+    Some(Window {
+        from: part.from,
+        until: part.until,
+        records: telling.begun.records,
+        packets: telling.begun.packets,
+    })
+}
+
+/// One time less another; 0 if there is no other.
+fn shift_of(telling: &Telling<'_>) -> i64 {
+    telling.begun.start as i64 - telling.clock.start as i64
+}
+
 /// Writes the page of a run's account.
 fn put_told<W: Write>(
     out: &mut W,
     run: &Run<'_, '_>,
+    part: Part,
     telling: &Telling<'_>,
     commands: &[CommandLine],
     taken: Taken,
@@ -65,9 +85,9 @@ fn put_told<W: Write>(
         bytes,
         digest,
         ended: page_end(ending),
-        window: None,
-        start: telling.clock.start,
-        shift: 0,
+        window: window_of(part, telling),
+        start: telling.begun.start,
+        shift: shift_of(telling),
         end: telling.clock.end,
         is_ordered: telling.clock.is_ordered,
         account: &telling.account,
@@ -80,7 +100,7 @@ fn put_told<W: Write>(
 
 /// Runs rule texts under a schedule over a stream, and writes what happened as one page of HTML, which needs no other file.
 ///
-/// page/DATA.md has the contents of the page. The stream is read to its end, in pieces, and run once; the memory doesn't grow with
+/// page/DATA.md has the contents of the page, which shows this part of the run. The stream is read to its end, in pieces, and run once; the memory doesn't grow with
 /// the run. `progress` gets the number of handled bytes after each record. A stream that ends early has a page too. Returns how the
 /// run ended.
 ///
@@ -91,13 +111,21 @@ pub fn write_page<R: ByteSource, W: Write, P: Progress>(
     alloc: Global,
     schedule: &Schedule,
     run: &Run<'_, '_>,
+    part: Part,
     reader: &mut R,
     out: &mut W,
     progress: &mut P,
 ) -> Result<Ending, ReportError> {
     let texts = bytes_of(alloc, run.texts)?;
-    let (telling, taken, ending) = tell_run(alloc, schedule, texts.as_slice(), reader, progress)?;
+    let (telling, taken, ending) = tell_run(
+        alloc,
+        schedule,
+        texts.as_slice(),
+        part,
+        reader,
+        progress,
+    )?;
     let commands = command_lines(alloc, &telling.account)?;
-    put_told(out, run, &telling, commands.as_slice(), taken, ending)?;
+    put_told(out, run, part, &telling, commands.as_slice(), taken, ending)?;
     Ok(ending)
 }

@@ -292,7 +292,7 @@ left_follows place (Some m) b happened f = runs_left (length b.tables == 0) (has
 
 mode_follows : (t : Bool) (place : Place) (mode : Option LcMode) (b : InForce) (happened : List Happened) →
     (length b.modes == 0 || not (mode_number b.mode == mode_number mode)) ≡ t → Left place mode happened b →
-    Follows (Over place mode ∷ happened) (if t then record b { mode = mode; modes = mode_told place mode b.modes } else b)
+    Follows (Over place mode ∷ happened) (if t then record b { mode = mode; mode_at = place; modes = mode_told place mode b.modes } else b)
 mode_follows true place mode b happened is l =
     record { force = l.force; text = l.text; came = l.came; mode = refl; none = l.none; begun = l.begun }
 mode_follows false place mode b happened is l = record {

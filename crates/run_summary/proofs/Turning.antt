@@ -127,7 +127,7 @@ left_begun false None place b all is = rw is refl
 mode_turns : (t : Bool) (place : Place) (mode : Option LcMode) (b : InForce) (happened : List Happened) →
     (length (all_modes happened) == 0 || not (mode_number (mode_behind happened) == mode_number mode)) ≡ t →
     b.modes ≡ told_of untold_mode (all_modes happened) →
-    (if t then record b { mode = mode; modes = mode_told place mode b.modes } else b).modes
+    (if t then record b { mode = mode; mode_at = place; modes = mode_told place mode b.modes } else b).modes
     ≡ told_of untold_mode (modes_if t place mode (all_modes happened))
 mode_turns true place mode b happened is told =
     ap (told_more (record { place = place; mode = Some mode }) (record { place = place; mode = None })) told
@@ -135,7 +135,7 @@ mode_turns true place mode b happened is told =
 mode_turns false place mode b happened is told = told
 
 tables_stay : (t : Bool) (mode : Option LcMode) (b : InForce) (place : Place) →
-    (if t then record b { mode = mode; modes = mode_told place mode b.modes } else b).tables ≡ b.tables
+    (if t then record b { mode = mode; mode_at = place; modes = mode_told place mode b.modes } else b).tables ≡ b.tables
 tables_stay true mode b place = refl
 tables_stay false mode b place = refl
 
@@ -157,8 +157,8 @@ stood_turns place mode b happened f t =
     let same_test : (length now.modes == 0 || not (mode_number now.mode == mode_number mode)) ≡ test =
     (λ i. length (modes i) == 0 || not (mode_now i == mode_number mode))
     ∙ ap (λ none. none || not (mode_number (mode_behind happened) == mode_number mode)) (none_told untold_mode (all_modes happened)) in
-    let behind : stood place mode b ≡ (if test then record now { mode = mode; modes = mode_told place mode now.modes } else now) =
-    ap (λ t. if t then record now { mode = mode; modes = mode_told place mode now.modes } else now) same_test in
+    let behind : stood place mode b ≡ (if test then record now { mode = mode; mode_at = place; modes = mode_told place mode now.modes } else now) =
+    ap (λ t. if t then record now { mode = mode; mode_at = place; modes = mode_told place mode now.modes } else now) same_test in
     subst (λ (b : InForce). Turns (Over place mode ∷ happened) b) (sym behind)
     (record {
       tables = tables_stay test mode now place ∙ ap (λ (b : InForce). b.tables) same ∙ tables_so begins place b happened f t.tables;

@@ -2,7 +2,7 @@
 
 ghost use Rattle.std.specs.Prelude.{◌≡◌, IfOk, List, OnOk, map, replicate, ℕ};
 ghost use Rattle.rpn_compiler.specs.TextParts.{AreTextsOf, items_in};
-ghost use Rattle.run_summary.specs.Account.{account_of, before_with, brought_by, come, enforced_so, left_by, rows_with, sampled, shown, stood_again, stood_so};
+ghost use Rattle.run_summary.specs.Account.{account_of, before_with, begun_anew, brought_by, come, enforced_so, left_by, rows_with, sampled, shown, stood_again, stood_so};
 ghost use Rattle.run_summary.specs.Brought.{brings_of};
 ghost use Rattle.run_summary.specs.Plans.{parts_by, planned_at};
 ghost use Rattle.run_summary.specs.Run.{TellsNothing};
@@ -244,5 +244,17 @@ impl<'a> Account<'a> {
         let how = self.bands.how_left(mode);
         self.take_left(place, how)?;
         self.bands.take_mode(place, mode)
+    }
+
+    /// Begins a part of a run: drops the requests, events, commands and changes so far, except the tables in force and the mode. The
+    /// figures count the part alone, except the number of packets, which goes on. The only error is a lack of memory.
+    pub fn begin_anew(&mut self) -> Result<(), AllocError>
+        ensures { OnOk result (account_of self.new ≡ begun_anew (account_of self.old)) }
+    {
+        let packets = self.figures.packets;
+        self.sending = Sending::new(self.alloc);
+        self.uplinks = Ends::new(self.alloc, UPLINKS, UPLINKS);
+        self.figures = Figures::after(packets);
+        self.bands.begin_anew()
     }
 }

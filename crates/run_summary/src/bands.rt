@@ -1,7 +1,7 @@
 //! The tables in force and the Limit Checker's mode, over the run.
 
 ghost use Rattle.std.specs.Prelude.{◌≡◌, OnOk};
-ghost use Rattle.run_summary.specs.Bands.{begun, enforced, has_changed, how_left, how_unsaid, in_mode, is_none_in_force, is_text, mode_number, mode_told, nothing_in_force, text_enforced, told_more};
+ghost use Rattle.run_summary.specs.Bands.{bands_anew, begun, enforced, has_changed, how_left, how_unsaid, in_mode, is_none_in_force, is_text, mode_number, mode_told, modes_anew, nothing_in_force, tables_anew, text_enforced, told_more};
 
 use crate::place::Place;
 use lc_model::LcMode;
@@ -10,6 +10,9 @@ use std::marker::Model;
 
 /// The most entries of a band.
 const MOST: usize = 500;
+
+/// The place before the first record.
+const NOWHERE: Place = Place { record: 0, time: 0 };
 
 /// How tables came into force.
 #[derive(Clone, Copy)]
@@ -121,6 +124,8 @@ pub struct Bands {
     text: Option<usize>,
     how: How,
     mode: Option<LcMode>,
+    tables_at: Place,
+    mode_at: Place,
 }
 
 impl Model for Bands {
@@ -135,6 +140,8 @@ impl Model for Bands {
       text = b.text;
       how = b.how;
       mode = b.mode;
+      tables_at = b.tables_at;
+      mode_at = b.mode_at;
     } };
 }
 
@@ -149,6 +156,8 @@ impl Bands {
             text: None,
             how: How::None,
             mode: None,
+            tables_at: NOWHERE,
+            mode_at: NOWHERE,
         }
     }
 
@@ -212,6 +221,7 @@ impl Bands {
         let text = text_enforced(how, self.force);
         self.text = text;
         self.how = how;
+        self.tables_at = place;
         let told = TablesFrom {
             place,
             text,
@@ -228,9 +238,10 @@ impl Bands {
     /// Appends the mode to the band.
     fn tell_mode(&mut self, place: Place, mode: Option<LcMode>) -> Result<(), AllocError>
         ensures { OnOk result (self.new ≡
-            record self.old { mode = mode; modes = mode_told place mode self.old.modes }) }
+            record self.old { mode = mode; mode_at = place; modes = mode_told place mode self.old.modes }) }
     {
         self.mode = mode;
+        self.mode_at = place;
         let told = ModeFrom {
             place,
             mode: Some(mode),
@@ -257,5 +268,44 @@ impl Bands {
             return self.enforce(place, How::None);
         }
         Ok(())
+    }
+
+    /// Drops all entries of the tables but the present one.
+    fn drop_tables(&mut self) -> Result<(), AllocError>
+        ensures { OnOk result (self.new ≡ record self.old { tables = tables_anew self.old }) }
+    {
+        if self.tables.is_empty() {
+            return Ok(());
+        }
+        self.tables.clear();
+        self.tables.push(TablesFrom {
+            place: self.tables_at,
+            text: self.text,
+            how: Some(self.how),
+        })?;
+        Ok(())
+    }
+
+    /// Drops all entries of the modes but the present one.
+    fn drop_modes(&mut self) -> Result<(), AllocError>
+        ensures { OnOk result (self.new ≡ record self.old { modes = modes_anew self.old }) }
+    {
+        if self.modes.is_empty() {
+            return Ok(());
+        }
+        self.modes.clear();
+        self.modes.push(ModeFrom {
+            place: self.mode_at,
+            mode: Some(self.mode),
+        })?;
+        Ok(())
+    }
+
+    /// Drops all entries but the present ones. The only error is a lack of memory.
+    pub(crate) fn begin_anew(&mut self) -> Result<(), AllocError>
+        ensures { OnOk result (self.new ≡ bands_anew self.old) }
+    {
+        self.drop_tables()?;
+        self.drop_modes()
     }
 }
