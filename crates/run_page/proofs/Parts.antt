@@ -1,13 +1,14 @@
 -- The part of a run that is shown, one record more.
 use Rattle.std.proofs.Common.{◌≡◌, ℕ, zero, suc, ◌+◌, ◌<◌, ◌^◌, Bool, true, false, List, [], ◌∷◌, ◌++◌, length, length-append, refl, ap, sym, ◌∙◌, subst, arith, if◌then◌else◌}
-use Rattle.std.specs.Prelude.{◌==◌, ◌||◌, not}
+use Rattle.std.specs.Prelude.{◌==◌}
 use Rattle.std.proofs.lemmas.Bool.{false≢true}
 use Rattle.std.proofs.lemmas.List.{append_assoc, append-nil}
 use Rattle.bounded_history.specs.declared.entry.Entry.{Entry}
+use Rattle.flight_core.specs.Feeding.{Feeding}
 use Rattle.run_stepper.specs.Stepping.{engine_among}
 use Rattle.run_stepper.specs.Steps.{Step}
 use Rattle.run_summary.specs.declared.texts.Field.{Field}
-use Rattle.run_summary.specs.Account.{Account, begun_anew}
+use Rattle.run_summary.specs.Account.{Account}
 use Rattle.run_summary.specs.Brought.{brings}
 use Rattle.run_summary.specs.Fields.{AreKnown, all_brought}
 use Rattle.run_summary.specs.Standing.{stand_at}
@@ -16,8 +17,8 @@ use Rattle.run_page.specs.declared.lists.Lists.{Lists}
 use Rattle.run_page.specs.declared.part.Part.{Part}
 use Rattle.run_page.specs.declared.part.Phase.{Phase}
 use Rattle.run_page.specs.declared.part.Phase.TheVariants.{Before, Inside, After}
-use Rattle.run_page.specs.Model.{CameTo, HasShown, HasTaken, HasTold, IsKept, KeepsStands, ListsTell, OfRun, StandsSo, all_values, lanes_from, nothing_told, place_of, stands_of, start_of, stood, stood_more, told_from, values_more}
-use Rattle.run_page.specs.Part.{FirstBegins, FirstEnds, NoneBegins, NoneEnds, is_after, is_before, is_from, is_until, phase_after}
+use Rattle.run_page.specs.Model.{Adds, CameTo, HasShown, HasTaken, HasTold, IsAnew, IsKept, KeepsStands, ListsTell, OfRun, StandsSo, all_values, lanes_from, place_of, stands_of, start_of, stood, stood_more, told_from, values_more}
+use Rattle.run_page.specs.Part.{FirstBegins, FirstEnds, NoneBegins, NoneEnds, is_after, is_before, is_from, is_left_for, is_until, phase_after}
 use Rattle.run_page.specs.Times.{ticks_of}
 use Rattle.run_page.proofs.Accounts.{Stays, account_anew, account_more, start_stays}
 use Rattle.run_page.proofs.Lanes.{length_nothing, nothing_of_lanes}
@@ -120,11 +121,6 @@ told_next texts lists after behind behind_it a after_it start now earlier shown 
 
 -- ---- the part begins
 
-pub record IsAnew (lists after : Lists) (behind_it : Behind) (a after_it : Account) : Type 0 where
-  pub looked : behind_it.looked ≡ false
-  pub tells : ListsTell after (nothing_told lists.lanes) (nothing_told (length a.seen))
-  pub account : after_it ≡ begun_anew a
-
 pub told_anew : (texts : OfRun) (lists after : Lists) (behind behind_it : Behind) (a after_it : Account) (start : ℕ) (all : List Step) →
     IsAnew lists after behind_it a after_it → HasTold texts lists behind a start [] all → HasTold texts after behind_it after_it start all []
 told_anew texts lists after behind behind_it a after_it start all anew told =
@@ -138,7 +134,7 @@ told_anew texts lists after behind behind_it a after_it start all anew told =
           anew.tells;
       kept = λ looked. absurd (false≢true (sym anew.looked ∙ looked));
       is_account = account_anew texts all start a after_it told.is_account anew.account;
-      known = subst (λ (it : Account). AreKnown (length (all ++ []) + 1) texts.read.fields it.seen) (sym anew.account)
+      known = anew.known (length (all ++ []) + 1) texts.read.fields
           (subst (λ (steps : List Step). AreKnown (length steps + 1) texts.read.fields a.seen) (sym same) told.known);
       stood_last = λ looked. absurd (false≢true (sym anew.looked ∙ looked));
     }
@@ -153,9 +149,6 @@ pub none_ends_more : (part : Part) (all : List Step) (step : Step) → NoneEnds 
 none_ends_more part [] step none isnt = (isnt, tt)
 none_ends_more part (one ∷ all) step none isnt = (none.0, none_ends_more part all step none.1 isnt)
 
-first_begins_more : (part : Part) (one : Step) (all more : List Step) → FirstBegins part (one ∷ all) → FirstBegins part (one ∷ (all ++ more))
-first_begins_more part one all more begins = begins
-
 first_stays : (part : Part) (shown more : List Step) → 0 < length shown → FirstBegins part shown → FirstBegins part (shown ++ more)
 first_stays part [] more some begins = absurd (omega (arith, some))
 first_stays part (one ∷ shown) more some begins = begins
@@ -167,23 +160,25 @@ ends_stay part (one ∷ later) more some ends = ends
 -- ---- the part begins, or not
 
 pub keeps_so : (texts : OfRun) (part : Part) (phase next : Phase) (lists : Lists) (behind : Behind) (a : Account) (start : ℕ) (all : List Step) →
-    (not (is_before phase) || is_before next) ≡ true → StandsSo texts part phase lists behind a start all → CameTo texts part phase next lists behind a start all
+    is_left_for phase next ≡ false → StandsSo texts part phase lists behind a start all → CameTo texts part phase next lists behind a start all
 keeps_so texts part Before Before lists behind a start all test stands = stands
-keeps_so texts part Before Inside lists behind a start all test stands = absurd (cc test)
-keeps_so texts part Before After lists behind a start all test stands = absurd (cc test)
+keeps_so texts part Before Inside lists behind a start all test stands = absurd (false≢true (sym test))
+keeps_so texts part Before After lists behind a start all test stands = absurd (false≢true (sym test))
 keeps_so texts part Inside next lists behind a start all test stands = stands
 keeps_so texts part After next lists behind a start all test stands = stands
 
-pub anew_so : (texts : OfRun) (part : Part) (phase next : Phase) (lists after : Lists) (behind behind_it : Behind) (a after_it : Account) (start : ℕ) (all : List Step) →
-    (not (is_before phase) || is_before next) ≡ false → IsAnew lists after behind_it a after_it → StandsSo texts part phase lists behind a start all →
-    CameTo texts part phase next after behind_it after_it start all
-anew_so texts part Before Before lists after behind behind_it a after_it start all test anew stands = absurd (cc test)
-anew_so texts part Before Inside lists after behind behind_it a after_it start all test anew stands =
+pub anew_so : (texts : OfRun) (part : Part) (phase next : Phase) (lists after : Lists) (behind behind_it : Behind) (a after_it : Account) (start now : ℕ) (all : List Step) →
+    is_left_for phase next ≡ true → now ≡ start → IsAnew lists after behind_it a after_it → StandsSo texts part phase lists behind a start all →
+    CameTo texts part phase next after behind_it after_it now all
+anew_so texts part Before Before lists after behind behind_it a after_it start now all test same anew stands = absurd (false≢true test)
+anew_so texts part Before Inside lists after behind behind_it a after_it start now all test same anew stands =
+    subst (λ (from : ℕ). CameTo texts part Before Inside after behind_it after_it from all) (sym same)
     (stands.0, told_anew texts lists after behind behind_it a after_it start all anew stands.1)
-anew_so texts part Before After lists after behind behind_it a after_it start all test anew stands =
+anew_so texts part Before After lists after behind behind_it a after_it start now all test same anew stands =
+    subst (λ (from : ℕ). CameTo texts part Before After after behind_it after_it from all) (sym same)
     (stands.0, told_anew texts lists after behind behind_it a after_it start all anew stands.1)
-anew_so texts part Inside next lists after behind behind_it a after_it start all test anew stands = absurd (cc test)
-anew_so texts part After next lists after behind behind_it a after_it start all test anew stands = absurd (cc test)
+anew_so texts part Inside next lists after behind behind_it a after_it start now all test same anew stands = absurd (false≢true test)
+anew_so texts part After next lists after behind behind_it a after_it start now all test same anew stands = absurd (false≢true test)
 
 -- ---- a record more
 
@@ -214,7 +209,7 @@ taken_by true false texts part Before lists after behind behind_it a after_it st
       refl,
       omega arith,
     )
-taken_by true true texts part Before lists after behind behind_it a after_it start now all step from until ongoing came takes = absurd (cc ongoing)
+taken_by true true texts part Before lists after behind behind_it a after_it start now all step from until ongoing came takes = absurd (false≢true (sym ongoing))
 taken_by b false texts part Inside lists after behind behind_it a after_it start now all step from until ongoing came takes =
     let so : HasShown texts part lists behind a start all = came.0 in
     let whole : so.earlier ++ so.shown ≡ all =
@@ -237,20 +232,20 @@ taken_by b false texts part Inside lists after behind behind_it a after_it start
       refl,
       omega (arith, length-append so.shown (step ∷ [])),
     )
-taken_by b true texts part Inside lists after behind behind_it a after_it start now all step from until ongoing came takes = absurd (cc ongoing)
-taken_by b c texts part After lists after behind behind_it a after_it start now all step from until ongoing came takes = absurd (cc ongoing)
+taken_by b true texts part Inside lists after behind behind_it a after_it start now all step from until ongoing came takes = absurd (false≢true (sym ongoing))
+taken_by b c texts part After lists after behind behind_it a after_it start now all step from until ongoing came takes = absurd (false≢true (sym ongoing))
 
 -- .. that comes after it
 passed_by : (b c : Bool) (texts : OfRun) (part : Part) (phase : Phase) (lists : Lists) (behind : Behind) (a : Account) (start : ℕ) (all : List Step) (step : Step) →
     is_from part.from (ticks_of step.bytes) ≡ b → is_until part.until (ticks_of step.bytes) ≡ c → is_after (phase_by phase b c) ≡ true →
     CameTo texts part phase (phase_by phase b c) lists behind a start all → StandsSo texts part (phase_by phase b c) lists behind a start (all ++ step ∷ [])
-passed_by false c texts part Before lists behind a start all step from until over came = absurd (cc over)
-passed_by true false texts part Before lists behind a start all step from until over came = absurd (cc over)
+passed_by false c texts part Before lists behind a start all step from until over came = absurd (false≢true over)
+passed_by true false texts part Before lists behind a start all step from until over came = absurd (false≢true over)
 passed_by true true texts part Before lists behind a start all step from until over came = (
   record { earlier = all; shown = []; later = step ∷ []; are_all = refl; parts = record { before = came.0; begins = from; inside = tt; ends = until }; told = came.1 },
   omega arith,
 )
-passed_by b false texts part Inside lists behind a start all step from until over came = absurd (cc over)
+passed_by b false texts part Inside lists behind a start all step from until over came = absurd (false≢true over)
 passed_by b true texts part Inside lists behind a start all step from until over came =
     let so : HasShown texts part lists behind a start all = came.0 in
     let whole : so.earlier ++ so.shown ≡ all =
@@ -314,11 +309,40 @@ stands_passed texts part phase next lists behind a start all step is over came =
     phases Inside = refl
     phases After = refl
 
+-- ---- a record that is added
+
+pub adds_passed : (texts : OfRun) (part : Part) (phase at next : Phase) (lists after : Lists) (behind behind_it : Behind) (a after_it : Account) (start now number ticks : ℕ)
+    (bytes : List ℕ) (host : Feeding) (written : List ℕ) → ticks ≡ ticks_of bytes → at ≡ phase_after part phase ticks → next ≡ at → is_after at ≡ true →
+    ((steps : List Step) → StandsSo texts part phase lists behind a start steps → CameTo texts part phase at after behind_it after_it now steps) →
+    Adds texts part phase next lists after behind behind_it a after_it start now number bytes host written
+adds_passed texts part phase at next lists after behind behind_it a after_it start now number ticks bytes host written is_ticks is_phase same over came = λ held steps numbered stands.
+    let step : Step = record { bytes = bytes; host = record host { held = held }; written = written } in
+    subst (λ (p : Phase). StandsSo texts part p after behind_it after_it now (steps ++ step ∷ [])) (sym same)
+    (stands_passed texts part phase at after behind_it after_it now steps step (is_phase ∙ ap (phase_after part phase) is_ticks) over (came steps stands))
+
+pub adds_taken : (texts : OfRun) (part : Part) (phase at next : Phase) (lists middle after : Lists) (behind between behind_it : Behind) (a amid after_it : Account)
+    (start mid now number ticks : ℕ) (bytes : List ℕ) (host : Feeding) (written : List ℕ) → ticks ≡ ticks_of bytes → at ≡ phase_after part phase ticks → next ≡ at → is_after at ≡ false →
+    ((steps : List Step) → StandsSo texts part phase lists behind a start steps → CameTo texts part phase at middle between amid mid steps) →
+    Takes texts middle after between behind_it amid after_it mid now number (record { bytes = bytes; host = host; written = written }) →
+    Adds texts part phase next lists after behind behind_it a after_it start now number bytes host written
+adds_taken texts part phase at next lists middle after behind between behind_it a amid after_it start mid now number ticks bytes host written is_ticks is_phase same ongoing came takes =
+    λ held steps numbered stands.
+    let step : Step = record { bytes = bytes; host = record host { held = held }; written = written } in
+    let takes_it : Takes texts middle after between behind_it amid after_it mid now number step = record {
+      begins = takes.begins;
+      small = takes.small;
+      adds = λ fields lanes values known tells kept. takes.adds fields lanes values known tells kept;
+      takes = λ keeps. let taken = takes.takes keeps in record { taken = taken.taken; known = taken.known; stood_last = taken.stood_last };
+    } in
+    subst (λ (p : Phase). StandsSo texts part p after behind_it after_it now (steps ++ step ∷ [])) (sym same)
+    (stands_taken texts part phase at middle after between behind_it amid after_it mid now steps step (is_phase ∙ ap (phase_after part phase) is_ticks) ongoing (came steps stands)
+    (subst (λ (n : ℕ). Takes texts middle after between behind_it amid after_it mid now n step) numbered takes_it))
+
 -- ---- the end
 
 pub ends_shown : (texts : OfRun) (part : Part) (phase : Phase) (lists : Lists) (behind : Behind) (a : Account) (start : ℕ) (all : List Step) → is_before phase ≡ false →
     StandsSo texts part phase lists behind a start all → HasShown texts part lists behind a start all
-ends_shown texts part Before lists behind a start all begun stands = absurd (cc begun)
+ends_shown texts part Before lists behind a start all begun stands = absurd (false≢true (sym begun))
 ends_shown texts part Inside lists behind a start all begun stands = stands.0
 ends_shown texts part After lists behind a start all begun stands = stands.0
 
@@ -326,5 +350,5 @@ pub ends_empty : (texts : OfRun) (part : Part) (phase : Phase) (lists : Lists) (
     CameTo texts part phase After lists behind a start all → HasShown texts part lists behind a start all
 ends_empty texts part Before lists behind a start all none came =
     record { earlier = all; shown = []; later = []; are_all = append-nil all; parts = record { before = came.0; begins = tt; inside = tt; ends = tt }; told = came.1 }
-ends_empty texts part Inside lists behind a start all none came = absurd (cc none)
-ends_empty texts part After lists behind a start all none came = absurd (cc none)
+ends_empty texts part Inside lists behind a start all none came = absurd (false≢true none)
+ends_empty texts part After lists behind a start all none came = absurd (false≢true none)

@@ -1,6 +1,5 @@
 -- Records that are told one after the other.
-use Rattle.std.proofs.Common.{◌≡◌, ℕ, zero, suc, ◌+◌, ◌<◌, ◌^◌, true, false, List, [], ◌∷◌, ◌++◌, length, length-append, map, min, ◌-◌, Option, refl, ap, sym, ◌∙◌, subst, arith, if◌then◌else◌, Ok}
-use Rattle.std.specs.Prelude.{◌==◌}
+use Rattle.std.proofs.Common.{◌≡◌, ℕ, ◌+◌, ◌^◌, true, false, List, [], ◌∷◌, ◌++◌, length, length-append, map, min, ◌-◌, Option, refl, ap, sym, ◌∙◌, subst, arith, Ok}
 use Rattle.std.proofs.lemmas.Bool.{false≢true}
 use Rattle.std.proofs.lemmas.List.{append_assoc, append-nil, length-map, map-append}
 use Rattle.sha2.specs.Hashers.{Holds256}
@@ -14,7 +13,7 @@ use Rattle.flight_core.specs.Cutting.{Begins, Comes, EndsBadly, EndsCut, EndsWho
 use Rattle.flight_core.specs.Feeding.{Feeding, fed_with}
 use Rattle.flight_core.specs.Front.{part_of}
 use Rattle.flight_core.specs.Records.{Held}
-use Rattle.run_stepper.specs.Stepping.{BeginsWith, GoesOn, HandlesAlone, HandlesRecord, HasHandled, HasStepped, MeetsNoRecord, Waits, engine_among, holding_none, one_record}
+use Rattle.run_stepper.specs.Stepping.{BeginsWith, GoesOn, HandlesAlone, HandlesRecord, HasHandled, HasStepped, MeetsNoRecord, Waits, holding_none, one_record}
 use Rattle.run_stepper.specs.Steps.{AreItsRecords, Step, StepsAreARun, Went, bytes_of}
 use Rattle.run_stepper.specs.Trace.{ending_by}
 use Rattle.run_stepper.specs.declared.ending.Ending.{Ending}
@@ -31,7 +30,7 @@ use Rattle.run_summary.specs.Texts.{HaveItems}
 use Rattle.run_page.specs.declared.intake.Intake.{Intake}
 use Rattle.run_page.specs.Coming.{Arrives, Took, TookAll, without_bytes}
 use Rattle.run_page.proofs.Pieces.{took_more, took_none}
-use Rattle.run_page.specs.Model.{Adds, EndsSo, HasShown, IsNew, IsStep, OfRun, StandsSo, StopsAt, Tells, TellsRead, TellsTaken, ending_at, run_of}
+use Rattle.run_page.specs.Model.{Adds, EndsSo, HasShown, IsNew, OfRun, StandsSo, StopsAt, Tells, TellsRead, TellsTaken, ending_at, run_of}
 
 -- the host goes through one record more
 pub went_more : (first old new : Feeding) (steps : List Step) (bytes written : List ℕ) → Went first steps old → HasStepped bytes old new written (Ok handled.Whole) →
@@ -104,7 +103,7 @@ next_so_far laws texts part phase next first old new stream rest bytes left writ
       entries = so.entries ++ entry ∷ [];
       handed = laws.goes (length first.files) stream so.entries rest entry left so.handed here;
       each = map-append (λ (step : Step). records_of (length first.files) step.bytes) so.steps (step ∷ []) ∙ (λ i. so.each i ++ own i ∷ []) ∙ sym (map-append one_record so.entries (entry ∷ []));
-      stands = adds step so.steps (record { bytes_are = refl; host_is = refl; written_is = refl }) (ap (λ count. count + 1) (sym so.count)) so.stands;
+      stands = adds new.held so.steps (ap (λ count. count + 1) (sym so.count)) so.stands;
     }
 
 -- ---- a stream that comes in pieces
@@ -209,8 +208,7 @@ module _ (laws : Laws) (texts : OfRun) (part : Part) (phase : Phase) (first old 
           (ap (λ own. own ++ last.held.bytes) lent ∙ sym handles.parts)
           (ap (λ n. front all_kinds n host.held.bytes) (sym more_read.of_texts) ∙ handles.front)
           ((λ i. records_of (sym more_read.of_texts i) (lent i)) ∙ handles.own)
-          (λ step steps is is_number stands.
-          adds step steps (record { bytes_are = is.bytes_are; host_is = is.host_is; written_is = is.written_is }) is_number stands);
+          (λ held steps numbered stands. adds held steps numbered stands);
     }
 
   -- ---- how it ends
@@ -278,14 +276,14 @@ module _ (laws : Laws) (texts : OfRun) (part : Part) (phase : Phase) (first old 
         ))
 
     -- of a stream that ended
-    module _ (part : found ≡ handled.Part) where
+    module _ (waiting : found ≡ handled.Part) where
       waits : Waits host last written
       unfolding host
-      waits = subst (HandlesAlone host last written) part arrives.handles
+      waits = subst (HandlesAlone host last written) waiting arrives.handles
 
       -- nothing follows
       all_there : (more : List ℕ) → (is.is_ended ≡ true → more ≡ []) → more ≡ []
-      all_there more none = none (arrives.ended part)
+      all_there more none = none (arrives.ended waiting)
 
       at_end : (e : End) → records_of (length first.files) more_read.taken ≡ (more_read.so.entries, e) → (more : List ℕ) → more ≡ [] →
           records_of (length first.files) (more_read.taken ++ more) ≡ (more_read.so.entries, e)

@@ -11,7 +11,7 @@ use Rattle.rpn_compiler.specs.declared.files.TablePair.{TablePair}
 use Rattle.app_host.specs.Delivered.{executive_in}
 use Rattle.flight_core.specs.Compiled.{AreAllCompiled}
 use Rattle.flight_core.specs.Feeding.{Feeding}
-use Rattle.flight_core.specs.Records.{nothing_held}
+use Rattle.flight_core.specs.Records.{Held, nothing_held}
 use Rattle.run_stepper.specs.Events.{is_type_of_checker_on}
 use Rattle.run_stepper.specs.Force.{text_in_force}
 use Rattle.run_stepper.specs.Stepping.{BeginsWith, HasStepped, engine_among}
@@ -252,6 +252,13 @@ pub record HasTold (texts : OfRun) (lists : Lists) (behind : Behind) (a : Accoun
   pub known : AreKnown (length (earlier ++ shown) + 1) texts.read.fields a.seen
   pub stood_last : KeepsStands behind a
 
+-- what is told begins anew: the lists are empty, no rules were looked at, and the account begins anew
+pub record IsAnew (lists after : Lists) (behind_it : Behind) (a after_it : Account) : Type 0 where
+  pub looked : behind_it.looked ≡ false
+  pub tells : ListsTell after (nothing_told lists.lanes) (nothing_told (length a.seen))
+  pub account : after_it ≡ account.begun_anew a
+  pub known : (number : ℕ) (fields : List Field) → AreKnown number fields a.seen → AreKnown number fields after_it.seen
+
 -- .. with records after the part
 pub record HasShown (texts : OfRun) (part : Part) (lists : Lists) (behind : Behind) (a : Account) (start : ℕ) (all : List Step) : Type 0 where
   pub earlier : List Step
@@ -276,18 +283,13 @@ CameTo texts part Before After lists behind a start all = NoneBegins part all ×
 CameTo texts part Inside next lists behind a start all = StandsSo texts part Inside lists behind a start all
 CameTo texts part After next lists behind a start all = StandsSo texts part After lists behind a start all
 
--- a step with these bytes and packets, after which the host is this one, whatever it holds of its stream
-pub record IsStep (step : Step) (bytes : List ℕ) (host : Feeding) (written : List ℕ) : Type 0 where
-  pub bytes_are : step.bytes ≡ bytes
-  pub host_is : step.host.host ≡ host.host
-  pub written_is : step.written ≡ written
-
--- how a run stands with one more record, which has this number
+-- how a run stands with one more record: it has this number and these bytes, and led to these packets and this host, whatever that one holds
+-- of its stream
 abbrev pub Adds : OfRun → Part → (phase next : Phase) → (lists after : Lists) → (behind behind_it : Behind) → (a after_it : Account) → (start now number : ℕ) →
     (bytes : List ℕ) → Feeding → (written : List ℕ) → Type 0
 Adds texts part phase next lists after behind behind_it a after_it start now number bytes host written =
-    (step : Step) (steps : List Step) → IsStep step bytes host written → number ≡ length steps + 1 → StandsSo texts part phase lists behind a start steps →
-    StandsSo texts part next after behind_it after_it now (steps ++ step ∷ [])
+    (held : Held) (steps : List Step) → number ≡ length steps + 1 → StandsSo texts part phase lists behind a start steps →
+    StandsSo texts part next after behind_it after_it now (steps ++ record { bytes = bytes; host = record host { held = held }; written = written } ∷ [])
 
 -- the host can't handle the front of these bytes
 pub record StopsAt (host : Feeding) (rest : List ℕ) (handled : Handled) : Type 0 where

@@ -1,5 +1,5 @@
 -- The part of a run that a page shows, by the times of records. This project's own.
-use Rattle.std.specs.Prelude.{◌≡◌, ℕ, Bool, true, false, List, [], ◌∷◌, ◌++◌, length, nat_le, if◌then◌else◌, Option, Some, None, ⊤}
+use Rattle.std.specs.Prelude.{◌≡◌, ℕ, Bool, true, false, not, List, [], ◌∷◌, ◌++◌, length, nat_le, if◌then◌else◌, Option, Some, None, ⊤}
 use Rattle.run_stepper.specs.Steps.{Step}
 use Rattle.run_page.specs.declared.part.Part.{Part}
 use Rattle.run_page.specs.declared.part.Phase.{Phase}
@@ -26,6 +26,12 @@ abbrev pub is_before : Phase → Bool
 is_before Before = true
 is_before Inside = false
 is_before After = false
+
+-- whether the part begins, or is passed, if this phase is followed by `next`
+abbrev pub is_left_for : (phase next : Phase) → Bool
+is_left_for Before next = not (is_before next)
+is_left_for Inside next = false
+is_left_for After next = false
 
 abbrev pub is_after : Phase → Bool
 is_after Before = false

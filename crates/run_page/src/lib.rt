@@ -17,6 +17,8 @@ mod page_script_3;
 mod part;
 mod progress;
 mod report;
+mod running;
+mod shown_part;
 mod telling;
 
 pub use error::ReportError;
@@ -25,4 +27,6 @@ pub use page_json::{Run, Source};
 pub use part::{Part, WHOLE};
 pub use progress::{Progress, Silent};
 pub use report::write_page;
-pub use telling::{Begun, Telling, tell_run};
+pub use running::tell_run;
+pub use shown_part::{PartStart, ShownPart};
+pub use telling::Telling;

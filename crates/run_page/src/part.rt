@@ -1,7 +1,7 @@
 //! The part of a run that a page shows.
 
 ghost use Rattle.std.specs.Prelude.{◌≡◌};
-ghost use Rattle.run_page.specs.Part.{is_after, is_before, is_from, is_until, phase_after};
+ghost use Rattle.run_page.specs.Part.{is_after, is_before, is_from, is_left_for, is_until, phase_after};
 
 /// The times of a part of a run, in 1/65,536 s since second 0: it has the records from the first one at `from` or later, up to the next one
 /// at `until` or later, which isn't in it.
@@ -80,6 +80,17 @@ impl Phase {
     {
         match self {
             Phase::Before => true,
+            Phase::Inside => false,
+            Phase::After => false,
+        }
+    }
+
+    /// Whether the part begins, or is passed, if the next phase is this one.
+    pub fn is_left_for(self, next: Phase) -> bool
+        ensures { result ≡ is_left_for self next }
+    {
+        match self {
+            Phase::Before => !next.is_before(),
             Phase::Inside => false,
             Phase::After => false,
         }

@@ -4,7 +4,8 @@ use crate::error::ReportError;
 use crate::intake::Taken;
 use crate::part::Part;
 use crate::progress::Progress;
-use crate::telling::{Telling, tell_run};
+use crate::running::tell_run;
+use crate::shown_part::ShownPart;
 use crate::{page_front, page_script_0, page_script_1, page_script_2, page_script_3};
 use lc_model::ByteSource;
 use page_json::{CommandLine, Data, Ended, Run, Source, Window, command_lines};
@@ -51,33 +52,35 @@ fn put_page<W: Write>(out: &mut W, data: &Data<'_, '_, '_, '_>) -> io::Result<()
 }
 
 /// The part that a page shows; `None` if it shows the whole run.
-fn window_of(part: Part, telling: &Telling<'_>) -> Option<Window> {
+fn window_of(part: Part, page: &ShownPart<'_>) -> Option<Window> {
     if part.from.is_none() && part.until.is_none() {
         return None;
     }
     Some(Window {
         from: part.from,
         until: part.until,
-        records: telling.begun.records,
-        packets: telling.begun.packets,
+        records: page.start.records,
+        packets: page.start.packets,
     })
 }
 
-/// One time less another; 0 if there is no other.
-fn shift_of(telling: &Telling<'_>) -> i64 {
-    telling.begun.start as i64 - telling.clock.start as i64
+/// A time of a record as a signed number.
+fn signed(ticks: u64) -> i64 {
+    i64::try_from(ticks).unwrap_or(i64::MAX)
 }
 
-/// Writes the page of a run's account.
-fn put_told<W: Write>(
+/// Writes the page of a part of a run.
+fn put_part<W: Write>(
     out: &mut W,
     run: &Run<'_, '_>,
     part: Part,
-    telling: &Telling<'_>,
+    page: &ShownPart<'_>,
     commands: &[CommandLine],
     taken: Taken,
     ending: Ending,
 ) -> io::Result<()> {
+    let telling = &page.telling;
+    let shift = signed(page.start.ticks).saturating_sub(signed(telling.clock.start));
     let (lanes, values) = telling.lists.parts();
     let Taken { bytes, digest } = taken;
     let data = Data {
@@ -85,10 +88,14 @@ fn put_told<W: Write>(
         bytes,
         digest,
         ended: page_end(ending),
-        window: window_of(part, telling),
-        start: telling.begun.start,
-        shift: shift_of(telling),
-        end: telling.clock.end,
+        window: window_of(part, page),
+        start: page.start.ticks,
+        shift,
+        end: if telling.account.figures.records == 0 {
+            shift
+        } else {
+            telling.clock.end
+        },
         is_ordered: telling.clock.is_ordered,
         account: &telling.account,
         lanes,
@@ -100,9 +107,9 @@ fn put_told<W: Write>(
 
 /// Runs rule texts under a schedule over a stream, and writes what happened as one page of HTML, which needs no other file.
 ///
-/// page/DATA.md has the contents of the page, which shows this part of the run. The stream is read to its end, in pieces, and run once; the memory doesn't grow with
-/// the run. `progress` gets the number of handled bytes after each record. A stream that ends early has a page too. Returns how the
-/// run ended.
+/// page/DATA.md has the contents of the page, which shows this part of the run. The stream is read to its end, in pieces, and run once;
+/// the memory doesn't grow with the run. `progress` gets the number of handled bytes after each record. A stream that ends early has a
+/// page too. Returns how the run ended.
 ///
 /// Errors before anything is written: `Rules` with the first text that doesn't compile, numbered from 0; `Read` if a read fails;
 /// `Bound` if there are more records or reads than 64 bits can count. Others: `Memory`; `Write` if the writer fails, and then a part of
@@ -117,7 +124,7 @@ pub fn write_page<R: ByteSource, W: Write, P: Progress>(
     progress: &mut P,
 ) -> Result<Ending, ReportError> {
     let texts = bytes_of(alloc, run.texts)?;
-    let (telling, taken, ending) = tell_run(
+    let (page, taken, ending) = tell_run(
         alloc,
         schedule,
         texts.as_slice(),
@@ -125,7 +132,7 @@ pub fn write_page<R: ByteSource, W: Write, P: Progress>(
         reader,
         progress,
     )?;
-    let commands = command_lines(alloc, &telling.account)?;
-    put_told(out, run, part, &telling, commands.as_slice(), taken, ending)?;
+    let commands = command_lines(alloc, &page.telling.account)?;
+    put_part(out, run, part, &page, commands.as_slice(), taken, ending)?;
     Ok(ending)
 }

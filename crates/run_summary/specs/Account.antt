@@ -22,7 +22,7 @@ use Rattle.run_summary.specs.About.{rule_of}
 use Rattle.run_summary.specs.Asking.{Counted, asking, behind_rule, counted_by, row_asked}
 use Rattle.run_summary.specs.Bands.{InForce, bands_anew, begun, enforced, has_changed, how_left, in_mode}
 use Rattle.run_summary.specs.Brought.{Brings, Command, File, Telemetry, Tick, brings, is_sample_request}
-use Rattle.run_summary.specs.Fields.{all_seen, forgotten}
+use Rattle.run_summary.specs.Fields.{all_seen, forgotten, uncounted}
 use Rattle.run_summary.specs.Figures.{none, one_more, with_event, with_packet, with_record}
 use Rattle.run_summary.specs.Holds.{hold_of}
 use Rattle.run_summary.specs.Packets.{packets_of}
@@ -289,10 +289,11 @@ account_behind a (step ∷ steps) = account_behind (account_with step a) steps
 
 -- ---- a part of a run
 
--- the account before the first record of a part: requests, events, commands and changes so far are dropped, but for the tables in force and
--- the mode; the figures count the part alone, but for the number of packets, which goes on
+-- the account before the first record of a part: requests, events, commands and changes so far are dropped, and what is known stays. The
+-- figures and the packets of fields count the part alone, but for the number of packets that the run wrote, which goes on.
 abbrev pub begun_anew : Account → Account
 begun_anew a = record a {
+  seen = map uncounted a.seen;
   bands = bands_anew a.bands;
   sending = nothing_sent;
   uplinks = no_items uplinks_kept uplinks_kept;

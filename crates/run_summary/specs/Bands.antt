@@ -1,6 +1,6 @@
 -- Which tables are in force, as the host shows it after records, how they came into force, and the Limit Checker's mode. This project's
 -- own.
-use Rattle.std.specs.Prelude.{ℕ, ◌+◌, Bool, true, false, not, ◌||◌, List, [], ◌∷◌, ◌++◌, length, nat_lt, ◌==◌, if◌then◌else◌, Option, Some, None, pos}
+use Rattle.std.specs.Prelude.{ℕ, ◌+◌, Bool, true, false, not, ◌||◌, List, [], ◌∷◌, ◌++◌, length, nat_lt, ◌==◌, if◌then◌else◌, Option, Some, None}
 use Rattle.lc_model.specs.declared.mode.LcMode.{LcMode}
 use Rattle.lc_model.specs.Codes.{mode_code}
 use Rattle.run_summary.specs.declared.bands.How.{How}
@@ -20,22 +20,10 @@ pub record InForce : Type 0 where
   pub text : Option ℕ
   pub how : How
   pub mode : Option LcMode
-  -- the places from which on they are so
-  pub tables_at : Place
-  pub mode_at : Place
 
 -- of a run without records
 abbrev pub nothing_in_force : InForce
-nothing_in_force = record {
-  tables = [];
-  modes = [];
-  force = None;
-  text = None;
-  how = how.None;
-  mode = None;
-  tables_at = record { «record» = 0; time = pos 0 };
-  mode_at = record { «record» = 0; time = pos 0 };
-}
+nothing_in_force = record { tables = []; modes = []; force = None; text = None; how = how.None; mode = None }
 
 -- the most entries of a band, of which the last one means that later changes aren't kept
 abbrev pub most : ℕ
@@ -76,7 +64,6 @@ abbrev pub enforced : Place → How → InForce → InForce
 enforced place how b = record b {
   text = text_enforced how b.force;
   how = how;
-  tables_at = place;
   tables = tables_told place (text_enforced how b.force) how b.tables;
 }
 
@@ -91,7 +78,7 @@ mode_number (Some mode) = mode_code mode
 abbrev pub in_mode : Place → Option LcMode → InForce → InForce
 in_mode place mode b =
     if length b.modes == 0 || not (mode_number b.mode == mode_number mode)
-    then record b { mode = mode; mode_at = place; modes = mode_told place mode b.modes } else b
+    then record b { mode = mode; modes = mode_told place mode b.modes } else b
 
 -- whether no tables are in force
 abbrev pub is_none_in_force : How → Bool
@@ -114,18 +101,14 @@ how_over before (Some mode) begun changed = if changed then Some (how_unsaid bef
 abbrev pub how_left : Option LcMode → InForce → Option How
 how_left mode b = how_over b.mode mode b.how (has_changed b)
 
--- without a change: after the first record it is told that no tables are in force, if none came into force
+-- the tables in force as they are, from this place on
+abbrev pub told_again : Place → InForce → InForce
+told_again place b = record b { tables = tables_told place b.text b.how b.tables }
+
+-- without a change: after the first record it is told which tables are in force, if none came into force
 abbrev pub begun : Place → InForce → InForce
-begun place b = if length b.tables == 0 then enforced place how.None b else b
+begun place b = if length b.tables == 0 then told_again place b else b
 
--- ---- a part of a run
-
--- the present entry alone, if there are any
-abbrev pub tables_anew : InForce → List TablesFrom
-tables_anew b = if length b.tables == 0 then [] else record { place = b.tables_at; text = b.text; how = Some b.how } ∷ []
-
-abbrev pub modes_anew : InForce → List ModeFrom
-modes_anew b = if length b.modes == 0 then [] else record { place = b.mode_at; mode = Some b.mode } ∷ []
-
+-- before the first record of a part of a run: what is in force stays, and is told after that record
 abbrev pub bands_anew : InForce → InForce
-bands_anew b = record b { tables = tables_anew b; modes = modes_anew b }
+bands_anew b = record b { tables = []; modes = [] }

@@ -18,7 +18,7 @@ use crate::holds::{ALL_ON, TypesOn};
 use crate::place::{ABSENT, Place, Stand, stand_in};
 use crate::plans::{Part, RulePlans, parts_at, plans_of};
 use crate::samples::FailRun;
-use crate::seen::{Seen, all_unseen, forget_all, see_all};
+use crate::seen::{Seen, all_unseen, count_all_anew, forget_all, see_all};
 use crate::sent::Sending;
 use crate::texts::{fields_of, rule_count};
 use crate::uplinks::{UPLINKS, Uplink, keep_uplink};
@@ -246,15 +246,16 @@ impl<'a> Account<'a> {
         self.bands.take_mode(place, mode)
     }
 
-    /// Begins a part of a run: drops the requests, events, commands and changes so far, except the tables in force and the mode. The
-    /// figures count the part alone, except the number of packets, which goes on. The only error is a lack of memory.
-    pub fn begin_anew(&mut self) -> Result<(), AllocError>
-        ensures { OnOk result (account_of self.new ≡ begun_anew (account_of self.old)) }
+    /// Begins a part of a run: drops the requests, events, commands and changes so far, and keeps what is known. The figures and the
+    /// packets of fields count the part alone, but the number of packets that the run wrote goes on.
+    pub fn begin_anew(&mut self)
+        ensures { account_of self.new ≡ begun_anew (account_of self.old) }
     {
+        count_all_anew(&mut self.seen);
         let packets = self.figures.packets;
         self.sending = Sending::new(self.alloc);
         self.uplinks = Ends::new(self.alloc, UPLINKS, UPLINKS);
         self.figures = Figures::after(packets);
-        self.bands.begin_anew()
+        self.bands.begin_anew();
     }
 }

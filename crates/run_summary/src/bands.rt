@@ -1,7 +1,7 @@
 //! The tables in force and the Limit Checker's mode, over the run.
 
 ghost use Rattle.std.specs.Prelude.{◌≡◌, OnOk};
-ghost use Rattle.run_summary.specs.Bands.{bands_anew, begun, enforced, has_changed, how_left, how_unsaid, in_mode, is_none_in_force, is_text, mode_number, mode_told, modes_anew, nothing_in_force, tables_anew, text_enforced, told_more};
+ghost use Rattle.run_summary.specs.Bands.{bands_anew, begun, enforced, has_changed, how_left, how_unsaid, in_mode, is_none_in_force, is_text, mode_number, mode_told, nothing_in_force, text_enforced, told_again, told_more};
 
 use crate::place::Place;
 use lc_model::LcMode;
@@ -10,9 +10,6 @@ use std::marker::Model;
 
 /// The most entries of a band.
 const MOST: usize = 500;
-
-/// The place before the first record.
-const NOWHERE: Place = Place { record: 0, time: 0 };
 
 /// How tables came into force.
 #[derive(Clone, Copy)]
@@ -124,8 +121,6 @@ pub struct Bands {
     text: Option<usize>,
     how: How,
     mode: Option<LcMode>,
-    tables_at: Place,
-    mode_at: Place,
 }
 
 impl Model for Bands {
@@ -140,8 +135,6 @@ impl Model for Bands {
       text = b.text;
       how = b.how;
       mode = b.mode;
-      tables_at = b.tables_at;
-      mode_at = b.mode_at;
     } };
 }
 
@@ -156,8 +149,6 @@ impl Bands {
             text: None,
             how: How::None,
             mode: None,
-            tables_at: NOWHERE,
-            mode_at: NOWHERE,
         }
     }
 
@@ -218,14 +209,19 @@ impl Bands {
     pub(crate) fn enforce(&mut self, place: Place, how: How) -> Result<(), AllocError>
         ensures { OnOk result (self.new ≡ enforced place how self.old) }
     {
-        let text = text_enforced(how, self.force);
-        self.text = text;
+        self.text = text_enforced(how, self.force);
         self.how = how;
-        self.tables_at = place;
+        self.tell_tables(place)
+    }
+
+    /// Appends the tables in force. The only error is a lack of memory.
+    fn tell_tables(&mut self, place: Place) -> Result<(), AllocError>
+        ensures { OnOk result (self.new ≡ told_again place self.old) }
+    {
         let told = TablesFrom {
             place,
-            text,
-            how: Some(how),
+            text: self.text,
+            how: Some(self.how),
         };
         let untold = TablesFrom {
             place,
@@ -238,10 +234,9 @@ impl Bands {
     /// Appends the mode to the band.
     fn tell_mode(&mut self, place: Place, mode: Option<LcMode>) -> Result<(), AllocError>
         ensures { OnOk result (self.new ≡
-            record self.old { mode = mode; mode_at = place; modes = mode_told place mode self.old.modes }) }
+            record self.old { mode = mode; modes = mode_told place mode self.old.modes }) }
     {
         self.mode = mode;
-        self.mode_at = place;
         let told = ModeFrom {
             place,
             mode: Some(mode),
@@ -260,52 +255,21 @@ impl Bands {
         Ok(())
     }
 
-    /// Appends that no tables are in force, if nothing was appended before. The only error is a lack of memory.
+    /// Appends the tables in force, if nothing was appended before. The only error is a lack of memory.
     pub(crate) fn begin(&mut self, place: Place) -> Result<(), AllocError>
         ensures { OnOk result (self.new ≡ begun place self.old) }
     {
         if self.tables.len() == 0 {
-            return self.enforce(place, How::None);
+            return self.tell_tables(place);
         }
         Ok(())
     }
 
-    /// Drops all entries of the tables but the present one.
-    fn drop_tables(&mut self) -> Result<(), AllocError>
-        ensures { OnOk result (self.new ≡ record self.old { tables = tables_anew self.old }) }
+    /// Drops all entries, and keeps what is in force.
+    pub(crate) fn begin_anew(&mut self)
+        ensures { self.new ≡ bands_anew self.old }
     {
-        if self.tables.is_empty() {
-            return Ok(());
-        }
         self.tables.clear();
-        self.tables.push(TablesFrom {
-            place: self.tables_at,
-            text: self.text,
-            how: Some(self.how),
-        })?;
-        Ok(())
-    }
-
-    /// Drops all entries of the modes but the present one.
-    fn drop_modes(&mut self) -> Result<(), AllocError>
-        ensures { OnOk result (self.new ≡ record self.old { modes = modes_anew self.old }) }
-    {
-        if self.modes.is_empty() {
-            return Ok(());
-        }
         self.modes.clear();
-        self.modes.push(ModeFrom {
-            place: self.mode_at,
-            mode: Some(self.mode),
-        })?;
-        Ok(())
-    }
-
-    /// Drops all entries but the present ones. The only error is a lack of memory.
-    pub(crate) fn begin_anew(&mut self) -> Result<(), AllocError>
-        ensures { OnOk result (self.new ≡ bands_anew self.old) }
-    {
-        self.drop_tables()?;
-        self.drop_modes()
     }
 }
