@@ -1,16 +1,18 @@
 -- The account of a run, one record more.
-use Rattle.std.proofs.Common.{◌≡◌, ℕ, ◌+◌, List, [], ◌∷◌, ◌++◌, length, length-append, refl, ap, sym, ◌∙◌, subst, arith, if◌then◌else◌, Option}
+use Rattle.std.proofs.Common.{◌≡◌, ℕ, ◌+◌, List, [], ◌∷◌, ◌++◌, length, length-append, map, refl, ap, sym, ◌∙◌, subst, arith, if◌then◌else◌, Option}
 use Rattle.std.specs.Prelude.{◌==◌, Bool, true, false, OnOk, Result, ⊤}
 use Rattle.std.proofs.lemmas.Result.{on_ok_weaker}
 use Rattle.std.proofs.lemmas.Bool.Decides.{nat_tests}
 use Rattle.run_summary.specs.Account as account
 use Rattle.run_summary.specs.Account.{Account, account_behind, account_with}
 use Rattle.run_summary.specs.Run as run
-use Rattle.run_summary.specs.Run.{FieldsCome, nothing_told}
-use Rattle.run_summary.specs.Fields.{AreKnown}
+use Rattle.run_summary.specs.Run.{FieldsCome, OfTexts, nothing_told}
+use Rattle.run_summary.specs.Fields.{AreKnown, uncounted, unseen}
 use Rattle.run_summary.specs.declared.holds.TypesOn.{TypesOn}
 use Rattle.run_summary.specs.declared.place.Place.{Place}
 use Rattle.run_summary.specs.declared.place.Stand.{Stand}
+use Rattle.run_summary.specs.declared.seen.Seen.{Seen}
+use Rattle.run_summary.specs.declared.texts.Field.{Field}
 use Rattle.app_host.specs.Delivered.{executive_in}
 use Rattle.flight_core.specs.Feeding.{Feeding}
 use Rattle.rpn_compiler.specs.declared.files.TablePair.{TablePair}
@@ -31,6 +33,14 @@ taken_more pairs start number (one ∷ steps) step =
     ap (λ more. taken_of pairs start number one ∷ more)
     (taken_more pairs start (number + 1) steps step
     ∙ ap (λ at. taken_from pairs start (number + 1) steps ++ taken_of pairs start at step ∷ []) (omega arith))
+
+-- before the first record nothing changes where an account begins anew
+uncounted_yet : (fields : List Field) → map uncounted (map unseen fields) ≡ map unseen fields
+uncounted_yet [] = refl
+uncounted_yet (field ∷ fields) = ap (λ (all : List Seen). unseen field ∷ all) (uncounted_yet fields)
+
+pub anew_of_nothing : (read : OfTexts) → account.begun_anew (nothing_told read) ≡ nothing_told read
+anew_of_nothing read = ap (λ (seen : List Seen). record (nothing_told read) { seen = seen }) (uncounted_yet read.fields)
 
 -- the time of the first record stays, once there is one
 abbrev pub Stays : List Step → (start now : ℕ) → Type 0
@@ -66,7 +76,8 @@ account_more texts earlier shown step start now a after stays so is =
 -- the part begins: the account of the records so far begins anew
 pub account_anew : (texts : OfRun) (all : List Step) (start : ℕ) (a after : Account) → a ≡ account_by texts start [] all → after ≡ account.begun_anew a →
     after ≡ account_by texts start all []
-account_anew texts all start a after so is = is ∙ ap account.begun_anew so
+account_anew texts all start a after so is =
+    is ∙ ap account.begun_anew (so ∙ ap (λ (first : Account). account_behind first (taken_from texts.pairs start 1 all)) (anew_of_nothing texts.read))
 
 -- ---- a record that is taken
 

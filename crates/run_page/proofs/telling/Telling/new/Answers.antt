@@ -4,6 +4,7 @@ use Rattle.std.proofs.lemmas.List.{length-map}
 use Rattle.run_summary.specs.Account.{Account, account_of}
 use Rattle.run_summary.specs.Fields.{AreKnown, unseen}
 use Rattle.run_summary.specs.Run.{OfTexts, TellsNothing}
+use Rattle.run_page.proofs.Accounts.{anew_of_nothing}
 use Rattle.run_page.proofs.Values.{nothing_yet}
 use Rattle.run_page.proofs.telling.Telling.new.Goals as goal
 
@@ -21,7 +22,7 @@ returns-clause-nothing c sources are =
             (ap (λ (a : Account). a.lanes) nothing.is)
             (c.len.ensures ∙ c.in_ok-account.account.seen.ok.0 ∙ ap (λ (a : Account). length a.seen) nothing.is ∙ length-map texts.fields unseen) c.in_ok-lists.ensures;
         kept = λ looked. absurd (false≢true (sym c.new-4.ensures ∙ looked));
-        is_account = nothing.is;
+        is_account = nothing.is ∙ sym (anew_of_nothing texts);
         known = subst (λ (a : Account). AreKnown 1 texts.fields a.seen) (sym nothing.is) (c.fields_that_come.ensures.begin texts);
         stood_last = λ looked. absurd (false≢true (sym c.new-4.ensures ∙ looked));
       },
