@@ -1,6 +1,7 @@
 //! The times that the options of a page name.
 
-ghost use Rattle.std.specs.Prelude.{◌≡◌, IfErr};
+ghost use Rattle.std.specs.Prelude.{◌<◌, ◌≡◌, ◌^◌, IfErr, IfOk, IfSome, None, Ok};
+ghost use Rattle.run_commands.specs.Times.{IsLeast};
 ghost use Rattle.tool_faults.specs.Status.{status_of};
 
 use lc_model::SUBSECONDS;
@@ -19,22 +20,33 @@ pub struct PageTimes<'a> {
     pub until: Option<&'a str>,
 }
 
-/// The most digits behind the point, as a listing of packets has them.
-const DIGITS: usize = 5;
-
 /// The parts of a second that a listing counts.
 const PARTS: u64 = 100_000;
 
-/// The digits behind the point as a number of 1/100,000 s.
-fn parts_of(digits: &[u8]) -> Option<u64> {
-    let mut parts = decimal_number(DIGITS, digits)?;
-    for _ in digits.len()..DIGITS {
-        parts *= 10;
+/// One to five digits after the point, in 1/100,000 s.
+fn parts_of(digits: &[u8]) -> Option<u64>
+    ensures { IfSome result (λ parts. parts < 100_000) }
+{
+    match digits.len() {
+        1 => Some(decimal_number(1, digits)? * 10_000),
+        2 => Some(decimal_number(2, digits)? * 1_000),
+        3 => Some(decimal_number(3, digits)? * 100),
+        4 => Some(decimal_number(4, digits)? * 10),
+        _ => decimal_number(5, digits),
     }
-    Some(parts)
 }
 
-/// The least time, in 1/65,536 s, at which a listing says at least these seconds: `104`, `104.5` or `104.00000`.
+/// The least time, in 1/65,536 s, at which a listing prints at least these seconds and 1/100,000 s.
+fn least_ticks(seconds: u64, parts: u64) -> u64
+    requires seconds { seconds < 2 ^ 32 }
+    requires parts { parts < 100_000 }
+    ensures { IsLeast seconds parts result }
+{
+    let ticks = u64::from(SUBSECONDS);
+    seconds * ticks + (parts * ticks + PARTS - 1) / PARTS
+}
+
+/// The time of a word of an option: `104`, `104.5` or `104.00000`, below 2^32 s.
 fn ticks_of(word: &[u8]) -> Option<u64> {
     let (whole, rest) = split_digits(word);
     let seconds = decimal_number(10, whole)?;
@@ -46,13 +58,13 @@ fn ticks_of(word: &[u8]) -> Option<u64> {
     if seconds > u64::from(u32::MAX) {
         return None;
     }
-    let ticks = u64::from(SUBSECONDS);
-    Some(seconds * ticks + (parts * ticks + PARTS - 1) / PARTS)
+    Some(least_ticks(seconds, parts))
 }
 
 /// The time of an option, if it is given. Error: `Value` if its word is none.
 fn time_of<'a>(option: &'static str, word: Option<&'a str>) -> Result<Option<u64>, Fault<'a>>
-    ensures { IfErr result (λ fault. status_of fault ≡ 2) }
+    ensures refused { IfErr result (λ fault. status_of fault ≡ 2) }
+    ensures none { word ≡ None → result ≡ Ok None }
 {
     match word {
         None => Ok(None),
@@ -65,7 +77,11 @@ fn time_of<'a>(option: &'static str, word: Option<&'a str>) -> Result<Option<u64
 
 /// The part of a run that is shown. Errors: `Value` if a word names no time, or the part ends before it begins.
 pub fn part_of<'a>(times: PageTimes<'a>) -> Result<Part, Fault<'a>>
-    ensures { IfErr result (λ fault. status_of fault ≡ 2) }
+    ensures refused { IfErr result (λ fault. status_of fault ≡ 2) }
+    ensures whole { times.from ≡ None → times.until ≡ None →
+        result ≡ Ok (record { from = None; until = None }) }
+    ensures ordered { IfOk result
+        (λ part. IfSome part.from (λ from. IfSome part.until (λ until. from < until))) }
 {
     let from = time_of("--from", times.from)?;
     let until = time_of("--until", times.until)?;

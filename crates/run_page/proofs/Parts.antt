@@ -1,5 +1,5 @@
 -- The part of a run that is shown, one record more.
-use Rattle.std.proofs.Common.{◌≡◌, ℕ, zero, suc, ◌+◌, ◌<◌, ◌^◌, Bool, true, false, List, [], ◌∷◌, ◌++◌, length, length-append, refl, ap, sym, ◌∙◌, subst, arith, if◌then◌else◌}
+use Rattle.std.proofs.Common.{◌≡◌, ℕ, zero, suc, ◌+◌, ◌<◌, ◌^◌, Bool, true, false, List, [], ◌∷◌, ◌++◌, length, length-append, refl, ap, sym, ◌∙◌, subst, arith, if◌then◌else◌, None}
 use Rattle.std.specs.Prelude.{◌==◌}
 use Rattle.std.proofs.lemmas.Bool.{false≢true}
 use Rattle.std.proofs.lemmas.List.{append_assoc, append-nil}
@@ -8,7 +8,7 @@ use Rattle.flight_core.specs.Feeding.{Feeding}
 use Rattle.run_stepper.specs.Stepping.{engine_among}
 use Rattle.run_stepper.specs.Steps.{Step}
 use Rattle.run_summary.specs.declared.texts.Field.{Field}
-use Rattle.run_summary.specs.Account.{Account}
+use Rattle.run_summary.specs.Account.{Account, account_behind}
 use Rattle.run_summary.specs.Brought.{brings}
 use Rattle.run_summary.specs.Fields.{AreKnown, all_brought}
 use Rattle.run_summary.specs.Standing.{stand_at}
@@ -17,10 +17,10 @@ use Rattle.run_page.specs.declared.lists.Lists.{Lists}
 use Rattle.run_page.specs.declared.part.Part.{Part}
 use Rattle.run_page.specs.declared.part.Phase.{Phase}
 use Rattle.run_page.specs.declared.part.Phase.TheVariants.{Before, Inside, After}
-use Rattle.run_page.specs.Model.{Adds, CameTo, HasShown, HasTaken, HasTold, IsAnew, IsKept, KeepsStands, ListsTell, OfRun, StandsSo, all_values, lanes_from, place_of, stands_of, start_of, stood, stood_more, told_from, values_more}
+use Rattle.run_page.specs.Model.{Adds, CameTo, HasShown, HasTaken, HasTold, IsAnew, IsKept, KeepsStands, ListsTell, OfRun, ShowsAll, StandsSo, all_values, lanes_from, place_of, stands_of, start_of, stood, stood_more, taken_from, told_from, values_more}
 use Rattle.run_page.specs.Part.{FirstBegins, FirstEnds, NoneBegins, NoneEnds, is_after, is_before, is_from, is_left_for, is_until, phase_after}
 use Rattle.run_page.specs.Times.{ticks_of}
-use Rattle.run_page.proofs.Accounts.{Stays, account_anew, account_more, start_stays}
+use Rattle.run_page.proofs.Accounts.{Stays, account_anew, account_more, anew_of_nothing, start_stays}
 use Rattle.run_page.proofs.Lanes.{length_nothing, nothing_of_lanes}
 use Rattle.run_page.proofs.Values.{all_values_more, known_length, nothing_yet}
 
@@ -337,6 +337,31 @@ adds_taken texts part phase at next lists middle after behind between behind_it 
     subst (λ (p : Phase). StandsSo texts part p after behind_it after_it now (steps ++ step ∷ [])) (sym same)
     (stands_taken texts part phase at middle after between behind_it amid after_it mid now steps step (is_phase ∙ ap (phase_after part phase) is_ticks) ongoing (came steps stands)
     (subst (λ (n : ℕ). Takes texts middle after between behind_it amid after_it mid now n step) numbered takes_it))
+
+-- ---- the whole run
+
+no_earlier : (part : Part) (earlier : List Step) → part.from ≡ None → NoneBegins part earlier → earlier ≡ []
+no_earlier part [] none before = refl
+no_earlier part (step ∷ steps) none before = absurd (false≢true (sym before.0 ∙ ap (λ from. is_from from (ticks_of step.bytes)) none))
+
+no_later : (part : Part) (later : List Step) → part.until ≡ None → FirstEnds part later → later ≡ []
+no_later part [] none ends = refl
+no_later part (step ∷ steps) none ends = absurd (false≢true (sym (ap (λ until. is_until until (ticks_of step.bytes)) none) ∙ ends))
+
+pub shows_all : ShowsAll
+shows_all texts part lists behind a start all from until so =
+    let whole : so.shown ≡ all =
+    sym (append-nil so.shown)
+    ∙ (λ i. sym (no_earlier part so.earlier from so.parts.before) i ++ (so.shown ++ sym (no_later part so.later until so.parts.ends) i))
+    ∙ so.are_all in
+    let told : HasTold texts lists behind a start [] all =
+    subst (λ (earlier : List Step). HasTold texts lists behind a start earlier all) (no_earlier part so.earlier from so.parts.before)
+    (subst (λ (shown : List Step). HasTold texts lists behind a start so.earlier shown) whole so.told) in
+    record {
+      first = told.first;
+      lists_tell = told.lists_tell;
+      is_account = told.is_account ∙ ap (λ (first : Account). account_behind first (taken_from texts.pairs start 1 all)) (anew_of_nothing texts.read);
+    }
 
 -- ---- the end
 

@@ -283,6 +283,17 @@ CameTo texts part Before After lists behind a start all = NoneBegins part all ×
 CameTo texts part Inside next lists behind a start all = StandsSo texts part Inside lists behind a start all
 CameTo texts part After next lists behind a start all = StandsSo texts part After lists behind a start all
 
+-- all records of a run are told, from its first
+pub record TellsAll (texts : OfRun) (lists : Lists) (a : Account) (start : ℕ) (all : List Step) : Type 0 where
+  pub first : start ≡ start_of all
+  pub lists_tell : ListsTell lists (lanes_from start 1 0 texts.read.lanes all) (all_values start 1 texts.read.fields all)
+  pub is_account : a ≡ account_behind (run.nothing_told texts.read) (taken_from texts.pairs start 1 all)
+
+-- a part without times is the whole run
+abbrev pub ShowsAll : Type 0
+ShowsAll = (texts : OfRun) (part : Part) (lists : Lists) (behind : Behind) (a : Account) (start : ℕ) (all : List Step) → part.from ≡ None → part.until ≡ None →
+    HasShown texts part lists behind a start all → TellsAll texts lists a start all
+
 -- how a run stands with one more record: it has this number and these bytes, and led to these packets and this host, whatever that one holds
 -- of its stream
 abbrev pub Adds : OfRun → Part → (phase next : Phase) → (lists after : Lists) → (behind behind_it : Behind) → (a after_it : Account) → (start now number : ℕ) →

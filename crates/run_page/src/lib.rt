@@ -8,6 +8,7 @@ mod clock;
 mod entry;
 mod error;
 mod intake;
+pub mod laws;
 mod lists;
 mod page_front;
 mod page_script_0;
