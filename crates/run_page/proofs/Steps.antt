@@ -310,6 +310,20 @@ module _ (laws : Laws) (texts : OfRun) (part : Part) (phase : Phase) (first old 
           subst (TellsTaken texts part before left intake is first after after_it) (sym (so ∙ ap (λ bytes. ending_at bytes number) left_is))
           (by_left host.held.bytes refl (ap (λ n. front all_kinds n host.held.bytes) (sym more_read.of_texts) ∙ waits.front))
 
+-- of the same part
+pub finishes_so : (texts : OfRun) (part other : Part) (phase : Phase) (lists after : Lists) (behind behind_it : Behind) (a after_it : Account) (start now : ℕ) → other ≡ part →
+    ((steps : List Step) → StandsSo texts other phase lists behind a start steps → HasShown texts other after behind_it after_it now steps) →
+    (steps : List Step) → StandsSo texts part phase lists behind a start steps → HasShown texts part after behind_it after_it now steps
+finishes_so texts part other phase lists after behind behind_it a after_it start now same finishes steps stands =
+    subst (λ (it : Part). HasShown texts it after behind_it after_it now steps) same
+    (finishes steps (subst (λ (it : Part). StandsSo texts it phase lists behind a start steps) (sym same) stands))
+
+pub adds_so : (texts : OfRun) (part other : Part) (phase next : Phase) (lists after : Lists) (behind behind_it : Behind) (a after_it : Account) (start now number : ℕ) (bytes : List ℕ)
+    (host : Feeding) (written : List ℕ) → other ≡ part → Adds texts other phase next lists after behind behind_it a after_it start now number bytes host written →
+    Adds texts part phase next lists after behind behind_it a after_it start now number bytes host written
+adds_so texts part other phase next lists after behind behind_it a after_it start now number bytes host written same adds =
+    subst (λ (it : Part). Adds texts it phase next lists after behind behind_it a after_it start now number bytes host written) same adds
+
 -- .. of a run that began so
 pub all_read : StepsAreARun → (sources : List (List ℕ)) (schedule : Schedule) (part : Part) (read : OfTexts) (pairs : List TablePair) (first : Feeding) (before between left : Option (List ℕ)) (old was is : Intake) (lists : Lists) (a : Account)
     (ending : Ending) (bytes : ℕ) (digest : List ℕ) → HaveItems sources read.texts → AreRead read → AreAllCompiled sources pairs → BeginsWith sources schedule first →

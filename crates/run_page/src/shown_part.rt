@@ -126,12 +126,13 @@ impl<'a> ShownPart<'a> {
         if phase.is_after() {
             return Ok(());
         }
-        self.telling.take(stepping, pairs, record, number)
+        self.telling.take(stepping, pairs, record, number)?;
+        Ok(())
     }
 
     /// Ends with this number of records: a part that didn't begin is empty. The only error is a lack of memory.
     pub(crate) fn finish(&mut self, records: u64) -> Result<(), AllocError>
-        ensures shows { (texts : OfRun) (steps : List Step) →
+        ensures { (texts : OfRun) (steps : List Step) →
             StandsSo texts self.old.part self.old.phase self.old.telling.lists
             self.old.telling.behind (account_of self.old.telling.account)
             self.old.telling.clock.start steps → OnOk result
@@ -141,6 +142,7 @@ impl<'a> ShownPart<'a> {
         if !self.phase.is_before() {
             return Ok(());
         }
-        self.come_to(Phase::After, 0, records)
+        self.come_to(Phase::After, 0, records)?;
+        Ok(())
     }
 }
