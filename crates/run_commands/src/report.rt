@@ -189,9 +189,9 @@ fn put_page<'a, R: Files + Eprint + AllocGlobal, I: Read + Drop>(
     }
 }
 
-/// Runs rule texts over a stream and writes the page of the run, or of the part that the options name, which replaces the old page at the end. The stream is read in
-/// pieces. Errors: `Stream` with the place for a stream that ends early, after the page is made; with any other fault the old page
-/// stays. Progress goes to standard error if `is_watched`.
+/// Runs rule texts over a stream and writes the page of the run, or of the part that the options name, which replaces the old page at
+/// the end. The stream is read in pieces. Errors: `Stream` with the place for a stream that ends early, after the page is made; with any
+/// other fault the old page stays. Progress goes to standard error if `is_watched`.
 pub fn make_page<'a, R: Files + Eprint + AllocGlobal>(
     rt: &R,
     schedule: &'a str,

@@ -65,7 +65,7 @@ fn window_of(part: Part, page: &ShownPart<'_>) -> Option<Window> {
 }
 
 /// A time of a record as a signed number.
-fn signed(ticks: u64) -> i64 {
+fn signed_time(ticks: u64) -> i64 {
     i64::try_from(ticks).unwrap_or(i64::MAX)
 }
 
@@ -80,7 +80,7 @@ fn put_part<W: Write>(
     ending: Ending,
 ) -> io::Result<()> {
     let telling = &page.telling;
-    let shift = signed(page.start.ticks).saturating_sub(signed(telling.clock.start));
+    let shift = signed_time(page.start.ticks).saturating_sub(signed_time(telling.clock.start));
     let (lanes, values) = telling.lists.parts();
     let Taken { bytes, digest } = taken;
     let data = Data {

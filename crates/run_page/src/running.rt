@@ -54,9 +54,10 @@ fn tell_all<R: ByteSource, P: Progress>(
     ensures room { length room.new ≡ piece_size }
     ensures told { (read : OfTexts) →
         StandsSo (run_of read pairs.now) page.old.part page.old.phase page.old.telling.lists
-        page.old.telling.behind (account_of page.old.telling.account) page.old.telling.clock.start [] →
-        IfOk result (TellsTaken (run_of read pairs.now) page.old.part (R.source reader.old).rest (R.source reader.new).rest
-        intake.old intake.new (host_in stepping.old)
+        page.old.telling.behind (account_of page.old.telling.account)
+        page.old.telling.clock.start [] → IfOk result
+        (TellsTaken (run_of read pairs.now) page.old.part (R.source reader.old).rest
+        (R.source reader.new).rest intake.old intake.new (host_in stepping.old)
         page.new.telling.lists (account_of page.new.telling.account)) }
 {
     records_are_handed_out();
@@ -102,8 +103,8 @@ fn tell_stream<R: ByteSource, P: Progress>(
         HaveItems sources read.texts → AreRead read → AreAllCompiled sources pairs.now →
         BeginsWith sources schedule (host_in stepping.old) →
         StandsSo (run_of read pairs.now) page.old.part page.old.phase page.old.telling.lists
-        page.old.telling.behind (account_of page.old.telling.account) page.old.telling.clock.start [] →
-        IfOk result (λ told. TellsRead sources schedule page.old.part
+        page.old.telling.behind (account_of page.old.telling.account)
+        page.old.telling.clock.start [] → IfOk result (λ told. TellsRead sources schedule page.old.part
         (R.source reader.old).rest (R.source reader.new).rest page.new.telling.lists
         (account_of page.new.telling.account) told.0.bytes told.0.digest told.1) }
 {
@@ -157,8 +158,8 @@ fn tell_new<'a, R: ByteSource, P: Progress>(
 
 /// Runs rule texts under a schedule over a stream, record by record, and reads the stream to its end, in pieces of at most 8,192 bytes.
 /// Returns the page's data, the stream's size and SHA-256, and how the run ended (`TellsRead`). The data is what the rules and fields of
-/// these texts do over the records of this part, up to the first fault (`TellsRun`), on a new host with these texts' files in stock and this profile's
-/// applications under this schedule. At most 73,739 bytes of the stream are held.
+/// these texts do over the records of this part, up to the first fault (`TellsRun`), on a new host with these texts' files in stock and
+/// this profile's applications under this schedule. At most 73,739 bytes of the stream are held.
 ///
 /// Errors: `Rules` with the first text that doesn't compile, numbered from 0; `Memory`; `Read` if a read fails; `Bound` if there are more
 /// records, or reads after them, than 64 bits can count.

@@ -32,7 +32,7 @@ returns-in-NoRecord-clause-told g c = λ texts nothing.
     (written_by c.handle_next.new.stepping) c.in_ok-handle_next.field-0 c.in_ok-handle_next.ensures.arrives
     last.lists last.behind (account_of last.account) last.clock.start
     (finishes_so (run_of texts c.args.pairs.now) c.args.page.now.part c.loop.page.part c.loop.page.phase page.lists last.lists page.behind last.behind (account_of page.account) (account_of last.account)
-    page.clock.start last.clock.start c.loop.invariant.part (c.in_ok-finish.ensures (run_of texts c.args.pairs.now)))
+    page.clock.start last.clock.start c.loop.invariant.part (c.in_ok-finish-in-NoRecord.ensures (run_of texts c.args.pairs.now)))
     c.in-NoRecord.is (c.loop.number + 1) refl
 
 pub returns-in-Part-clause-told : goal.returns-in-Part-clause-told
@@ -40,14 +40,14 @@ returns-in-Part-clause-told g c = λ texts nothing.
     let laws = laws_of c.records_are_handed_out.ensures.begins c.records_are_handed_out.ensures.comes c.records_are_handed_out.ensures.goes c.the_rest_says_the_end.ensures.bad
     c.the_rest_says_the_end.ensures.whole c.the_rest_says_the_end.ensures.cut in
     let page = c.loop.page.telling in
-    let last = c.finish.new.self.telling in
+    let last = c.finish-in-Part.new.self.telling in
     ends_there laws (run_of texts c.args.pairs.now) c.args.page.now.part c.loop.page.phase (host_in c.args.stepping.now) (host_in c.loop.stepping) (host_in c.handle_next.new.stepping)
     (g.R.ByteSource.source c.args.reader.now).rest (g.R.ByteSource.source c.loop.reader).rest (g.R.ByteSource.source c.handle_next.new.reader).rest c.args.intake.now c.loop.intake c.handle_next.new.intake
     page.lists page.behind (account_of page.account) page.clock.start c.loop.number (c.loop.invariant.told texts nothing)
     (written_by c.handle_next.new.stepping) c.in_ok-handle_next.field-0 c.in_ok-handle_next.ensures.arrives
     last.lists last.behind (account_of last.account) last.clock.start
     (finishes_so (run_of texts c.args.pairs.now) c.args.page.now.part c.loop.page.part c.loop.page.phase page.lists last.lists page.behind last.behind (account_of page.account) (account_of last.account)
-    page.clock.start last.clock.start c.loop.invariant.part (c.in_ok-finish.ensures (run_of texts c.args.pairs.now)))
+    page.clock.start last.clock.start c.loop.invariant.part (c.in_ok-finish-in-Part.ensures (run_of texts c.args.pairs.now)))
     c.in-Part.is c.ending_at_end.result c.ending_at_end.ensures
 
 pub loop-preserved : goal.loop-preserved
