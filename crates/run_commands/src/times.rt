@@ -64,7 +64,7 @@ fn ticks_of(word: &[u8]) -> Option<u64> {
 /// The time of an option, if it is given. Error: `Value` if its word is none.
 fn time_of<'a>(option: &'static str, word: Option<&'a str>) -> Result<Option<u64>, Fault<'a>>
     ensures refused { IfErr result (λ fault. status_of fault ≡ 2) }
-    ensures none { word ≡ None → result ≡ Ok None }
+    ensures none { word.entry ≡ None → result ≡ Ok None }
 {
     match word {
         None => Ok(None),
@@ -78,7 +78,7 @@ fn time_of<'a>(option: &'static str, word: Option<&'a str>) -> Result<Option<u64
 /// The part of a run that is shown. Errors: `Value` if a word names no time, or the part ends before it begins.
 pub fn part_of<'a>(times: PageTimes<'a>) -> Result<Part, Fault<'a>>
     ensures refused { IfErr result (λ fault. status_of fault ≡ 2) }
-    ensures whole { times.from ≡ None → times.until ≡ None →
+    ensures whole { times.entry.from ≡ None → times.entry.until ≡ None →
         result ≡ Ok (record { from = None; until = None }) }
     ensures ordered { IfOk result
         (λ part. IfSome part.from (λ from. IfSome part.until (λ until. from < until))) }
