@@ -12,6 +12,7 @@ use Rattle.flight_tools_args.specs.declared.kind.CommandKind.TheVariants as comm
 use Rattle.flight_tools_args.specs.declared.plan.CommandPlan.{CommandPlan}
 use Rattle.flight_tools_args.specs.declared.plan.CommandPlan.TheVariants.{Said, Table, Stream, Packets, Scenario, Import, Export, Report, Check, Explain, Compare, Try, Live}
 use Rattle.flight_tools_args.specs.declared.plan.ImportWords.{ImportWords}
+use Rattle.flight_tools_args.specs.declared.plan.PageWords.{PageWords}
 use Rattle.flight_tools_args.specs.declared.plan.RowWords.{RowWords}
 
 -- where no command is found, by the kind of what `clap` says: help and the version are asked for, and other words are at fault
@@ -59,6 +60,11 @@ abbrev pub HoldsForm : List Row → RowWords → Type 0
 HoldsForm rows how = IsFlag (codes "csv") rows how.csv × IsFlag (codes "json") rows how.json
     × (first_of (codes "epoch") rows ≡ option_map (λ word. word.now) how.epoch)
 
+-- what is given of the times of a page
+abbrev pub HoldsPage : List Row → PageWords → Type 0
+HoldsPage rows how = (first_of (codes "epoch") rows ≡ option_map (λ word. word.now) how.epoch)
+    × (first_of (codes "from") rows ≡ option_map (λ word. word.now) how.from) × (first_of (codes "until") rows ≡ option_map (λ word. word.now) how.until)
+
 -- these are all words of an option; none if it isn't given
 abbrev pub HoldsWords : Text → List Row → List (Bor (List ℕ)) → Type 0
 HoldsWords id rows words = unwrap_or (all_of id rows) [] ≡ map (λ word. word.now) words
@@ -80,10 +86,10 @@ HoldsRows found (Import files how) = (found.0 ≡ codes "import")
     × (all_of (codes "FILES") found.1 ≡ Some (map (λ file. file.now) files.items)) × HoldsImport found.1 how
 HoldsRows found (Export stream raw) = (found.0 ≡ codes "export")
     × (first_of (codes "STREAM") found.1 ≡ Some stream.now) × (first_of (codes "RAW") found.1 ≡ Some raw.now)
-HoldsRows found (Report schedule stream page rules epoch) = (found.0 ≡ codes "report")
+HoldsRows found (Report schedule stream page rules how) = (found.0 ≡ codes "report")
     × (first_of (codes "SCHEDULE") found.1 ≡ Some schedule.now) × (first_of (codes "STREAM") found.1 ≡ Some stream.now)
     × (first_of (codes "PAGE") found.1 ≡ Some page.now) × (all_of (codes "RULES") found.1 ≡ Some (map (λ rule. rule.now) rules.items))
-    × (first_of (codes "epoch") found.1 ≡ option_map (λ word. word.now) epoch)
+    × HoldsPage found.1 how
 HoldsRows found (Check schedule rules all strict json) = (found.0 ≡ codes "check")
     × (first_of (codes "schedule") found.1 ≡ option_map (λ word. word.now) schedule) × (all_of (codes "RULES") found.1 ≡ Some (map (λ rule. rule.now) rules.items))
     × IsFlag (codes "all") found.1 all × IsFlag (codes "strict") found.1 strict × IsFlag (codes "json") found.1 json

@@ -22,8 +22,8 @@ enum More {
     Rules,
     /// Rule texts, and whether a warning is a fault.
     Tried,
-    /// Rule texts, and the instant of second 0.
-    Dated,
+    /// Rule texts, the instant of second 0, and the times of the part that is shown.
+    Paged,
     /// Rule texts, and the options of a check.
     Checked,
     /// Further rule texts, which a stream may bring.
@@ -90,7 +90,7 @@ const ROWS: [CommandEntry; 11] = [
             ("STREAM", "A stream of records"),
             ("PAGE", "The page, which is written"),
         ],
-        more: More::Dated,
+        more: More::Paged,
     },
     CommandEntry {
         word: "check",
@@ -247,6 +247,18 @@ fn with_rows<'a>(alloc: Global, command: Command<'a>) -> Result<Command<'a>, All
         .arg(epoch_word(alloc))
 }
 
+/// A page with the options of its times.
+fn with_part<'a>(alloc: Global, command: Command<'a>) -> Result<Command<'a>, AllocError> {
+    command
+        .arg(epoch_word(alloc))?
+        .arg(option_word(
+            alloc,
+            "from",
+            "The second from which on records are shown, as packets prints it: 104.00000",
+        ))?
+        .arg(option_word(alloc, "until", "The second before which records are shown"))
+}
+
 /// The option that makes a warning a fault.
 fn strict_word<'a>(alloc: Global) -> Arg<'a> {
     flag_word(
@@ -326,7 +338,7 @@ fn with_more<'a>(
         )),
         More::Rules => command.arg(rule_words(alloc)),
         More::Tried => command.arg(strict_word(alloc))?.arg(rule_words(alloc)),
-        More::Dated => command.arg(epoch_word(alloc))?.arg(rule_words(alloc)),
+        More::Paged => with_part(alloc, command)?.arg(rule_words(alloc)),
         More::Checked => with_checks(alloc, command),
         More::Further => command.arg(further_words(alloc)),
     }

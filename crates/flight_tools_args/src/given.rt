@@ -2,10 +2,10 @@
 
 ghost use Rattle.std.specs.Prelude.{◌≡◌, codes, map, option_map, IfOk, IfSome, IsSomeAnd, None, Some};
 ghost use Rattle.clap.specs.Words.{all_of, first_of, found_of, rows_of, subcommand_rows_of};
-ghost use Rattle.flight_tools_args.specs.Words.{HoldsForm, HoldsImport, HoldsRows, HoldsWords, IsFlag, word_of};
+ghost use Rattle.flight_tools_args.specs.Words.{HoldsForm, HoldsImport, HoldsPage, HoldsRows, HoldsWords, IsFlag, word_of};
 
 use crate::kind::{CommandKind, kind_of};
-use crate::plan::{CommandPlan, ImportWords, RowWords};
+use crate::plan::{CommandPlan, ImportWords, PageWords, RowWords};
 use clap::ArgMatches;
 use std::alloc::{AllocError, Global};
 
@@ -231,6 +231,17 @@ fn export_plan<'a>(found: &ArgMatches<'a>) -> Option<CommandPlan<'a>>
     })
 }
 
+/// The options of a page.
+fn page_words<'a>(found: &ArgMatches<'a>) -> PageWords<'a>
+    ensures { HoldsPage (rows_of (found_of found.now)) result }
+{
+    PageWords {
+        epoch: option_value(found, "epoch"),
+        from: option_value(found, "from"),
+        until: option_value(found, "until"),
+    }
+}
+
 /// The plan of a report of these rule texts.
 fn report_of<'a>(found: &ArgMatches<'a>, rules: Vec<&'a str>) -> Option<CommandPlan<'a>>
     requires { all_of (codes "RULES") (rows_of (found_of found.now)) ≡
@@ -242,7 +253,7 @@ fn report_of<'a>(found: &ArgMatches<'a>, rules: Vec<&'a str>) -> Option<CommandP
         stream: file_of(found, "STREAM")?,
         page: file_of(found, "PAGE")?,
         rules,
-        epoch: option_value(found, "epoch"),
+        how: page_words(found),
     })
 }
 

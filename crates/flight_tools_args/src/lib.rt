@@ -14,7 +14,7 @@ mod plan;
 use crate::commands::all_words;
 pub use crate::error::WordsError;
 use crate::given::given_plan;
-pub use crate::plan::{CommandPlan, ImportWords, RowWords};
+pub use crate::plan::{CommandPlan, ImportWords, PageWords, RowWords};
 use clap::error::ErrorKind;
 use clap::{ArgMatches, Error};
 use std::alloc::{AllocError, Global};

@@ -42,13 +42,13 @@ pub enum CommandPlan<'a> {
         stream: &'a str,
         raw: &'a str,
     },
-    /// `report [--epoch INSTANT] SCHEDULE STREAM PAGE RULES..`: writes a run as a page.
+    /// `report [--epoch INSTANT] [--from S] [--until S] SCHEDULE STREAM PAGE RULES..`: writes a run, or a part of it, as a page.
     Report {
         schedule: &'a str,
         stream: &'a str,
         page: &'a str,
         rules: Vec<&'a str>,
-        epoch: Option<&'a str>,
+        how: PageWords<'a>,
     },
     /// `check [--schedule S] [--all] [--strict] [--json] RULES..`: reports the faults and warnings of rule texts.
     Check {
@@ -94,6 +94,17 @@ pub struct RowWords<'a> {
     pub json: bool,
     /// The instant of second 0, as written.
     pub epoch: Option<&'a str>,
+}
+
+/// The options of a page, as written.
+#[derive(Clone, Copy)]
+pub struct PageWords<'a> {
+    /// The instant of second 0.
+    pub epoch: Option<&'a str>,
+    /// The seconds from which on records are shown.
+    pub from: Option<&'a str>,
+    /// The seconds before which records are shown.
+    pub until: Option<&'a str>,
 }
 
 /// The options of an import, as written.

@@ -7,10 +7,12 @@ mod line_error;
 mod live;
 mod report;
 mod scenario;
+mod times;
 mod trying;
 
 pub use crate::comparing::compare;
 pub use crate::live::run;
 pub use crate::report::make_page;
 pub use crate::scenario::make_stream;
+pub use crate::times::PageTimes;
 pub use crate::trying::try_out;

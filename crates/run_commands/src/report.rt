@@ -3,10 +3,11 @@
 ghost use Rattle.std.specs.Prelude.{◌≡◌};
 ghost use Rattle.run_commands.specs.Cause.{answer_of_ending, fault_of_device, fault_of_page};
 
+use crate::times::{PageTimes, part_of};
 use flight_core::RunError;
 use lc_model::Reading;
 use program_io::{Noting, Why, begin, discard, fault_of, keep, reason_for};
-use run_page::{Progress, ReportError, Run, Source, write_page};
+use run_page::{Part, Progress, ReportError, Run, Source, write_page};
 use run_stepper::Ending;
 use schedules::Schedule;
 use std::alloc::{AllocError, Global};
@@ -93,6 +94,7 @@ fn write_to<R: Eprint, I: Read + Drop, F: Write + Drop>(
     alloc: Global,
     schedule: &Schedule,
     run: &Run<'_, '_>,
+    part: Part,
     input: I,
     file: F,
     told: &mut ProgressLine<'_, R>,
@@ -101,7 +103,7 @@ fn write_to<R: Eprint, I: Read + Drop, F: Write + Drop>(
     let Ok(mut out) = BufWriter::new(alloc, file) else {
         return Err(ReportError::Memory);
     };
-    let written = write_page(alloc, schedule, run, &mut reader, &mut out, told);
+    let written = write_page(alloc, schedule, run, part, &mut reader, &mut out, told);
     let flushed = out.flush();
     let (_file, _unwritten) = out.into_parts();
     let ending = written?;
@@ -163,6 +165,7 @@ fn put_page<'a, R: Files + Eprint + AllocGlobal, I: Read + Drop>(
     told: &mut ProgressLine<'_, R>,
     plan: &Schedule,
     run: &Run<'_, '_>,
+    part: Part,
     input: I,
     stream: &'a str,
     page: &'a str,
@@ -173,7 +176,7 @@ fn put_page<'a, R: Files + Eprint + AllocGlobal, I: Read + Drop>(
     let (read, wrote) = (Cell::new(None), Cell::new(None));
     let input = Noting::new(input, &read);
     let output = Noting::new(&mut draft.file, &wrote);
-    match write_to(rt.alloc(), plan, run, input, output, told) {
+    match write_to(rt.alloc(), plan, run, part, input, output, told) {
         Ok(ending) => {
             keep(rt, draft).map_err(|fault| fault_at(page, fault))?;
             Ok(ending)
@@ -186,19 +189,20 @@ fn put_page<'a, R: Files + Eprint + AllocGlobal, I: Read + Drop>(
     }
 }
 
-/// Runs rule texts over a stream and writes the page of the run, which replaces the old page at the end. The stream is read in
-/// pieces. Errors: `Stream` with the place for a stream that ends early, after the page is made; with any other fault the old page
-/// stays. Progress goes to standard error if `is_watched`.
+/// Runs rule texts over a stream and writes the page of the run, or of the part that the options name, which replaces the old page at
+/// the end. The stream is read in pieces. Errors: `Stream` with the place for a stream that ends early, after the page is made; with any
+/// other fault the old page stays. Progress goes to standard error if `is_watched`.
 pub fn make_page<'a, R: Files + Eprint + AllocGlobal>(
     rt: &R,
     schedule: &'a str,
     stream: &'a str,
     page: &'a str,
     rules: &[&'a str],
-    epoch: Option<&'a str>,
+    times: PageTimes<'a>,
     is_watched: bool,
 ) -> Result<(), Fault<'a>> {
-    let epoch = epoch_text(rt.alloc(), epoch)?;
+    let epoch = epoch_text(rt.alloc(), times.epoch)?;
+    let part = part_of(times)?;
     let planned = read_whole_text(rt, schedule)?;
     let plan = schedule_of(rt, schedule, planned.as_slice())?;
     let (input, of) = stream_of(rt, stream)?;
@@ -222,6 +226,6 @@ pub fn make_page<'a, R: Files + Eprint + AllocGlobal>(
         next: 0,
     };
     told.next = told.part();
-    let ending = put_page(&mut told, &plan, &run, input, stream, page, rules)?;
+    let ending = put_page(&mut told, &plan, &run, part, input, stream, page, rules)?;
     answer_of(stream, ending)
 }

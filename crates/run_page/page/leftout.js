@@ -1,4 +1,4 @@
-// What the page leaves out.
+// What the page leaves out, with the command that makes a page of it.
 
 // Every place of the page, by records: with these a record that isn't there is between two that are.
 function knownPlaces() {
@@ -20,14 +20,30 @@ function leftOut() {
 const stretches = leftOut();
 const leftOutWords = ({ kind, count, first, last }) => `${count.toLocaleString('en')} ${kind} of records ${first} to ${last} are not on this page`;
 
-// Where what the page leaves out can be read, as elements.
-function moreAbout() {
-  return [make('p', 'soft', 'flight_run run writes all packets of the run, and flight_tools packets lists them.')];
+const quoted = name => (/^[\w./:@%+,-]+$/.test(name) ? name : `'${name.replaceAll("'", "'\\''")}'`);
+
+// The command for a page of the records from one time to another, whole seconds around them.
+function commandFor(from, to) {
+  const names = role => run.files.filter(file => file.role === role).map(file => quoted(file.name));
+  const [low, high] = [Math.floor((run.start + from.time) / TICKS), Math.floor((run.start + to.time) / TICKS) + 1];
+  return ['flight_tools report', ...(run.epoch === null ? [] : ['--epoch', run.epoch]), '--from', low, '--until', high,
+    ...names('schedule'), ...names('stream'), 'PART.html', ...names('rules')].join(' ');
+}
+
+// Where more is to be read of what lies between two places, as elements.
+function moreAbout(from, to) {
+  if (!run.ordered) return [make('p', 'soft', 'Times go back in this stream, so no page of a part can be made.')];
+  const line = make('p', '', 'This makes a page of this part: ');
+  line.append(make('code', 'command_line', commandFor(from, to)));
+  return [line];
 }
 
 function showStretch(stretch, row) {
+  const [low, high] = ['low', 'high'].map(end => view[end] * TICKS);
+  const inside = view.unit !== 'record' && stretch.from.time < high && stretch.to.time > low;
+  const part = inside ? [{ time: Math.max(low, stretch.from.time) }, { time: Math.min(high, stretch.to.time) }] : [stretch.from, stretch.to];
   showAfter(row, `${stretch.kind} left out`, makeBroken('p', '', `${leftOutWords(stretch)}, between ${when(stretch.from)} and ${when(stretch.to)}. `
-    + 'A page has the first and the last 300 requests, 300 commands and 1,000 events.'), ...moreAbout());
+    + 'A page has the first and the last 300 requests, 300 commands and 1,000 events.'), ...moreAbout(...part));
 }
 
 // Hatched where something of these kinds lies that the page leaves out; what overlaps is hatched once.

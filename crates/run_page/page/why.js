@@ -86,7 +86,7 @@ function whyOf(request) {
   }));
   article.append(samples);
   if (!request.samples.length) {
-    article.append(make('p', 'soft', 'The values of its samples are not on this page, which has those of many other requests.'), ...moreAbout());
+    article.append(make('p', 'soft', 'The values of its samples are not on this page, which has those of many other requests.'), ...moreAbout(request, request));
   }
   return article;
 }
@@ -132,7 +132,7 @@ function showSpan(lane, cell) {
   const parts = cell.parts.slice(0, 200).map(part => makeBroken('p', '', spanName(lane.rule, part)));
   const rest = cell.parts.length > 200 ? [make('p', 'soft', `and ${cell.parts.length - 200} more: zoom to see them`)] : [];
   const reduced = cell.parts.some(part => part.changes > 1)
-    ? [make('p', 'soft', 'A number of changes stands for changes that are not on this page one by one.'), ...moreAbout()] : [];
+    ? [make('p', 'soft', 'A number of changes stands for changes that are not on this page one by one.'), ...moreAbout(cell.from, cell.to)] : [];
   const [nearer] = cell.parts.length > 1 ? [linkTo('zoom to these', () => zoomTo(cell.from, cell.to))] : [''];
   showAfter(lane.row, `${nameIn(text, lane.rule)}: ${cell.pause || resultWords(cell.results)[0]}`,
     ...(inForce ? [conditionOf(inForce)] : []), nearer, ...parts, ...rest, ...reduced);

@@ -1,16 +1,18 @@
 -- The account of a run, one record more.
-use Rattle.std.proofs.Common.{◌≡◌, ℕ, ◌+◌, List, [], ◌∷◌, ◌++◌, length, refl, ap, sym, ◌∙◌, subst, arith, if◌then◌else◌, Option}
-use Rattle.std.specs.Prelude.{◌==◌, Bool, true, false, OnOk, Result}
+use Rattle.std.proofs.Common.{◌≡◌, ℕ, ◌+◌, List, [], ◌∷◌, ◌++◌, length, length-append, map, refl, ap, sym, ◌∙◌, subst, arith, if◌then◌else◌, Option}
+use Rattle.std.specs.Prelude.{◌==◌, Bool, true, false, OnOk, Result, ⊤}
 use Rattle.std.proofs.lemmas.Result.{on_ok_weaker}
 use Rattle.std.proofs.lemmas.Bool.Decides.{nat_tests}
 use Rattle.run_summary.specs.Account as account
 use Rattle.run_summary.specs.Account.{Account, account_behind, account_with}
 use Rattle.run_summary.specs.Run as run
-use Rattle.run_summary.specs.Run.{FieldsCome, nothing_told}
-use Rattle.run_summary.specs.Fields.{AreKnown}
+use Rattle.run_summary.specs.Run.{FieldsCome, OfTexts, nothing_told}
+use Rattle.run_summary.specs.Fields.{AreKnown, uncounted, unseen}
 use Rattle.run_summary.specs.declared.holds.TypesOn.{TypesOn}
 use Rattle.run_summary.specs.declared.place.Place.{Place}
 use Rattle.run_summary.specs.declared.place.Stand.{Stand}
+use Rattle.run_summary.specs.declared.seen.Seen.{Seen}
+use Rattle.run_summary.specs.declared.texts.Field.{Field}
 use Rattle.app_host.specs.Delivered.{executive_in}
 use Rattle.flight_core.specs.Feeding.{Feeding}
 use Rattle.rpn_compiler.specs.declared.files.TablePair.{TablePair}
@@ -18,7 +20,7 @@ use Rattle.run_stepper.specs.Force.{text_in_force}
 use Rattle.run_stepper.specs.Stepping.{engine_among}
 use Rattle.run_page.specs.declared.behind.Behind.{Behind}
 use Rattle.run_stepper.specs.Steps.{Step}
-use Rattle.run_page.specs.Model.{HasTaken, OfRun, account_by, all_taken, led_to, mode_of, place_of, stands_of, start_of, taken_from, taken_of, ticks_of, types_of}
+use Rattle.run_page.specs.Model.{HasTaken, OfRun, account_by, led_to, mode_of, place_of, stands_of, taken_from, taken_of, types_of}
 
 behind_more : (a : Account) (steps : List account.Step) (step : account.Step) → account_behind a (steps ++ step ∷ []) ≡ account_with step (account_behind a steps)
 behind_more a [] step = refl
@@ -32,26 +34,50 @@ taken_more pairs start number (one ∷ steps) step =
     (taken_more pairs start (number + 1) steps step
     ∙ ap (λ at. taken_from pairs start (number + 1) steps ++ taken_of pairs start at step ∷ []) (omega arith))
 
--- by a run whose first record is of this time
-all_taken_more : (pairs : List TablePair) (steps : List Step) (step : Step) (start : ℕ) → start ≡ (if length steps + 1 == 1 then ticks_of step.bytes else start_of steps) →
-    all_taken pairs (steps ++ step ∷ []) ≡ all_taken pairs steps ++ taken_of pairs start (length steps + 1) step ∷ []
-all_taken_more pairs [] step start is = ap (λ from. taken_of pairs from 1 step ∷ []) (sym is)
-all_taken_more pairs (one ∷ steps) step start is =
-    let more : (length (one ∷ steps) + 1 == 1) ≡ false = grind (arith, nat_tests) in
-    let same : start ≡ ticks_of one.bytes = is ∙ ap (λ (b : Bool). if b then ticks_of step.bytes else ticks_of one.bytes) more in
-    taken_more pairs (ticks_of one.bytes) 1 (one ∷ steps) step
-    ∙ ap (λ at. taken_from pairs (ticks_of one.bytes) 1 (one ∷ steps) ++ taken_of pairs (ticks_of one.bytes) at step ∷ []) (omega arith)
-    ∙ ap (λ from. taken_from pairs (ticks_of one.bytes) 1 (one ∷ steps) ++ taken_of pairs from (length (one ∷ steps) + 1) step ∷ []) (sym same)
+-- before the first record nothing changes where an account begins anew
+uncounted_yet : (fields : List Field) → map uncounted (map unseen fields) ≡ map unseen fields
+uncounted_yet [] = refl
+uncounted_yet (field ∷ fields) = ap (λ (all : List Seen). unseen field ∷ all) (uncounted_yet fields)
+
+pub anew_of_nothing : (read : OfTexts) → account.begun_anew (nothing_told read) ≡ nothing_told read
+anew_of_nothing read = ap (λ (seen : List Seen). record (nothing_told read) { seen = seen }) (uncounted_yet read.fields)
+
+-- the time of the first record stays, once there is one
+abbrev pub Stays : List Step → (start now : ℕ) → Type 0
+Stays [] start now = ⊤
+Stays (one ∷ all) start now = start ≡ now
+
+pub start_stays : (all : List Step) (ticks start now : ℕ) → now ≡ (if length all + 1 == 1 then ticks else start) → Stays all start now
+start_stays [] ticks start now is = tt
+start_stays (one ∷ all) ticks start now is =
+    let more : (length (one ∷ all) + 1 == 1) ≡ false = grind (arith, nat_tests) in
+    sym (is ∙ ap (λ (b : Bool). if b then ticks else start) more)
+
+-- so the account of records is that of any time before there are some
+account_stays : (texts : OfRun) (earlier shown : List Step) (start now : ℕ) → Stays (earlier ++ shown) start now →
+    account_by texts start earlier shown ≡ account_by texts now earlier shown
+account_stays texts [] [] start now stays = refl
+account_stays texts [] (one ∷ shown) start now stays = ap (λ from. account_by texts from [] (one ∷ shown)) stays
+account_stays texts (one ∷ earlier) shown start now stays = ap (λ from. account_by texts from (one ∷ earlier) shown) stays
 
 -- a record more
-pub account_more : (texts : OfRun) (steps : List Step) (step : Step) (start : ℕ) (a after : Account) → a ≡ account_by texts steps →
-    start ≡ (if length steps + 1 == 1 then ticks_of step.bytes else start_of steps) →
-    after ≡ account_with (taken_of texts.pairs start (length steps + 1) step) a → after ≡ account_by texts (steps ++ step ∷ [])
-account_more texts steps step start a after so begins is =
+pub account_more : (texts : OfRun) (earlier shown : List Step) (step : Step) (start now : ℕ) (a after : Account) → Stays (earlier ++ shown) start now →
+    a ≡ account_by texts start earlier shown → after ≡ account_with (taken_of texts.pairs now (length (earlier ++ shown) + 1) step) a →
+    after ≡ account_by texts now earlier (shown ++ step ∷ [])
+account_more texts earlier shown step start now a after stays so is =
+    let first : Account = account.begun_anew (account_behind (nothing_told texts.read) (taken_from texts.pairs now 1 earlier)) in
+    let at : length (earlier ++ shown) + 1 ≡ length earlier + 1 + length shown = omega (arith, length-append earlier shown) in
     is
-    ∙ ap (account_with (taken_of texts.pairs start (length steps + 1) step)) so
-    ∙ sym (behind_more (nothing_told texts.read) (all_taken texts.pairs steps) (taken_of texts.pairs start (length steps + 1) step))
-    ∙ ap (account_behind (nothing_told texts.read)) (sym (all_taken_more texts.pairs steps step start begins))
+    ∙ ap (account_with (taken_of texts.pairs now (length (earlier ++ shown) + 1) step)) (so ∙ account_stays texts earlier shown start now stays)
+    ∙ ap (λ number. account_with (taken_of texts.pairs now number step) (account_by texts now earlier shown)) at
+    ∙ sym (behind_more first (taken_from texts.pairs now (length earlier + 1) shown) (taken_of texts.pairs now (length earlier + 1 + length shown) step))
+    ∙ ap (account_behind first) (sym (taken_more texts.pairs now (length earlier + 1) shown step))
+
+-- the part begins: the account of the records so far begins anew
+pub account_anew : (texts : OfRun) (all : List Step) (start : ℕ) (a after : Account) → a ≡ account_by texts start [] all → after ≡ account.begun_anew a →
+    after ≡ account_by texts start all []
+account_anew texts all start a after so is =
+    is ∙ ap account.begun_anew (so ∙ ap (λ (first : Account). account_behind first (taken_from texts.pairs start 1 all)) (anew_of_nothing texts.read))
 
 -- ---- a record that is taken
 

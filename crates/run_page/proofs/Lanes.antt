@@ -29,9 +29,9 @@ pub length_nothing : (count : ℕ) → length (nothing_told count) ≡ count
 length_nothing zero = refl
 length_nothing (suc count) = grind (arith, length_nothing count)
 
-pub nothing_of_lanes : (rule count : ℕ) → lanes_from rule count [] ≡ nothing_told count
-nothing_of_lanes rule zero = refl
-nothing_of_lanes rule (suc count) = ap (λ told. [] ∷ told) (nothing_of_lanes (suc rule) count)
+pub nothing_of_lanes : (start number rule count : ℕ) → lanes_from start number rule count [] ≡ nothing_told count
+nothing_of_lanes start number rule zero = refl
+nothing_of_lanes start number rule (suc count) = ap (λ told. [] ∷ told) (nothing_of_lanes start number (suc rule) count)
 
 -- ---- one list told more
 

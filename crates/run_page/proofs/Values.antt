@@ -22,7 +22,7 @@ use Rattle.run_page.specs.declared.behind.Behind.{Behind}
 use Rattle.run_page.specs.declared.lists.Lists.{Lists}
 use Rattle.run_page.proofs.Lanes.{nothing_of_lanes, said_now}
 use Rattle.run_stepper.specs.Steps.{Step}
-use Rattle.run_page.specs.Model.{IsKept, ListsTell, all_values, lanes_from, nothing_told, place_of, start_of, stood_more, ticks_of, value_told, valued, values_from, values_more, values_of}
+use Rattle.run_page.specs.Model.{IsKept, ListsTell, all_values, lanes_from, nothing_told, place_of, stood_more, value_told, valued, values_from, values_more}
 
 -- ---- a list behind the lanes
 
@@ -178,13 +178,6 @@ told_and_kept law result bytes number before came old new place now stands lists
 
 -- ---- a record more
 
--- by a run whose first record is of this time
-pub started : (steps : List Step) (step : Step) (start : ℕ) → start ≡ (if length steps + 1 == 1 then ticks_of step.bytes else start_of steps) → start ≡ start_of (steps ++ step ∷ [])
-started [] step start is = is
-started (one ∷ steps) step start is =
-    let more : (length (one ∷ steps) + 1 == 1) ≡ false = grind (arith, nat_tests) in
-    is ∙ ap (λ (b : Bool). if b then ticks_of step.bytes else ticks_of one.bytes) more
-
 values_from_more : (start number : ℕ) (field : Field) (steps : List Step) (step : Step) →
     values_from start number field (steps ++ step ∷ [])
     ≡ values_from start number field steps
@@ -200,39 +193,33 @@ values_from_more start number field (one ∷ steps) step =
     ∙ sym (append_assoc own (values_from start (number + 1) field steps)
     (value_told (place_of start (number + length (one ∷ steps)) step.bytes) (brought_of field (place_of start (number + length (one ∷ steps)) step.bytes) (brings step.bytes))))
 
-value_of_more : (steps : List Step) (step : Step) (start : ℕ) (field : Field) → start ≡ (if length steps + 1 == 1 then ticks_of step.bytes else start_of steps) →
-    values_of steps field ++ value_told (place_of start (length steps + 1) step.bytes) (brought_of field (place_of start (length steps + 1) step.bytes) (brings step.bytes))
-    ≡ values_of (steps ++ step ∷ []) field
-value_of_more [] step start field is =
-    ap (λ from. value_told (place_of from 1 step.bytes) (brought_of field (place_of from 1 step.bytes) (brings step.bytes))) is
-    ∙ sym (append-nil (value_told (place_of (ticks_of step.bytes) 1 step.bytes) (brought_of field (place_of (ticks_of step.bytes) 1 step.bytes) (brings step.bytes))))
-value_of_more (one ∷ steps) step start field is =
-    let so_far : List Entry = values_from (ticks_of one.bytes) 1 field (one ∷ steps) in
-    let place : ℕ → ℕ → Place = λ from at. place_of from at step.bytes in
-    ap (λ from. so_far ++ value_told (place from (length (one ∷ steps) + 1)) (brought_of field (place from (length (one ∷ steps) + 1)) (brings step.bytes)))
-    (started (one ∷ steps) step start is)
-    ∙ ap (λ at. so_far ++ value_told (place (ticks_of one.bytes) at) (brought_of field (place (ticks_of one.bytes) at) (brings step.bytes))) (omega arith)
-    ∙ sym (values_from_more (ticks_of one.bytes) 1 field (one ∷ steps) step)
-
-pub all_values_more : (fields : List Field) (steps : List Step) (step : Step) (start : ℕ) → start ≡ (if length steps + 1 == 1 then ticks_of step.bytes else start_of steps) →
-    values_more (place_of start (length steps + 1) step.bytes) (all_brought fields (place_of start (length steps + 1) step.bytes) (brings step.bytes)) (all_values fields steps)
-    ≡ all_values fields (steps ++ step ∷ [])
-all_values_more [] steps step start is = refl
-all_values_more (field ∷ fields) steps step start is =
-    λ i. value_of_more steps step start field is i ∷ all_values_more fields steps step start is i
+pub all_values_more : (fields : List Field) (start number : ℕ) (steps : List Step) (step : Step) →
+    values_more (place_of start (number + length steps) step.bytes) (all_brought fields (place_of start (number + length steps) step.bytes) (brings step.bytes))
+    (all_values start number fields steps)
+    ≡ all_values start number fields (steps ++ step ∷ [])
+all_values_more [] start number steps step = refl
+all_values_more (field ∷ fields) start number steps step =
+    λ i. sym (values_from_more start number field steps step) i ∷ all_values_more fields start number steps step i
 
 -- ---- no record
 
-no_values : (fields : List Field) → nothing_told (length (map unseen fields)) ≡ all_values fields []
-no_values [] = refl
-no_values (field ∷ fields) = ap (λ more. [] ∷ more) (no_values fields)
+no_values : (start number : ℕ) (fields : List Field) (n : ℕ) → n ≡ length fields → nothing_told n ≡ all_values start number fields []
+no_values start number [] zero is = refl
+no_values start number [] (suc n) is = absurd (omega (arith, is))
+no_values start number (field ∷ fields) zero is = absurd (omega (arith, is))
+no_values start number (field ∷ fields) (suc n) is = ap (λ more. [] ∷ more) (no_values start number fields n (omega (arith, is)))
 
-pub nothing_yet : (texts : OfTexts) (a : Account) (lists : Lists) (lanes fields : ℕ) → a ≡ run.nothing_told texts → lanes ≡ a.lanes → fields ≡ length a.seen →
-    ListsTell lists (nothing_told lanes) (nothing_told fields) → ListsTell lists (lanes_from 0 texts.lanes []) (all_values texts.fields [])
-nothing_yet texts a lists lanes fields is of_lanes of_fields tells =
-    let all_lanes : nothing_told lanes ≡ lanes_from 0 texts.lanes [] =
-    ap nothing_told (of_lanes ∙ ap (λ (it : Account). it.lanes) is) ∙ sym (nothing_of_lanes 0 texts.lanes) in
-    let all_fields : nothing_told fields ≡ all_values texts.fields [] =
-    ap nothing_told (of_fields ∙ ap (λ (it : Account). length it.seen) is) ∙ no_values texts.fields in
-    subst (λ (told : List (List Entry)). ListsTell lists told (all_values texts.fields [])) all_lanes
-    (subst (ListsTell lists (nothing_told lanes)) all_fields tells)
+-- as many fields are known as there are
+pub known_length : (number : ℕ) (fields : List Field) (all : List Seen) → AreKnown number fields all → length all ≡ length fields
+known_length number [] [] known = refl
+known_length number [] (seen ∷ all) known = absurd known
+known_length number (field ∷ fields) [] known = absurd known
+known_length number (field ∷ fields) (seen ∷ all) known = ap suc (known_length number fields all known.2)
+
+-- lists in which nothing was told are those of no records
+pub nothing_yet : (texts : OfTexts) (start number : ℕ) (lists : Lists) (lanes fields : ℕ) → lanes ≡ texts.lanes → fields ≡ length texts.fields →
+    ListsTell lists (nothing_told lanes) (nothing_told fields) → ListsTell lists (lanes_from start number 0 texts.lanes []) (all_values start number texts.fields [])
+nothing_yet texts start number lists lanes fields of_lanes of_fields tells =
+    subst (λ (told : List (List Entry)). ListsTell lists told (all_values start number texts.fields []))
+    (ap nothing_told of_lanes ∙ sym (nothing_of_lanes start number 0 texts.lanes))
+    (subst (ListsTell lists (nothing_told lanes)) (no_values start number texts.fields fields of_fields) tells)

@@ -1,2 +1,4 @@
 pub mod Coming
 pub mod Model
+pub mod Part
+pub mod Times

@@ -2,9 +2,7 @@
 -- (page/DATA.md). This project's own.
 use Rattle.std.specs.Prelude.{◌≡◌, ℕ, zero, suc, ◌+◌, ◌-◌, ◌*◌, ◌^◌, ◌<◌, min, true, false, List, [], ◌∷◌, ◌++◌, length, map, pos, ◌-ℤ◌, negsuc, ℤ, nat_lt, if◌then◌else◌, Option, Some, None, Ok}
 use Rattle.lc_model.specs.declared.mode.LcMode.{LcMode}
-use Rattle.lc_model.specs.Bytes.{u16_at, u32_at}
 use Rattle.lc_model.specs.Host.Schedule.{Schedule}
-use Rattle.lc_model.specs.Host.Stream.{header_size}
 use Rattle.lc_model.specs.declared.rule.EventKind.TheVariants as kind
 use Rattle.lc_model.specs.Kept.Executive.{Executive}
 use Rattle.lc_model.specs.Kept.Summary.{LcOwn, Tally}
@@ -13,7 +11,7 @@ use Rattle.rpn_compiler.specs.declared.files.TablePair.{TablePair}
 use Rattle.app_host.specs.Delivered.{executive_in}
 use Rattle.flight_core.specs.Compiled.{AreAllCompiled}
 use Rattle.flight_core.specs.Feeding.{Feeding}
-use Rattle.flight_core.specs.Records.{nothing_held}
+use Rattle.flight_core.specs.Records.{Held, nothing_held}
 use Rattle.run_stepper.specs.Events.{is_type_of_checker_on}
 use Rattle.run_stepper.specs.Force.{text_in_force}
 use Rattle.run_stepper.specs.Stepping.{BeginsWith, HasStepped, engine_among}
@@ -42,6 +40,11 @@ use Rattle.run_page.specs.declared.behind.Behind.{Behind}
 use Rattle.run_page.specs.declared.intake.Intake.{Intake}
 use Rattle.run_page.specs.declared.lists.Lists.{Lists}
 use Rattle.run_page.specs.Coming.{Took}
+use Rattle.run_page.specs.Part.{AreParts, NoneBegins}
+use Rattle.run_page.specs.Times.{ticks_of}
+use Rattle.run_page.specs.declared.part.Part.{Part}
+use Rattle.run_page.specs.declared.part.Phase.{Phase}
+use Rattle.run_page.specs.declared.part.Phase.TheVariants.{Before, Inside, After}
 use Rattle.std.specs.Io.KnownBytes.{Consumes, IsAtEnd}
 use Rattle.sha2.specs.Sha256.{sha256}
 
@@ -64,10 +67,6 @@ stands_of None = []
 stands_of (Some engine) = map stand_of engine.points
 
 -- ---- lanes
-
--- the time of a record, in 1/65,536 s; 0 if its header is cut short
-abbrev pub ticks_of : List ℕ → ℕ
-ticks_of bytes = if nat_lt (length bytes) header_size then 0 else u32_at bytes 1 * 65536 + u16_at bytes 5
 
 -- the time of the first record; 0 if there is none
 abbrev pub start_of : List Step → ℕ
@@ -94,14 +93,10 @@ told_from start number rule (step ∷ steps) =
     stood (place_of start number step.bytes) (stand_at rule (stands_of (engine_among step.host.host.seats)))
     ∷ told_from start (number + 1) rule steps
 
--- the entries of a rule over a whole run: its result and state after each record
-abbrev pub told_of : ℕ → List Step → List Entry
-told_of rule steps = told_from (start_of steps) 1 rule steps
-
 -- the same for this many rules, from this one on
-abbrev pub lanes_from : (rule count : ℕ) → List Step → List (List Entry)
-lanes_from rule zero steps = []
-lanes_from rule (suc count) steps = told_of rule steps ∷ lanes_from (suc rule) count steps
+abbrev pub lanes_from : (start number rule count : ℕ) → List Step → List (List Entry)
+lanes_from start number rule zero steps = []
+lanes_from start number rule (suc count) steps = told_from start number rule steps ∷ lanes_from start number (suc rule) count steps
 
 -- these lists with one more entry each, for the rules from this one on
 abbrev pub stood_more : Place → List Stand → ℕ → List (List Entry) → List (List Entry)
@@ -164,13 +159,9 @@ values_from start number field (step ∷ steps) =
     value_told (place_of start number step.bytes) (brought_of field (place_of start number step.bytes) (brings step.bytes))
     ++ values_from start (number + 1) field steps
 
--- the entries of a field over a whole run
-abbrev pub values_of : List Step → Field → List Entry
-values_of steps field = values_from (start_of steps) 1 field steps
-
 -- the entries of each of these fields
-abbrev pub all_values : List Field → List Step → List (List Entry)
-all_values fields steps = map (values_of steps) fields
+abbrev pub all_values : (start number : ℕ) → List Field → List Step → List (List Entry)
+all_values start number fields steps = map (λ (field : Field). values_from start number field steps) fields
 
 -- each field gets an entry for its value that came at this place, if one came
 abbrev pub values_more : Place → List (Option Met) → List (List Entry) → List (List Entry)
@@ -227,13 +218,11 @@ abbrev pub taken_from : List TablePair → (start number : ℕ) → List Step �
 taken_from pairs start number [] = []
 taken_from pairs start number (step ∷ steps) = taken_of pairs start number step ∷ taken_from pairs start (number + 1) steps
 
--- the records of a whole run
-abbrev pub all_taken : List TablePair → List Step → List account.Step
-all_taken pairs steps = taken_from pairs (start_of steps) 1 steps
-
--- the account of these records, in a run of these texts
-abbrev pub account_by : OfRun → List Step → Account
-account_by texts steps = account_behind (run.nothing_told texts.read) (all_taken texts.pairs steps)
+-- the account of these shown records of a run of these texts, after these earlier ones: it knows all that came before, and begins anew
+abbrev pub account_by : OfRun → (start : ℕ) → (earlier shown : List Step) → Account
+account_by texts start earlier shown =
+    account_behind (account.begun_anew (account_behind (run.nothing_told texts.read) (taken_from texts.pairs start 1 earlier)))
+    (taken_from texts.pairs start (length earlier + 1) shown)
 
 -- once the rules were looked at, they are those that the account has after the last record
 abbrev pub KeepsStands : Behind → Account → Type 0
@@ -253,15 +242,65 @@ pub record HasTaken (pairs : List TablePair) (step : Step) (start number : ℕ) 
 
 -- ---- a whole run
 
--- the lists and the account are those of these records, in a run of these texts
-pub record HasTold (texts : OfRun) (lists : Lists) (behind : Behind) (a : Account) (start : ℕ) (steps : List Step) : Type 0 where
-  pub first : start ≡ start_of steps
+-- the lists and the account are those of these shown records, after these earlier ones, in a run of these texts
+pub record HasTold (texts : OfRun) (lists : Lists) (behind : Behind) (a : Account) (start : ℕ) (earlier shown : List Step) : Type 0 where
+  pub first : start ≡ start_of (earlier ++ shown)
   pub small : start < 2 ^ 48
-  pub lists_tell : ListsTell lists (lanes_from 0 texts.read.lanes steps) (all_values texts.read.fields steps)
-  pub kept : IsKept behind (lanes_from 0 texts.read.lanes steps)
-  pub is_account : a ≡ account_by texts steps
-  pub known : AreKnown (length steps + 1) texts.read.fields a.seen
+  pub lists_tell : ListsTell lists (lanes_from start (length earlier + 1) 0 texts.read.lanes shown) (all_values start (length earlier + 1) texts.read.fields shown)
+  pub kept : IsKept behind (lanes_from start (length earlier + 1) 0 texts.read.lanes shown)
+  pub is_account : a ≡ account_by texts start earlier shown
+  pub known : AreKnown (length (earlier ++ shown) + 1) texts.read.fields a.seen
   pub stood_last : KeepsStands behind a
+
+-- what is told begins anew: the lists are empty, no rules were looked at, and the account begins anew
+pub record IsAnew (lists after : Lists) (behind_it : Behind) (a after_it : Account) : Type 0 where
+  pub looked : behind_it.looked ≡ false
+  pub tells : ListsTell after (nothing_told lists.lanes) (nothing_told (length a.seen))
+  pub account : after_it ≡ account.begun_anew a
+  pub known : (number : ℕ) (fields : List Field) → AreKnown number fields a.seen → AreKnown number fields after_it.seen
+
+-- .. with records after the part
+pub record HasShown (texts : OfRun) (part : Part) (lists : Lists) (behind : Behind) (a : Account) (start : ℕ) (all : List Step) : Type 0 where
+  pub earlier : List Step
+  pub shown : List Step
+  pub later : List Step
+  pub are_all : earlier ++ (shown ++ later) ≡ all
+  pub parts : AreParts part earlier shown later
+  pub told : HasTold texts lists behind a start earlier shown
+
+-- where a run stands: before the part, all records are told as if they were shown
+abbrev pub StandsSo : OfRun → Part → Phase → Lists → Behind → Account → ℕ → List Step → Type 0
+StandsSo texts part Before lists behind a start all = NoneBegins part all × HasTold texts lists behind a start [] all
+StandsSo texts part Inside lists behind a start all =
+    (told : HasShown texts part lists behind a start all) × (told.later ≡ []) × (0 < length told.shown)
+StandsSo texts part After lists behind a start all = (told : HasShown texts part lists behind a start all) × (0 < length told.later)
+
+-- where it stands once it came to a phase, before the record that led to it: if that begins the part, nothing is told of the part yet
+abbrev pub CameTo : OfRun → Part → (phase next : Phase) → Lists → Behind → Account → ℕ → List Step → Type 0
+CameTo texts part Before Before lists behind a start all = NoneBegins part all × HasTold texts lists behind a start [] all
+CameTo texts part Before Inside lists behind a start all = NoneBegins part all × HasTold texts lists behind a start all []
+CameTo texts part Before After lists behind a start all = NoneBegins part all × HasTold texts lists behind a start all []
+CameTo texts part Inside next lists behind a start all = StandsSo texts part Inside lists behind a start all
+CameTo texts part After next lists behind a start all = StandsSo texts part After lists behind a start all
+
+-- all records of a run are told, from its first
+pub record TellsAll (texts : OfRun) (lists : Lists) (a : Account) (start : ℕ) (all : List Step) : Type 0 where
+  pub first : start ≡ start_of all
+  pub lists_tell : ListsTell lists (lanes_from start 1 0 texts.read.lanes all) (all_values start 1 texts.read.fields all)
+  pub is_account : a ≡ account_behind (run.nothing_told texts.read) (taken_from texts.pairs start 1 all)
+
+-- a part without times is the whole run
+abbrev pub ShowsAll : Type 0
+ShowsAll = (texts : OfRun) (part : Part) (lists : Lists) (behind : Behind) (a : Account) (start : ℕ) (all : List Step) → part.from ≡ None → part.until ≡ None →
+    HasShown texts part lists behind a start all → TellsAll texts lists a start all
+
+-- how a run stands with one more record: it has this number and these bytes, and led to these packets and this host, whatever that one holds
+-- of its stream
+abbrev pub Adds : OfRun → Part → (phase next : Phase) → (lists after : Lists) → (behind behind_it : Behind) → (a after_it : Account) → (start now number : ℕ) →
+    (bytes : List ℕ) → Feeding → (written : List ℕ) → Type 0
+Adds texts part phase next lists after behind behind_it a after_it start now number bytes host written =
+    (held : Held) (steps : List Step) → number ≡ length steps + 1 → StandsSo texts part phase lists behind a start steps →
+    StandsSo texts part next after behind_it after_it now (steps ++ record { bytes = bytes; host = record host { held = held }; written = written } ∷ [])
 
 -- the host can't handle the front of these bytes
 pub record StopsAt (host : Feeding) (rest : List ℕ) (handled : Handled) : Type 0 where
@@ -279,10 +318,10 @@ EndsSo (NoRecord n) steps host rest = (n ≡ length steps + 1) × StopsAt host r
 EndsSo (Cut n) steps host rest = (n ≡ length steps + 1) × StopsAt host rest handled.Part
 EndsSo Bound steps host rest = ⊥
 
--- The data of a run over a stream by the host `first`. The host handled the records of the stream, each as it does by itself. Each rule's
--- lane has the changes of its result and state after each record, and each field's list the changes of its value, all shortened by columns.
--- The account is that of these records.
-pub record Tells (texts : OfRun) (stream : List ℕ) (first : Feeding) (lists : Lists) (a : Account) (ending : Ending) : Type 0 where
+-- The data of a part of a run over a stream by the host `first`. The host handled the records of the stream, each as it does by itself. Each
+-- rule's lane has the changes of its result and state after each record of the part, and each field's list the changes of its value, all
+-- shortened by columns. The account is that of the records of the part, after the earlier ones.
+pub record Tells (texts : OfRun) (part : Part) (stream : List ℕ) (first : Feeding) (lists : Lists) (a : Account) (ending : Ending) : Type 0 where
   pub steps : List Step
   pub host : Feeding
   pub rest : List ℕ
@@ -290,13 +329,14 @@ pub record Tells (texts : OfRun) (stream : List ℕ) (first : Feeding) (lists : 
   pub bytes : bytes_of steps ++ rest ≡ stream
   pub are_records : AreItsRecords (length first.files) stream steps ending
   pub ends : EndsSo ending steps host rest
-  pub lists_tell : ListsTell lists (lanes_from 0 texts.read.lanes steps) (all_values texts.read.fields steps)
-  pub is_account : a ≡ account_by texts steps
+  pub behind : Behind
+  pub start : ℕ
+  pub shows : HasShown texts part lists behind a start steps
 
 -- The same of these texts under this schedule. The lanes are those of the texts' rules, and the lists of values those of the fields that the
 -- rules compare. The host is new at first, with the texts' files and this profile's applications in stock. Each record led to the packets
 -- that the definitions call for.
-pub record TellsRun (sources : List (List ℕ)) (schedule : Schedule) (stream : List ℕ) (lists : Lists) (a : Account) (ending : Ending) : Type 0 where
+pub record TellsRun (sources : List (List ℕ)) (schedule : Schedule) (part : Part) (stream : List ℕ) (lists : Lists) (a : Account) (ending : Ending) : Type 0 where
   pub read : OfTexts
   pub items : HaveItems sources read.texts
   pub are_read : AreRead read
@@ -304,7 +344,7 @@ pub record TellsRun (sources : List (List ℕ)) (schedule : Schedule) (stream : 
   pub compiled : AreAllCompiled sources pairs
   pub first : Feeding
   pub begins : BeginsWith sources schedule first
-  pub tells : Tells (run_of read pairs) stream first lists a ending
+  pub tells : Tells (run_of read pairs) part stream first lists a ending
   pub have_run : HaveRun sources schedule stream tells.steps ending tells.host
 
 -- ---- a stream that comes in pieces
@@ -315,16 +355,16 @@ ending_at [] records = Whole records
 ending_at (byte ∷ bytes) records = Cut (records + 1)
 
 -- bytes were taken from a source, and the data is that of a stream of them and whatever follows them; if the source has ended, nothing follows
-pub record TellsTaken (texts : OfRun) (before now : Option (List ℕ)) (old new : Intake) (first : Feeding) (lists : Lists) (a : Account) (ending : Ending) : Type 0 where
+pub record TellsTaken (texts : OfRun) (part : Part) (before now : Option (List ℕ)) (old new : Intake) (first : Feeding) (lists : Lists) (a : Account) (ending : Ending) : Type 0 where
   pub taken : List ℕ
   pub took : Took before now old new taken
-  pub tells : (more : List ℕ) → (new.is_ended ≡ true → more ≡ []) → Tells texts (taken ++ more) first lists a ending
+  pub tells : (more : List ℕ) → (new.is_ended ≡ true → more ≡ []) → Tells texts part (taken ++ more) first lists a ending
 
 -- all bytes of a source were taken; their number and their SHA-256 are these, and the data is that of a stream of them
-pub record TellsRead (sources : List (List ℕ)) (schedule : Schedule) (before now : Option (List ℕ)) (lists : Lists) (a : Account) (bytes : ℕ) (digest : List ℕ) (ending : Ending) : Type 0 where
+pub record TellsRead (sources : List (List ℕ)) (schedule : Schedule) (part : Part) (before now : Option (List ℕ)) (lists : Lists) (a : Account) (bytes : ℕ) (digest : List ℕ) (ending : Ending) : Type 0 where
   pub stream : List ℕ
   pub consumes : Consumes before now stream
   pub at_end : IsAtEnd now
   pub size : bytes ≡ min (length stream) (2 ^ 64 - 1)
   pub digest_is : digest ≡ sha256 stream
-  pub tells : TellsRun sources schedule stream lists a ending
+  pub tells : TellsRun sources schedule part stream lists a ending

@@ -1,7 +1,7 @@
 //! The times of records.
 
 ghost use Rattle.std.specs.Prelude.{◌≡◌, ◌<◌, ◌^◌, ◌==◌, ◌-ℤ◌, pos, if◌then◌else◌};
-ghost use Rattle.run_page.specs.Model.{ticks_of};
+ghost use Rattle.run_page.specs.Times.{ticks_of};
 
 use lc_model::SUBSECONDS;
 use lc_model::stream::{HEADER, moment_of};
@@ -16,6 +16,8 @@ pub struct Clock {
     pub end: i64,
     /// Whether no record is earlier than the one before it.
     pub is_ordered: bool,
+    /// Whether the next record has none before it.
+    pub is_anew: bool,
 }
 
 /// The time of a record in 1/65,536 s; 0 if its header is cut short.
@@ -48,7 +50,16 @@ impl Clock {
             start: 0,
             end: 0,
             is_ordered: true,
+            is_anew: true,
         }
+    }
+
+    /// Begins anew: the order of records counts from the next one on.
+    pub fn begin_anew(&mut self)
+        ensures { self.new.start ≡ self.old.start }
+    {
+        self.is_ordered = true;
+        self.is_anew = true;
     }
 
     /// Takes the time of the record with this number, counted from 1. Returns its place.
@@ -64,9 +75,10 @@ impl Clock {
             self.start = ticks;
         }
         let time = difference(ticks, self.start);
-        if time < self.end {
+        if !self.is_anew && time < self.end {
             self.is_ordered = false;
         }
+        self.is_anew = false;
         self.end = time;
         Place {
             record: number,

@@ -133,12 +133,25 @@ return { kind, count, first, last, from: known.findLast(place => place.record <=
 }
 const stretches = leftOut();
 const leftOutWords = ({ kind, count, first, last }) => `${count.toLocaleString('en')} ${kind} of records ${first} to ${last} are not on this page`;
-function moreAbout() {
-return [make('p', 'soft', 'flight_run run writes all packets of the run, and flight_tools packets lists them.')];
+const quoted = name => (/^[\w./:@%+,-]+$/.test(name) ? name : `'${name.replaceAll("'", "'\\''")}'`);
+function commandFor(from, to) {
+const names = role => run.files.filter(file => file.role === role).map(file => quoted(file.name));
+const [low, high] = [Math.floor((run.start + from.time) / TICKS), Math.floor((run.start + to.time) / TICKS) + 1];
+return ['flight_tools report', ...(run.epoch === null ? [] : ['--epoch', run.epoch]), '--from', low, '--until', high,
+...names('schedule'), ...names('stream'), 'PART.html', ...names('rules')].join(' ');
+}
+function moreAbout(from, to) {
+if (!run.ordered) return [make('p', 'soft', 'Times go back in this stream, so no page of a part can be made.')];
+const line = make('p', '', 'This makes a page of this part: ');
+line.append(make('code', 'command_line', commandFor(from, to)));
+return [line];
 }
 function showStretch(stretch, row) {
+const [low, high] = ['low', 'high'].map(end => view[end] * TICKS);
+const inside = view.unit !== 'record' && stretch.from.time < high && stretch.to.time > low;
+const part = inside ? [{ time: Math.max(low, stretch.from.time) }, { time: Math.min(high, stretch.to.time) }] : [stretch.from, stretch.to];
 showAfter(row, `${stretch.kind} left out`, makeBroken('p', '', `${leftOutWords(stretch)}, between ${when(stretch.from)} and ${when(stretch.to)}. `
-+ 'A page has the first and the last 300 requests, 300 commands and 1,000 events.'), ...moreAbout());
++ 'A page has the first and the last 300 requests, 300 commands and 1,000 events.'), ...moreAbout(...part));
 }
 function hatches(kinds, width) {
 const parts = [];
@@ -368,17 +381,4 @@ return 0;
 }
 function numberText(number, step) {
 const digits = Math.max(0, Math.min(5, -Math.floor(Math.log10(step) + 1e-9)));
-if (view.unit === 'utc') return clockText(number, step, digits);
-return (view.unit === 'start' ? '+' : '') + number.toFixed(view.unit === 'record' ? 0 : digits);
-}
-function clockText(number, step, digits) {
-const whole = Math.floor(number + 1e-6);
-const instant = new Date(whole * 1000);
-if (Number.isNaN(instant.getTime())) return '';
-const [day, clock] = instant.toISOString().slice(0, 19).split('T');
-if (step >= DAY) return day;
-if (number % DAY === 0) return day.slice(5) + ' 00:00';
-if (step >= MINUTE) return clock.slice(0, 5);
-return clock + (digits ? (number - whole).toFixed(digits).slice(1) : '');
-}
 "#;

@@ -1,7 +1,20 @@
 //! The page behind its data, part 1. Written by tools/gate/page_constants.
 
 /// The page behind its data, part 1.
-pub const TEXT: &str = r#"function numbersBy(step) {
+pub const TEXT: &str = r#"if (view.unit === 'utc') return clockText(number, step, digits);
+return (view.unit === 'start' ? '+' : '') + number.toFixed(view.unit === 'record' ? 0 : digits);
+}
+function clockText(number, step, digits) {
+const whole = Math.floor(number + 1e-6);
+const instant = new Date(whole * 1000);
+if (Number.isNaN(instant.getTime())) return '';
+const [day, clock] = instant.toISOString().slice(0, 19).split('T');
+if (step >= DAY) return day;
+if (number % DAY === 0) return day.slice(5) + ' 00:00';
+if (step >= MINUTE) return clock.slice(0, 5);
+return clock + (digits ? (number - whole).toFixed(digits).slice(1) : '');
+}
+function numbersBy(step) {
 const origin = originOf();
 const [low, high] = [view.low + origin, view.high + origin];
 const numbers = [];
@@ -367,17 +380,4 @@ let line = '', boxes = '', dots = '', before = null;
 for (const step of plot.steps) {
 const [left, right] = [step.from, step.to].map(place => sharePixels(place, width));
 if (right < 0 || left > width) continue;
-if (step.low === null) { before = null; continue; }
-const [top, bottom] = [heightOf(plot, step.high), heightOf(plot, step.low)];
-line += before === null ? `M${left} ${bottom}` : `H${left}V${bottom}`;
-if (step.changes > 1) boxes += `<rect class="between" x="${left}" y="${top}" width="${Math.max(1, right - left)}" height="${Math.max(1, bottom - top)}"/>`;
-else dots += `M${left} ${bottom}h0`;
-line += step.changes > 1 ? `M${right} ${bottom}` : `H${right}`;
-before = step;
-}
-const few = dots.length < 6000;
-return `${boxes}<path class="line" d="${line}"/>${few ? `<path class="dots" d="${dots}"/>` : ''}`;
-}
-function limitLabels(plot, width, marks) {
-const labels = [];
 "#;

@@ -1,7 +1,20 @@
 //! The page behind its data, part 2. Written by tools/gate/page_constants.
 
 /// The page behind its data, part 2.
-pub const TEXT: &str = r#"for (const part of plot.parts) {
+pub const TEXT: &str = r#"if (step.low === null) { before = null; continue; }
+const [top, bottom] = [heightOf(plot, step.high), heightOf(plot, step.low)];
+line += before === null ? `M${left} ${bottom}` : `H${left}V${bottom}`;
+if (step.changes > 1) boxes += `<rect class="between" x="${left}" y="${top}" width="${Math.max(1, right - left)}" height="${Math.max(1, bottom - top)}"/>`;
+else dots += `M${left} ${bottom}h0`;
+line += step.changes > 1 ? `M${right} ${bottom}` : `H${right}`;
+before = step;
+}
+const few = dots.length < 6000;
+return `${boxes}<path class="line" d="${line}"/>${few ? `<path class="dots" d="${dots}"/>` : ''}`;
+}
+function limitLabels(plot, width, marks) {
+const labels = [];
+for (const part of plot.parts) {
 const [left, right] = [part.from, part.to].map(end => Math.max(0, Math.min(width, shareOf(end) * width)));
 if (shareOf(part.to) < 0 || shareOf(part.from) > 1) continue;
 for (const [operator, number] of part.limits) {
@@ -247,7 +260,7 @@ return part;
 }));
 article.append(samples);
 if (!request.samples.length) {
-article.append(make('p', 'soft', 'The values of its samples are not on this page, which has those of many other requests.'), ...moreAbout());
+article.append(make('p', 'soft', 'The values of its samples are not on this page, which has those of many other requests.'), ...moreAbout(request, request));
 }
 return article;
 }
@@ -284,7 +297,7 @@ const inForce = ruleIn(text, lane.rule);
 const parts = cell.parts.slice(0, 200).map(part => makeBroken('p', '', spanName(lane.rule, part)));
 const rest = cell.parts.length > 200 ? [make('p', 'soft', `and ${cell.parts.length - 200} more: zoom to see them`)] : [];
 const reduced = cell.parts.some(part => part.changes > 1)
-? [make('p', 'soft', 'A number of changes stands for changes that are not on this page one by one.'), ...moreAbout()] : [];
+? [make('p', 'soft', 'A number of changes stands for changes that are not on this page one by one.'), ...moreAbout(cell.from, cell.to)] : [];
 const [nearer] = cell.parts.length > 1 ? [linkTo('zoom to these', () => zoomTo(cell.from, cell.to))] : [''];
 showAfter(lane.row, `${nameIn(text, lane.rule)}: ${cell.pause || resultWords(cell.results)[0]}`,
 ...(inForce ? [conditionOf(inForce)] : []), nearer, ...parts, ...rest, ...reduced);
@@ -368,15 +381,4 @@ if (index >= drawn) drawRows(index + MORE - drawn);
 choose(item.packet);
 const row = byId('rows').querySelector(`[data-packet="${item.packet}"]`);
 row.scrollIntoView({ block: 'center' });
-row.querySelector('button').focus({ preventScroll: true });
-}
-function fillFilters() {
-byId('rule').append(make('option', '', 'all rules', { value: '' }));
-for (const lane of lanes) byId('rule').append(make('option', '', nameOf(lane.rule), { value: lane.rule }));
-byId('kind').append(make('option', '', 'all kinds', { value: '' }));
-for (const kind of ['request', ...LEVELS]) byId('kind').append(make('option', '', `${SHAPES[kind]} ${kind}`, { value: kind }));
-for (const id of ['words', 'rule', 'kind', 'failed']) byId(id).addEventListener('input', find);
-atTheEnd.observe(byId('more'));
-}
-const COLUMNS = ['packet', 'second', 'utc', 'record', 'kind', 'rule', 'sender', 'id', 'sequence', 'count', 'text'];
 "#;

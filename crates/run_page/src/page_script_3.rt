@@ -1,7 +1,18 @@
 //! The page behind its data, part 3. Written by tools/gate/page_constants.
 
 /// The page behind its data, part 3.
-pub const TEXT: &str = r#"function csvCells(item) {
+pub const TEXT: &str = r#"row.querySelector('button').focus({ preventScroll: true });
+}
+function fillFilters() {
+byId('rule').append(make('option', '', 'all rules', { value: '' }));
+for (const lane of lanes) byId('rule').append(make('option', '', nameOf(lane.rule), { value: lane.rule }));
+byId('kind').append(make('option', '', 'all kinds', { value: '' }));
+for (const kind of ['request', ...LEVELS]) byId('kind').append(make('option', '', `${SHAPES[kind]} ${kind}`, { value: kind }));
+for (const id of ['words', 'rule', 'kind', 'failed']) byId(id).addEventListener('input', find);
+atTheEnd.observe(byId('more'));
+}
+const COLUMNS = ['packet', 'second', 'utc', 'record', 'kind', 'rule', 'sender', 'id', 'sequence', 'count', 'text'];
+function csvCells(item) {
 const rule = item.rule === null ? '' : nameIn(textAt(item.at.record), item.rule);
 return [item.packet, secondOf(item.at.time), instantOf(item.at.time), item.at.record, item.kind, rule, item.sender ?? '',
 item.id ?? '', item.request?.sequence ?? '', item.request?.count ?? '', item.says ?? ''];

@@ -1,15 +1,12 @@
-//! Runs a stream and collects what its page shows.
+//! The data of a page, record by record.
 
-ghost use Rattle.std.specs.Prelude.{◌≡◌, ◌<◌, ℕ, ◌+◌, ◌==◌, ◌^◌, [], List, false, OnOk, IfOk, length, map, if◌then◌else◌};
+ghost use Rattle.std.specs.Prelude.{◌≡◌, ◌<◌, ℕ, ◌==◌, ◌^◌, [], List, false, OnOk, IfOk, map, if◌then◌else◌};
 ghost use Rattle.bounded_history.specs.declared.entry.Entry.{Entry as Told};
 ghost use Rattle.app_host.specs.Delivered.{executive_in};
-ghost use Rattle.flight_core.specs.Compiled.{AreAllCompiled, sources_of};
-ghost use Rattle.flight_core.specs.Records.{piece_size};
-ghost use Rattle.lc_model.specs.Host.Schedule.{Schedule as Plan};
 ghost use Rattle.rpn_compiler.specs.declared.files.TablePair.{TablePair};
 ghost use Rattle.rpn_compiler.specs.TextParts.{AreTextsOf};
 ghost use Rattle.run_stepper.specs.Force.{text_in_force};
-ghost use Rattle.run_stepper.specs.Stepping.{BeginsWith, IsAtRest, engine_among, host_in, written_by};
+ghost use Rattle.run_stepper.specs.Stepping.{IsAtRest, engine_among, host_in, written_by};
 ghost use Rattle.run_summary.specs.Account.{account_of, is_asked, shown_if};
 ghost use Rattle.run_summary.specs.Brought.{brings};
 ghost use Rattle.run_summary.specs.Fields.{AreKnown, all_brought, come_in};
@@ -17,28 +14,22 @@ ghost use Rattle.run_summary.specs.declared.texts.Field.{Field};
 ghost use Rattle.run_summary.specs.Run as run;
 ghost use Rattle.run_summary.specs.Run.{AreRead, OfTexts};
 ghost use Rattle.run_summary.specs.Texts.{HaveItems};
-ghost use Rattle.run_page.specs.Model.{HasTaken, HasTold, IsKept, IsNew, KeepsStands, ListsTell, SaidLast, TellsRead, TellsTaken, ending_at, led_to, place_of, run_of, stands_of, stood_more, ticks_of, types_of, values_more};
+ghost use Rattle.run_page.specs.Model.{HasTaken, HasTold, IsAnew, IsKept, KeepsStands, ListsTell, SaidLast, led_to, place_of, run_of, stands_of, stood_more, types_of, values_more};
+ghost use Rattle.run_page.specs.Times.{ticks_of};
 
-use crate::arriving::handle_next;
 use crate::behind::Behind;
 use crate::clock::{Clock, ticks_in};
 use crate::entry::value_entry;
 use crate::error::ReportError;
-use crate::intake::{Intake, Taken};
 use crate::lists::Lists;
-use crate::progress::Progress;
-use flight_core::laws::{records_are_handed_out, the_rest_says_the_end};
-use lc_model::stream::PIECE;
-use lc_model::{ByteSource, EventKind};
+use lc_model::EventKind;
 use rpn_compiler::{RuleText, TablePair};
-use run_stepper::laws::steps_are_a_run;
-use run_stepper::{Ending, Handled, Stepping, compile_texts, read_texts};
+use run_stepper::Stepping;
 use run_summary::laws::{fields_that_come, rules_that_stand_as_before};
 use run_summary::{Account, Place, Seen, TypesOn, is_asked};
-use schedules::Schedule;
 use std::alloc::{AllocError, Global};
 
-/// The data of a page about a run, up to its newest record.
+/// The data of a page about a part of a run, up to its newest record.
 #[derive(Drop)]
 pub struct Telling<'a> {
     pub(crate) clock: Clock,
@@ -87,13 +78,13 @@ fn show(account: &mut Account<'_>, stepping: &Stepping, pairs: &[TablePair], rec
 
 impl<'a> Telling<'a> {
     /// The data before the first record of a run of these texts.
-    fn new(alloc: Global, texts: Vec<RuleText<'a>>) -> Result<Telling<'a>, ReportError>
+    pub(crate) fn new(alloc: Global, texts: Vec<RuleText<'a>>) -> Result<Telling<'a>, ReportError>
         ensures small { IfOk result (λ telling. telling.clock.start < 2 ^ 48) }
         ensures nothing { (sources : List (List ℕ)) → AreTextsOf sources texts.entry.items →
             IfOk result (λ telling. (read : OfTexts) ×
             HaveItems sources read.texts × AreRead read ×
             ((pairs : List TablePair) → HasTold (run_of read pairs) telling.lists telling.behind
-            (account_of telling.account) telling.clock.start [])) }
+            (account_of telling.account) telling.clock.start [] [])) }
     {
         fields_that_come();
         let account = Account::new(alloc, texts)?;
@@ -192,7 +183,7 @@ impl<'a> Telling<'a> {
     }
 
     /// Takes a record that was handled. `pairs` are the table files of the texts.
-    fn take(
+    pub(crate) fn take(
         &mut self,
         stepping: &Stepping,
         pairs: &[TablePair],
@@ -228,151 +219,19 @@ impl<'a> Telling<'a> {
         let is_new = self.behind.look(stepping)?;
         self.take_shown(stepping, pairs, record, place, is_new)
     }
-}
 
-/// How a stream ended: after `records` whole records, or inside the next one.
-fn ending_at_end(stepping: &Stepping, records: u64) -> Ending
-    requires { records + 1 < 2 ^ 64 }
-    ensures { result ≡ ending_at (host_in stepping.now).held.bytes records }
-{
-    if stepping.held_size() == 0 {
-        return Ending::Whole { records };
+    /// Begins the part that is shown: drops what was told so far, except what the account knows. The only error is a lack of memory.
+    pub(crate) fn begin_anew(&mut self, alloc: Global) -> Result<(), AllocError>
+        ensures start { self.new.clock.start ≡ self.old.clock.start }
+        ensures anew { OnOk result (IsAnew self.old.lists self.new.lists self.new.behind
+            (account_of self.old.account) (account_of self.new.account)) }
+    {
+        fields_that_come();
+        let lanes = self.lists.lanes();
+        self.lists = Lists::new(alloc, lanes, self.account.seen.len())?;
+        self.behind = Behind::new(alloc);
+        self.clock.begin_anew();
+        self.account.begin_anew();
+        Ok(())
     }
-    Ending::Cut { n: records + 1 }
-}
-
-/// Takes all records of a stream. Returns how it ended.
-fn tell_all<R: ByteSource, P: Progress>(
-    telling: &mut Telling<'_>,
-    stepping: &mut Stepping,
-    pairs: &[TablePair],
-    intake: &mut Intake,
-    room: &mut [u8],
-    reader: &mut R,
-    progress: &mut P,
-) -> Result<Ending, ReportError>
-    requires rest { IsAtRest stepping.old }
-    requires new { IsNew (host_in stepping.old) }
-    requires start { telling.old.clock.start < 2 ^ 48 }
-    requires room { length room.old ≡ piece_size }
-    ensures rest { IsAtRest stepping.new }
-    ensures room { length room.new ≡ piece_size }
-    ensures told { (read : OfTexts) →
-        HasTold (run_of read pairs.now) telling.old.lists telling.old.behind
-        (account_of telling.old.account) telling.old.clock.start [] →
-        IfOk result (TellsTaken (run_of read pairs.now) (R.source reader.old).rest (R.source reader.new).rest
-        intake.old intake.new (host_in stepping.old)
-        telling.new.lists (account_of telling.new.account)) }
-{
-    records_are_handed_out();
-    the_rest_says_the_end();
-    let mut number = 0u64;
-    let mut done = 0u64;
-    for _ in 0..u64::MAX {
-        let next = number + 1;
-        match handle_next(stepping, intake, room, reader)? {
-            Handled::Whole => {}
-            Handled::NoRecord => return Ok(Ending::NoRecord { n: next }),
-            Handled::Part => return Ok(ending_at_end(stepping, number)),
-        }
-        let record = stepping.last_record();
-        telling.take(stepping, pairs, record, next)?;
-        number = next;
-        done = done.saturating_add(record.len() as u64);
-        progress.update(done);
-    }
-    Err(ReportError::Bound)
-}
-
-/// Takes a whole stream, from a new host on. Returns the stream's size and hash, and how the run ended.
-fn tell_stream<R: ByteSource, P: Progress>(
-    alloc: Global,
-    telling: &mut Telling<'_>,
-    stepping: &mut Stepping,
-    pairs: &[TablePair],
-    reader: &mut R,
-    progress: &mut P,
-) -> Result<(Taken, Ending), ReportError>
-    requires rest { IsAtRest stepping.old }
-    requires new { IsNew (host_in stepping.old) }
-    requires start { telling.old.clock.start < 2 ^ 48 }
-    ensures rest { IsAtRest stepping.new }
-    ensures told { (sources : List (List ℕ)) (schedule : Plan) (read : OfTexts) →
-        HaveItems sources read.texts → AreRead read → AreAllCompiled sources pairs.now →
-        BeginsWith sources schedule (host_in stepping.old) →
-        HasTold (run_of read pairs.now) telling.old.lists telling.old.behind
-        (account_of telling.old.account) telling.old.clock.start [] →
-        IfOk result (λ told. TellsRead sources schedule
-        (R.source reader.old).rest (R.source reader.new).rest telling.new.lists
-        (account_of telling.new.account) told.0.bytes told.0.digest told.1) }
-{
-    steps_are_a_run();
-    let mut intake = Intake::new();
-    let mut room = vec![in alloc; 0; PIECE]?;
-    let ending = tell_all(
-        telling,
-        stepping,
-        pairs,
-        &mut intake,
-        room.as_mut_slice(),
-        reader,
-        progress,
-    )?;
-    intake.take_rest(room.as_mut_slice(), reader)?;
-    Ok((intake.into_taken(), ending))
-}
-
-/// Takes a whole stream with a new host of these texts.
-fn tell_new<'a, R: ByteSource, P: Progress>(
-    alloc: Global,
-    texts: &[&'a [u8]],
-    stepping: &mut Stepping,
-    reader: &mut R,
-    progress: &mut P,
-) -> Result<(Telling<'a>, Taken, Ending), ReportError>
-    requires rest { IsAtRest stepping.old }
-    requires new { IsNew (host_in stepping.old) }
-    ensures rest { IsAtRest stepping.new }
-    ensures told { (schedule : Plan) →
-        BeginsWith (sources_of texts.now) schedule (host_in stepping.old) →
-        IfOk result (λ told. TellsRead (sources_of texts.now) schedule
-        (R.source reader.old).rest (R.source reader.new).rest told.0.lists
-        (account_of told.0.account) told.1.bytes told.1.digest told.2) }
-{
-    let pairs = compile_texts(alloc, texts)?;
-    let texts = read_texts(alloc, texts)?;
-    let mut telling = Telling::new(alloc, texts)?;
-    let (taken, ending) = tell_stream(
-        alloc,
-        &mut telling,
-        stepping,
-        pairs.as_slice(),
-        reader,
-        progress,
-    )?;
-    Ok((telling, taken, ending))
-}
-
-/// Runs rule texts under a schedule over a stream, record by record, and reads the stream to its end, in pieces of at most 8,192 bytes.
-/// Returns the page's data, the stream's size and SHA-256, and how the run ended (`TellsRead`). The data is what the rules and fields of
-/// these texts do over the records up to the first fault (`TellsRun`), on a new host with these texts' files in stock and this profile's
-/// applications under this schedule. At most 73,739 bytes of the stream are held.
-///
-/// Errors: `Rules` with the first text that doesn't compile, numbered from 0; `Memory`; `Read` if a read fails; `Bound` if there are more
-/// records, or reads after them, than 64 bits can count.
-pub fn tell_run<'a, R: ByteSource, P: Progress>(
-    alloc: Global,
-    schedule: &Schedule,
-    texts: &[&'a [u8]],
-    reader: &mut R,
-    progress: &mut P,
-) -> Result<(Telling<'a>, Taken, Ending), ReportError>
-    ensures { IfOk result (λ told. TellsRead (sources_of texts.now) schedule.now
-        (R.source reader.old).rest (R.source reader.new).rest told.0.lists
-        (account_of told.0.account) told.1.bytes told.1.digest told.2) }
-{
-    let mut stepping = Stepping::new(alloc, texts, schedule)?;
-    let told = tell_new(alloc, texts, &mut stepping, reader, progress);
-    stepping.close();
-    told
 }

@@ -18,7 +18,7 @@ use Rattle.run_summary.specs.declared.texts.Field.{Field}
 use Rattle.run_summary.specs.Account.{Account, Reading, Step, account_with, adopted_if, before_with, came, come, come_by, enforced_so, is_asked, left_by, read, read_all, read_by, sampled, shown_if, started_with_tables, written}
 use Rattle.run_summary.specs.Bands.{has_changed, how_left}
 use Rattle.run_summary.specs.Brought.{Brings, Command, File, Telemetry, Tick, brings}
-use Rattle.run_summary.specs.Fields.{AreKnown, IsBefore, all_brought, come_in, forgotten, is_at, is_place, met_in, seen_by, seen_in, unseen}
+use Rattle.run_summary.specs.Fields.{AreKnown, IsBefore, all_brought, come_in, forgotten, is_at, is_place, met_in, seen_by, seen_in, uncounted, unseen}
 use Rattle.run_summary.specs.Figures.{one_more, with_event, with_packet}
 use Rattle.run_summary.specs.Packets.{packets_of}
 use Rattle.run_summary.specs.Run.{FieldsCome}
@@ -188,9 +188,16 @@ step_known fields step a known =
     (shown_known (is_asked step.bytes step.written) step.force step.types (step.place.«record» + 1) fields (come step.bytes step.place a)
     (record_known (brings step.bytes) step.place fields a known)))
 
+known_anew : (number : ℕ) (fields : List Field) (all : List Seen) → AreKnown number fields all → AreKnown number fields (map uncounted all)
+known_anew number [] [] known = tt
+known_anew number [] (seen ∷ all) known = absurd known
+known_anew number (field ∷ fields) [] known = absurd known
+known_anew number (field ∷ fields) (seen ∷ all) known = (known.0, known.1, known_anew number fields all known.2)
+
 pub fields_come : FieldsCome
 fields_come = record {
   begin = λ texts. unseen_known 1 texts.fields;
   come = λ fields bytes place a known. record_comes (brings bytes) place fields a known;
   go_on = step_known;
+  anew = λ number fields a known. known_anew number fields a.seen known;
 }

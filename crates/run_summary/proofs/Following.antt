@@ -14,7 +14,7 @@ use Rattle.run_summary.specs.declared.bands.How.TheVariants as how
 use Rattle.run_summary.specs.declared.place.Place.{Place}
 use Rattle.run_summary.specs.declared.place.Stand.{Stand}
 use Rattle.run_summary.specs.Account.{Account, Reading, Step, adopted_if, come, come_by, enforced_so, is_asked, left_by, read_by, shown_if, started_with_tables, stood_again}
-use Rattle.run_summary.specs.Bands.{InForce, enforced, has_changed, how_left, how_unsaid, in_mode, is_none_in_force, is_text, mode_number, mode_told, most, nothing_in_force, text_enforced, told_more}
+use Rattle.run_summary.specs.Bands.{InForce, enforced, has_changed, how_left, how_unsaid, in_mode, is_none_in_force, is_text, mode_number, mode_told, most, nothing_in_force, text_enforced, told_again, told_more}
 use Rattle.run_summary.specs.Brought.{Brings, Command, File, Telemetry, Tick, brings}
 use Rattle.run_summary.specs.Figures.{one_more, with_event}
 use Rattle.run_summary.specs.Happened.{Came, Happened, Over, Sent, force_shown, how_enforced, how_in_force, how_then, how_told, mode_behind, shown_to, text_differs, text_in_force, text_then}
@@ -185,7 +185,7 @@ read_follows packet place stands r happened f =
 
 -- the tables in force, by whether none were told before
 abbrev pub left_when : Bool → Option How → Place → InForce → InForce
-left_when t None place b = if t then enforced place how.None b else b
+left_when t None place b = if t then told_again place b else b
 left_when t (Some begins) place b = enforced place begins b
 
 -- .. and the mode
@@ -221,8 +221,13 @@ stopped_left : (t n : Bool) (place : Place) (b : InForce) (happened : List Happe
     Follows happened b → Left place None happened (left_when t (if n then None else Some how.None) place b)
 stopped_left t false place b happened is other f =
     record { force = f.force; text = refl; came = sym (none_then (how_in_force happened)); none = λ none. refl; begun = λ none. refl }
-stopped_left true true place b happened is other f =
-    record { force = f.force; text = refl; came = sym (none_then (how_in_force happened)); none = λ none. refl; begun = λ none. refl }
+stopped_left true true place b happened is other f = record {
+  force = f.force;
+  text = f.none is;
+  came = none_is b.how is ∙ sym (none_then (how_in_force happened));
+  none = f.none;
+  begun = λ none. none_is b.how is;
+}
 stopped_left false true place b happened is other f =
     record { force = f.force; text = f.none is; came = none_is b.how is ∙ sym (none_then (how_in_force happened)); none = f.none; begun = f.begun }
 
@@ -265,14 +270,13 @@ runs_left t true place m b happened is other f =
     }
 runs_left true false place m b happened is other f =
     let differs : text_differs happened ≡ false = sym (changed_so b happened f) ∙ other in
-    let none_now : b.how ≡ how.None = f.begun is in
     record {
       force = f.force;
-      text = sym (f.none (ap is_none_in_force none_now)) ∙ same_text b.text b.force other ∙ f.force;
-      came = sym none_now ∙ f.came
+      text = same_text b.text b.force other ∙ f.force;
+      came = f.came
           ∙ sym (ap (λ changed. how_then (if changed then Some (how_unsaid (mode_behind happened)) else None) (how_in_force happened)) differs);
-      none = λ none. refl;
-      begun = λ none. refl;
+      none = f.none;
+      begun = λ none. f.begun is;
     }
 runs_left false false place m b happened is other f =
     let differs : text_differs happened ≡ false = sym (changed_so b happened f) ∙ other in

@@ -13,7 +13,7 @@ use Rattle.run_summary.specs.declared.bands.TablesFrom.{TablesFrom}
 use Rattle.run_summary.specs.declared.place.Place.{Place}
 use Rattle.run_summary.specs.declared.place.Stand.{Stand}
 use Rattle.run_summary.specs.Account.{Account, Reading, Step, account_behind, account_with, before_with, came, come, come_by, is_asked, read, read_all, sampled, shown_if, stood_again, written}
-use Rattle.run_summary.specs.Bands.{InForce, how_left, mode_number, mode_told, most, nothing_in_force, text_enforced, told_more}
+use Rattle.run_summary.specs.Bands.{InForce, how_left, is_none_in_force, mode_number, mode_told, most, nothing_in_force, tables_told, text_enforced, told_more}
 use Rattle.run_summary.specs.Brought.{Brings, Command, File, Telemetry, Tick, brings}
 use Rattle.run_summary.specs.Figures.{one_more, with_packet}
 use Rattle.run_summary.specs.Happened.{Came, Happened, Over, Sent, behind_coming, behind_packets, behind_record, force_shown, happened_from, how_enforced, mode_behind, packets_led_to, shown_to}
@@ -119,10 +119,13 @@ packet_turns packet b happened f t =
 
 -- what comes into force then
 left_begun : (t : Bool) (begins : Option How) (place : Place) (b : InForce) (all : List TablesFrom) → (length all == 0) ≡ t →
-    left_when t begins place b ≡ enforced_by (how_begun begins all) place b
-left_begun t (Some begins) place b all is = refl
-left_begun true None place b all is = rw is refl
-left_begun false None place b all is = rw is refl
+    (t ≡ true → (b.text ≡ None) × (b.how ≡ how.None)) → left_when t begins place b ≡ enforced_by (how_begun begins all) place b
+left_begun t (Some begins) place b all is none = refl
+left_begun true None place b all is none =
+    let nothing : (b.text ≡ None) × (b.how ≡ how.None) = none refl in
+    (λ i. record b { text = nothing.0 i; how = nothing.1 i; tables = tables_told place (nothing.0 i) (nothing.1 i) b.tables })
+    ∙ sym (ap (λ (t : Bool). enforced_by (if t then Some how.None else None) place b) is)
+left_begun false None place b all is none = rw is refl
 
 mode_turns : (t : Bool) (place : Place) (mode : Option LcMode) (b : InForce) (happened : List Happened) →
     (length (all_modes happened) == 0 || not (mode_number (mode_behind happened) == mode_number mode)) ≡ t →
@@ -149,6 +152,7 @@ stood_turns place mode b happened f t =
     let now : InForce = left_when (length b.tables == 0) (how_left mode b) place b in
     let same : now ≡ enforced_by begins place b =
     left_begun (length b.tables == 0) (how_left mode b) place b all none
+    (λ empty. (f.none (ap is_none_in_force (f.begun empty)), f.begun empty))
     ∙ ap (λ by. enforced_by (how_begun by all) place b) (left_so place mode b happened f) in
     let modes : now.modes ≡ told_of untold_mode (all_modes happened) = ap (λ (b : InForce). b.modes) same ∙ modes_so begins place b ∙ t.modes in
     let mode_now : mode_number now.mode ≡ mode_number (mode_behind happened) =

@@ -20,18 +20,18 @@ use Rattle.run_summary.specs.declared.seen.Seen.{Seen}
 use Rattle.run_summary.specs.declared.account.Account.{Account as Held}
 use Rattle.run_summary.specs.About.{rule_of}
 use Rattle.run_summary.specs.Asking.{Counted, asking, behind_rule, counted_by, row_asked}
-use Rattle.run_summary.specs.Bands.{InForce, begun, enforced, has_changed, how_left, in_mode}
+use Rattle.run_summary.specs.Bands.{InForce, bands_anew, begun, enforced, has_changed, how_left, in_mode}
 use Rattle.run_summary.specs.Brought.{Brings, Command, File, Telemetry, Tick, brings, is_sample_request}
-use Rattle.run_summary.specs.Fields.{all_seen, forgotten}
-use Rattle.run_summary.specs.Figures.{one_more, with_event, with_packet, with_record}
+use Rattle.run_summary.specs.Fields.{all_seen, forgotten, uncounted}
+use Rattle.run_summary.specs.Figures.{none, one_more, with_event, with_packet, with_record}
 use Rattle.run_summary.specs.Holds.{hold_of}
 use Rattle.run_summary.specs.Packets.{packets_of}
 use Rattle.run_summary.specs.Plans.{Planned, parts_by, planned_at}
 use Rattle.run_summary.specs.Samples.{Row, met_by_parts, row_with}
-use Rattle.run_summary.specs.Sent.{Requested, Said, Sending, requested_more, said_more}
-use Rattle.run_summary.specs.Ends.{Ends}
+use Rattle.run_summary.specs.Sent.{Requested, Said, Sending, nothing_sent, requested_more, said_more}
+use Rattle.run_summary.specs.Ends.{Ends, no_items}
 use Rattle.run_summary.specs.Standing.{stand_at}
-use Rattle.run_summary.specs.Uplinks.{Uplinked, uplink_of, with_uplink}
+use Rattle.run_summary.specs.Uplinks.{Uplinked, uplink_of, uplinks_kept, with_uplink}
 use Rattle.rpn_compiler.specs.TextParts.{items_in}
 
 -- the account of a run
@@ -286,3 +286,16 @@ account_with step a =
 abbrev pub account_behind : Account → List Step → Account
 account_behind a [] = a
 account_behind a (step ∷ steps) = account_behind (account_with step a) steps
+
+-- ---- a part of a run
+
+-- the account before the first record of a part: requests, events, commands and changes so far are dropped, and what is known stays. The
+-- figures and the packets of fields count the part alone, but for the number of packets that the run wrote, which goes on.
+abbrev pub begun_anew : Account → Account
+begun_anew a = record a {
+  seen = map uncounted a.seen;
+  bands = bands_anew a.bands;
+  sending = nothing_sent;
+  uplinks = no_items uplinks_kept uplinks_kept;
+  figures = record none { packets = a.figures.packets };
+}

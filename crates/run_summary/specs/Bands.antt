@@ -101,6 +101,14 @@ how_over before (Some mode) begun changed = if changed then Some (how_unsaid bef
 abbrev pub how_left : Option LcMode → InForce → Option How
 how_left mode b = how_over b.mode mode b.how (has_changed b)
 
--- without a change: after the first record it is told that no tables are in force, if none came into force
+-- the tables in force as they are, from this place on
+abbrev pub told_again : Place → InForce → InForce
+told_again place b = record b { tables = tables_told place b.text b.how b.tables }
+
+-- without a change: after the first record it is told which tables are in force, if none came into force
 abbrev pub begun : Place → InForce → InForce
-begun place b = if length b.tables == 0 then enforced place how.None b else b
+begun place b = if length b.tables == 0 then told_again place b else b
+
+-- before the first record of a part of a run: what is in force stays, and is told after that record
+abbrev pub bands_anew : InForce → InForce
+bands_anew b = record b { tables = []; modes = [] }

@@ -48,6 +48,10 @@ all_seen packet place all = if nat_lt (length packet) 2 then all else map (seen_
 abbrev pub forgotten : Seen → Seen
 forgotten seen = record seen { met = nothing }
 
+-- its packets are counted anew
+abbrev pub uncounted : Seen → Seen
+uncounted seen = record seen { packets = 0; last = None }
+
 -- nothing came of a field
 abbrev pub unseen : Field → Seen
 unseen field = record { field = field; packets = 0; last = None; met = nothing }

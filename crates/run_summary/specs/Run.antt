@@ -13,7 +13,7 @@ use Rattle.run_summary.specs.declared.place.Place.{Place}
 use Rattle.run_summary.specs.declared.place.Stand.{Stand}
 use Rattle.run_summary.specs.declared.texts.Field.{Field}
 use Rattle.run_summary.specs.About.{rule_of}
-use Rattle.run_summary.specs.Account.{Account, Step, account_behind, account_with, before_with, come, sampled, shown, stood_again, stood_so, written}
+use Rattle.run_summary.specs.Account.{Account, Step, account_behind, account_with, before_with, begun_anew, come, sampled, shown, stood_again, stood_so, written}
 use Rattle.run_summary.specs.Bands.{nothing_in_force}
 use Rattle.run_summary.specs.Ends.{Ends, kept, no_items}
 use Rattle.run_summary.specs.Brought.{Brings, Command, File, Telemetry, Tick, brings}
@@ -242,13 +242,15 @@ pub record StandAgain : Type 0 where
       stood_so place mode stands (written bytes place stands (sampled place stands a)) ≡ stood_again place mode (written bytes place stands a)
 
 -- When a record has come, the account knows each field value that it brought. A value with the record's place is one that it brought:
--- all values that were known before have places of earlier records (`AreKnown`), before the first record and after each.
+-- all values that were known before have places of earlier records (`AreKnown`), before the first record and after each, and where a part
+-- begins.
 pub record FieldsCome : Type 0 where
   pub begin : (texts : OfTexts) → AreKnown 1 texts.fields (nothing_told texts).seen
   pub come : (fields : List Field) (bytes : List ℕ) (place : Place) (a : Account) → AreKnown place.«record» fields a.seen →
       map (come_in place) (come bytes place a).seen ≡ all_brought fields place (brings bytes)
   pub go_on : (fields : List Field) (step : Step) (a : Account) → AreKnown step.place.«record» fields a.seen →
       AreKnown (step.place.«record» + 1) fields (account_with step a).seen
+  pub anew : (number : ℕ) (fields : List Field) (a : Account) → AreKnown number fields a.seen → AreKnown number fields (begun_anew a).seen
 
 -- the account of a run has the first 1,000 and the last 1,000 of all its events, and how many are left out between them, from which record
 -- to which

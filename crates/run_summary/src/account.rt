@@ -2,7 +2,7 @@
 
 ghost use Rattle.std.specs.Prelude.{◌≡◌, IfOk, List, OnOk, map, replicate, ℕ};
 ghost use Rattle.rpn_compiler.specs.TextParts.{AreTextsOf, items_in};
-ghost use Rattle.run_summary.specs.Account.{account_of, before_with, brought_by, come, enforced_so, left_by, rows_with, sampled, shown, stood_again, stood_so};
+ghost use Rattle.run_summary.specs.Account.{account_of, before_with, begun_anew, brought_by, come, enforced_so, left_by, rows_with, sampled, shown, stood_again, stood_so};
 ghost use Rattle.run_summary.specs.Brought.{brings_of};
 ghost use Rattle.run_summary.specs.Plans.{parts_by, planned_at};
 ghost use Rattle.run_summary.specs.Run.{TellsNothing};
@@ -18,7 +18,7 @@ use crate::holds::{ALL_ON, TypesOn};
 use crate::place::{ABSENT, Place, Stand, stand_in};
 use crate::plans::{Part, RulePlans, parts_at, plans_of};
 use crate::samples::FailRun;
-use crate::seen::{Seen, all_unseen, forget_all, see_all};
+use crate::seen::{Seen, all_unseen, count_all_anew, forget_all, see_all};
 use crate::sent::Sending;
 use crate::texts::{fields_of, rule_count};
 use crate::uplinks::{UPLINKS, Uplink, keep_uplink};
@@ -244,5 +244,18 @@ impl<'a> Account<'a> {
         let how = self.bands.how_left(mode);
         self.take_left(place, how)?;
         self.bands.take_mode(place, mode)
+    }
+
+    /// Begins a part of a run: drops the requests, events, commands and changes so far, and keeps what is known. The figures and the
+    /// packets of fields count the part alone, but the number of packets that the run wrote goes on.
+    pub fn begin_anew(&mut self)
+        ensures { account_of self.new ≡ begun_anew (account_of self.old) }
+    {
+        count_all_anew(&mut self.seen);
+        let packets = self.figures.packets;
+        self.sending = Sending::new(self.alloc);
+        self.uplinks = Ends::new(self.alloc, UPLINKS, UPLINKS);
+        self.figures = Figures::after(packets);
+        self.bands.begin_anew();
     }
 }

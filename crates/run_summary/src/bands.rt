@@ -1,7 +1,7 @@
 //! The tables in force and the Limit Checker's mode, over the run.
 
 ghost use Rattle.std.specs.Prelude.{◌≡◌, OnOk};
-ghost use Rattle.run_summary.specs.Bands.{begun, enforced, has_changed, how_left, how_unsaid, in_mode, is_none_in_force, is_text, mode_number, mode_told, nothing_in_force, text_enforced, told_more};
+ghost use Rattle.run_summary.specs.Bands.{bands_anew, begun, enforced, has_changed, how_left, how_unsaid, in_mode, is_none_in_force, is_text, mode_number, mode_told, nothing_in_force, text_enforced, told_again, told_more};
 
 use crate::place::Place;
 use lc_model::LcMode;
@@ -209,13 +209,19 @@ impl Bands {
     pub(crate) fn enforce(&mut self, place: Place, how: How) -> Result<(), AllocError>
         ensures { OnOk result (self.new ≡ enforced place how self.old) }
     {
-        let text = text_enforced(how, self.force);
-        self.text = text;
+        self.text = text_enforced(how, self.force);
         self.how = how;
+        self.tell_tables(place)
+    }
+
+    /// Appends the tables in force. The only error is a lack of memory.
+    fn tell_tables(&mut self, place: Place) -> Result<(), AllocError>
+        ensures { OnOk result (self.new ≡ told_again place self.old) }
+    {
         let told = TablesFrom {
             place,
-            text,
-            how: Some(how),
+            text: self.text,
+            how: Some(self.how),
         };
         let untold = TablesFrom {
             place,
@@ -249,13 +255,21 @@ impl Bands {
         Ok(())
     }
 
-    /// Appends that no tables are in force, if nothing was appended before. The only error is a lack of memory.
+    /// Appends the tables in force, if nothing was appended before. The only error is a lack of memory.
     pub(crate) fn begin(&mut self, place: Place) -> Result<(), AllocError>
         ensures { OnOk result (self.new ≡ begun place self.old) }
     {
         if self.tables.len() == 0 {
-            return self.enforce(place, How::None);
+            return self.tell_tables(place);
         }
         Ok(())
+    }
+
+    /// Drops all entries, and keeps what is in force.
+    pub(crate) fn begin_anew(&mut self)
+        ensures { self.new ≡ bands_anew self.old }
+    {
+        self.tables.clear();
+        self.modes.clear();
     }
 }

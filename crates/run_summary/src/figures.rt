@@ -67,6 +67,15 @@ impl Figures {
         }
     }
 
+    /// All counts at zero, except the packets.
+    pub(crate) fn after(packets: u64) -> Figures
+        ensures { result ≡ record none { packets = packets } }
+    {
+        let mut figures = Figures::new();
+        figures.packets = packets;
+        figures
+    }
+
     /// Counts a record.
     pub(crate) fn take(&mut self, brought: Brought<'_>)
         ensures { self.new ≡ with_record (brings_of brought.entry) self.old }

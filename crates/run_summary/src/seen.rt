@@ -1,7 +1,7 @@
 //! What is known of fields from the packets that came.
 
 ghost use Rattle.std.specs.Prelude.{◌≡◌, ◌≤◌, length, map, IfOk};
-ghost use Rattle.run_summary.specs.Fields.{all_seen, come_in, forgotten, met_of, nothing, seen_by, seen_in, unseen};
+ghost use Rattle.run_summary.specs.Fields.{all_seen, come_in, forgotten, met_of, nothing, seen_by, seen_in, uncounted, unseen};
 
 use crate::figures::count;
 use crate::place::{Place, is_place};
@@ -83,6 +83,14 @@ impl<'a> Seen<'a> {
         }
     }
 
+    /// Counts the packets anew.
+    fn count_anew(&mut self)
+        ensures { self.new ≡ uncounted self.old }
+    {
+        self.packets = 0;
+        self.last = None;
+    }
+
     /// Clears what comparisons meet.
     fn forget(&mut self)
         ensures { self.new ≡ forgotten self.old }
@@ -123,6 +131,15 @@ pub(crate) fn forget_all(all: &mut [Seen<'_>])
 {
     for seen in all.iter_mut() {
         seen.forget();
+    }
+}
+
+/// Counts the packets of all fields anew.
+pub(crate) fn count_all_anew(all: &mut [Seen<'_>])
+    ensures { all.new ≡ map uncounted all.old }
+{
+    for seen in all.iter_mut() {
+        seen.count_anew();
     }
 }
 

@@ -8,6 +8,7 @@ ghost use Rattle.tool_faults.specs.Status.{status_by};
 
 use check_command::{CheckOptions, check, explain, told};
 use flight_tools_args::{CommandPlan, WordsError, read_words};
+use run_commands::PageTimes;
 use std::fs::Files;
 use std::io::{self, BufWriter, Eprint, Input, Print, Read, Write};
 use tool_faults::Fault;
@@ -77,10 +78,15 @@ pub fn obey<'a, R: Files + Eprint + AllocGlobal, I: Read + Drop, W: Write>(
             stream,
             page,
             rules,
-            epoch,
+            how,
         } => {
             let rules = rules.as_slice();
-            run_commands::make_page(rt, schedule, stream, page, rules, epoch, is_watched)
+            let times = PageTimes {
+                epoch: how.epoch,
+                from: how.from,
+                until: how.until,
+            };
+            run_commands::make_page(rt, schedule, stream, page, rules, times, is_watched)
         }
         CommandPlan::Check {
             schedule,

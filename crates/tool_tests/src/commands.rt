@@ -3,7 +3,7 @@
 use crate::claims::same;
 use crate::tables::{WDT, watchpoints};
 use lc_model::Reading;
-use run_page::{Run, Silent, Source, write_page};
+use run_page::{Run, Silent, Source, WHOLE, write_page};
 use schedules::parse_schedule;
 use std::alloc::{AllocError, Global};
 use std::env::{self, Env};
@@ -272,6 +272,7 @@ fn page<R: Abort + AllocGlobal>(rt: &R, folder: &str) -> Vec<u8> {
         rt.alloc(),
         &schedule,
         &run,
+        WHOLE,
         &mut reader,
         &mut page,
         &mut Silent,

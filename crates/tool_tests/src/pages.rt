@@ -2,7 +2,7 @@
 
 use crate::claims::same;
 use lc_model::{ByteSource, Pieces};
-use run_page::{Progress, ReportError, Run, Silent, Source, write_page};
+use run_page::{Progress, ReportError, Run, Silent, Source, WHOLE, write_page};
 use run_stepper::Ending;
 use schedules::parse_schedule;
 use std::alloc::{AllocError, Global};
@@ -85,7 +85,7 @@ pub fn page_from<'n, 't, R: Abort + AllocGlobal, I: ByteSource, W: Write, P: Pro
         texts: sources,
         epoch: None,
     };
-    write_page(rt.alloc(), &schedule, &run, reader, out, progress)
+    write_page(rt.alloc(), &schedule, &run, WHOLE, reader, out, progress)
 }
 
 /// The answer over a stream, and what is written.

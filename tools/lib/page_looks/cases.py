@@ -95,14 +95,17 @@ def expect_part(look):
 
 
 def expect_left_out(look):
-    """What is left out is hatched where it lies, at each lane, and says where it can be read."""
+    """What is left out is hatched where it lies, at each lane, and says which command makes a page of it."""
     look.show()
     look.expect(look.ask("lanes.every(lane => lane.track.querySelector('.hatch'))"), "a lane isn't hatched")
     ends = look.ask("[stretches[0].from.record <= stretches[0].first, stretches[0].to.record >= stretches[0].last, stretches[0].from.record >= run.requests[299].record]")
     look.expect(ends == [True] * 3, f"the hatch has other ends: {ends}")
     look.do("document.querySelector('#lanes .cell.hatch').click()")
     says = look.ask("byId('panel').innerText")
-    look.expect("5,013 requests of records" in says and "flight_tools packets" in says, f"what is left out says {says}")
+    look.expect("5,013 requests of records" in says and "flight_tools report --epoch 2024-02-29T00:00:00Z --from 50612 --until 60634 schedule.txt" in says, f"what is left out says {says}")
+    look.do("moveTo(3000, 3100)")
+    look.do("document.querySelector('#lanes .cell.hatch').click()")
+    look.expect("--from 53000 --until 53101 " in look.ask("byId('panel').innerText"), "the command isn't that of the part in the window")
 
 
 def expect_held(look):

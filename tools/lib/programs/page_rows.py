@@ -103,4 +103,50 @@ TRIALS = [
             },
         ),
     ),
+    *(
+        Trial(f"a page {title}", shown(START + 3 * FAILURE, ["rules"], expected, options))
+        for title, options, expected in (
+            (
+                "of a part",
+                ["--from", "101", "--until", "102.00000"],
+                {
+                    "window": whole({"from": 6619136, "until": 6684672, "records": 5, "packets": 4}),
+                    "start": whole(6619136),
+                    "end": whole(0),
+                    "figures": (lambda figures: [figures[name] for name in ("records", "packets", "requests")], [2, 2, 1]),
+                    "tables": whole([[6, 0, 0, "started"]]),
+                    "mode": whole([[6, 0, "active"]]),
+                    "fields": (lambda fields: [[field["packets"], field["last"], field["values"]] for field in fields], [[1, [6, 0], [[6, 0, 1999]]]]),
+                    "requests": those(WHY, [[7, 0, 0, 7, 6, None, 2]]),
+                    "commands": (lambda commands: [command[:2] for command in commands], [[7, 0]]),
+                },
+            ),
+            (
+                "from a second on",
+                ["--from", "101.5"],
+                {"window": whole({"from": 6651904, "until": None, "records": 7, "packets": 6}), "requests": whole([])},
+            ),
+            (
+                "up to a second",
+                ["--until", "101"],
+                {
+                    "window": whole({"from": None, "until": 6619136, "records": 0, "packets": 0}),
+                    "start": whole(6553600),
+                    "figures": (lambda figures: [figures[name] for name in ("records", "packets", "requests")], [5, 4, 0]),
+                },
+            ),
+            (
+                "of no record",
+                ["--from", "103"],
+                {
+                    "window": whole({"from": 6750208, "until": None, "records": 9, "packets": 6}),
+                    "figures": (lambda figures: [figures[name] for name in ("records", "packets", "requests")], [0, 0, 0]),
+                    "end": whole(0),
+                    "tables": whole([]),
+                    "mode": whole([]),
+                    "lanes": whole([[]]),
+                },
+            ),
+        )
+    ),
 ]

@@ -183,6 +183,15 @@ REPORTS = [
         FILES,
         after={"page": Holds(b'"epoch":"2000-01-01T12:00:00Z",')},
     ),
+    *(
+        Row(title, [*REPORT[:2], *options, *REPORT[2:]], FILES, status=2, error=line)
+        for title, options, line in (
+            ("a page from no second", ["--from", "noon"], b"--from noon: write seconds, as 104 or 104.00000\n"),
+            ("a page from six digits of a second", ["--from", "1.000000"], b"--from 1.000000: write seconds, as 104 or 104.00000\n"),
+            ("a page until an empty word", ["--until", ""], b"--until : write seconds, as 104 or 104.00000\n"),
+            ("a page until before it begins", ["--from", "5", "--until", "5"], b"--until 5: write seconds after those of --from\n"),
+        )
+    ),
     Row(
         "a schedule that is refused makes no page",
         REPORT,
