@@ -21,7 +21,7 @@ use Rattle.run_page.specs.Model.{Adds, CameTo, HasShown, HasTaken, HasTold, IsAn
 use Rattle.run_page.specs.Part.{FirstBegins, FirstEnds, NoneBegins, NoneEnds, is_after, is_before, is_from, is_left_for, is_until, phase_after}
 use Rattle.run_page.specs.Times.{ticks_of}
 use Rattle.run_page.proofs.Accounts.{Stays, account_anew, account_more, anew_of_nothing, start_stays}
-use Rattle.run_page.proofs.Lanes.{length_nothing, nothing_of_lanes}
+use Rattle.run_page.proofs.Lanes.{nothing_of_lanes}
 use Rattle.run_page.proofs.Values.{all_values_more, known_length, nothing_yet}
 
 -- ---- lanes

@@ -1,8 +1,7 @@
 -- Lists of fields' values, behind the lanes.
 use Rattle.std.proofs.Common.{◌≡◌, ℕ, zero, suc, ◌+◌, ◌-◌, ◌<◌, ◌≤◌, ◌^◌, Bool, true, false, List, [], ◌∷◌, ◌++◌, length, length-append, map, min, nat_lt, take, drop, get_or, refl, ap, sym, ◌∙◌, subst, Option, Some, None, arith}
-use Rattle.std.specs.Prelude.{Result, OnOk, if◌then◌else◌, ◌==◌}
+use Rattle.std.specs.Prelude.{Result, OnOk}
 use Rattle.std.proofs.lemmas.List.{append_assoc, append-nil}
-use Rattle.std.proofs.lemmas.Bool.Decides.{nat_tests}
 use Rattle.std.proofs.lemmas.Result.{on_ok_weaker}
 use Rattle.lc_model.proofs.Facts.{tested_less, tested_not_less}
 use Rattle.bounded_history.specs.declared.entry.Entry.{Entry}
@@ -15,8 +14,7 @@ use Rattle.run_summary.specs.declared.seen.Seen.{Seen}
 use Rattle.run_summary.specs.declared.texts.Field.{Field}
 use Rattle.run_summary.specs.Brought.{brings}
 use Rattle.run_summary.specs.Account.{Account, come}
-use Rattle.run_summary.specs.Fields.{AreKnown, all_brought, brought_of, come_in, unseen}
-use Rattle.run_summary.specs.Run as run
+use Rattle.run_summary.specs.Fields.{AreKnown, all_brought, brought_of, come_in}
 use Rattle.run_summary.specs.Run.{FieldsCome, OfTexts}
 use Rattle.run_page.specs.declared.behind.Behind.{Behind}
 use Rattle.run_page.specs.declared.lists.Lists.{Lists}

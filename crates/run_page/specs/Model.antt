@@ -1,6 +1,6 @@
 -- The data of a page about a run: each rule's result and state after each record, the values of fields, and the account of the run
 -- (page/DATA.md). This project's own.
-use Rattle.std.specs.Prelude.{◌≡◌, ℕ, zero, suc, ◌+◌, ◌-◌, ◌*◌, ◌^◌, ◌<◌, min, true, false, List, [], ◌∷◌, ◌++◌, length, map, pos, ◌-ℤ◌, negsuc, ℤ, nat_lt, if◌then◌else◌, Option, Some, None, Ok}
+use Rattle.std.specs.Prelude.{◌≡◌, ℕ, zero, suc, ◌+◌, ◌-◌, ◌^◌, ◌<◌, min, true, false, List, [], ◌∷◌, ◌++◌, length, map, pos, ◌-ℤ◌, negsuc, ℤ, Option, Some, None, Ok}
 use Rattle.lc_model.specs.declared.mode.LcMode.{LcMode}
 use Rattle.lc_model.specs.Host.Schedule.{Schedule}
 use Rattle.lc_model.specs.declared.rule.EventKind.TheVariants as kind
@@ -259,7 +259,7 @@ pub record IsAnew (lists after : Lists) (behind_it : Behind) (a after_it : Accou
   pub account : after_it ≡ account.begun_anew a
   pub known : (number : ℕ) (fields : List Field) → AreKnown number fields a.seen → AreKnown number fields after_it.seen
 
--- .. with records after the part
+-- these are the records before the part, in it and after it, and the lists and the account are those of the part
 pub record HasShown (texts : OfRun) (part : Part) (lists : Lists) (behind : Behind) (a : Account) (start : ℕ) (all : List Step) : Type 0 where
   pub earlier : List Step
   pub shown : List Step

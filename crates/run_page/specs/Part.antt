@@ -1,5 +1,5 @@
 -- The part of a run that a page shows, by the times of records. This project's own.
-use Rattle.std.specs.Prelude.{◌≡◌, ℕ, Bool, true, false, not, List, [], ◌∷◌, ◌++◌, length, nat_le, if◌then◌else◌, Option, Some, None, ⊤}
+use Rattle.std.specs.Prelude.{◌≡◌, ℕ, Bool, true, false, not, List, [], ◌∷◌, ◌++◌, nat_le, if◌then◌else◌, Option, Some, None, ⊤}
 use Rattle.run_stepper.specs.Steps.{Step}
 use Rattle.run_page.specs.declared.part.Part.{Part}
 use Rattle.run_page.specs.declared.part.Phase.{Phase}

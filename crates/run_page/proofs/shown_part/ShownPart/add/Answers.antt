@@ -1,4 +1,4 @@
-use Rattle.std.proofs.Common.{◌≡◌, ◌∙◌, sym}
+use Rattle.std.proofs.Common.{◌∙◌, sym}
 use Rattle.run_stepper.specs.Stepping.{host_in, written_by}
 use Rattle.run_summary.specs.Account.{account_of}
 use Rattle.run_page.specs.Model.{run_of}

@@ -1,4 +1,4 @@
-use Rattle.std.proofs.Common.{◌≡◌, ◌∙◌, sym}
+use Rattle.std.proofs.Common.{◌∙◌, sym}
 use Rattle.run_summary.specs.Account.{account_of}
 use Rattle.run_page.proofs.Parts.{anew_so}
 use Rattle.run_page.proofs.shown_part.ShownPart.come_to.Goals as goal

@@ -1,4 +1,4 @@
-use Rattle.std.proofs.Common.{◌≡◌, ◌∙◌, ℕ, sym, subst, length}
+use Rattle.std.proofs.Common.{◌∙◌, ℕ, sym, subst, length}
 use Rattle.run_summary.specs.Account.{Account, account_of}
 use Rattle.run_summary.specs.Fields.{AreKnown}
 use Rattle.run_page.specs.Model.{ListsTell, nothing_told}

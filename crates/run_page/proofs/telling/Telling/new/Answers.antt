@@ -1,4 +1,4 @@
-use Rattle.std.proofs.Common.{◌≡◌, ◌∙◌, ap, sym, subst, refl, arith, length}
+use Rattle.std.proofs.Common.{◌∙◌, ap, sym, subst, arith, length}
 use Rattle.std.proofs.lemmas.Bool.{false≢true}
 use Rattle.std.proofs.lemmas.List.{length-map}
 use Rattle.run_summary.specs.Account.{Account, account_of}
