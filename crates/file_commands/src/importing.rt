@@ -31,7 +31,7 @@ struct Said {
 
 /// How archives become records.
 #[derive(Drop)]
-struct Import<'o> {
+struct ArchiveImport<'o> {
     options: ImportOptions<'o>,
     clock: Clock,
     /// Whether bytes that begin no plausible packet are skipped.
@@ -39,7 +39,7 @@ struct Import<'o> {
     said: Said,
 }
 
-impl Import<'_> {
+impl ArchiveImport<'_> {
     /// Adds the report of an archive, of which the import met this with so many bytes left.
     fn report(
         &mut self,
@@ -136,7 +136,7 @@ fn check_names<'a, R: Files + AllocGlobal>(
 fn import_to_output<'a, R: Files + Eprint + AllocGlobal, I: Read + Drop, W: Write>(
     rt: &R,
     archives: &[&'a str],
-    how: &mut Import<'_>,
+    how: &mut ArchiveImport<'_>,
     start: Option<u16>,
     input: &mut I,
     out: &mut W,
@@ -173,7 +173,7 @@ fn import_to_file<'a, R: Files + Eprint + AllocGlobal, I: Read + Drop, W: Write>
     rt: &R,
     archives: &[&'a str],
     stream: &'a str,
-    how: &mut Import<'_>,
+    how: &mut ArchiveImport<'_>,
     start: Option<u16>,
     input: &mut I,
     out: &mut W,
@@ -212,7 +212,7 @@ pub fn import<'a, R: Files + Eprint + AllocGlobal, I: Read + Drop, W: Write>(
         return Err(Fault::NoText);
     };
     let only = ids_of(rt.alloc(), wanted.only)?;
-    let mut how = Import {
+    let mut how = ArchiveImport {
         options: ImportOptions {
             marked: wanted.marked,
             resync: Resync::Never,
