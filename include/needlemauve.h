@@ -2,9 +2,12 @@
  * record.
  *
  * Archives. `libneedlemauve_board.a` has needlemauve_validate alone: it asks for no memory, calls nothing outside itself, and
- * goes on board as it is. `libneedlemauve.a` has the other calls. They take memory by the three functions of
- * crates/needlemauve/memory.c, which is malloc, realloc and free as it stands: compile it with your program, or put a pool of
- * your own into it. They also call memcpy, memmove and memset.
+ * goes on board as it is. `libneedlemauve.a` has the other calls. They take memory by the three functions of memory.c
+ * (crates/needlemauve in the sources, share/needlemauve of an installation), which is malloc, realloc and free as it stands: compile
+ * it with your program, or put a pool of your own into it. They also call memcpy, memmove and memset.
+ *
+ * Processors. The archives for x86-64 run on every processor of that kind: they use SSE2 and nothing that came after it. Those for
+ * aarch64 run on every ARMv8-A. There is none for a processor of 32 bits.
  *
  * Who owns what. All memory that a call is given stays the caller's. A call reads and writes it while it runs and keeps no
  * pointer to it afterwards; it gives back what it took by memory.c before it returns. There is one exception: a host that was
@@ -32,6 +35,14 @@
 extern "C" {
 #endif
 
+/* The version, one for header, archives, programs and formats: its parts, one number that grows with it, and its text. */
+#define NEEDLEMAUVE_VERSION_MAJOR 0
+#define NEEDLEMAUVE_VERSION_MINOR 10
+#define NEEDLEMAUVE_VERSION_PATCH 0
+#define NEEDLEMAUVE_VERSION_NUMBER \
+  (NEEDLEMAUVE_VERSION_MAJOR * 1000000L + NEEDLEMAUVE_VERSION_MINOR * 1000L + NEEDLEMAUVE_VERSION_PATCH)
+#define NEEDLEMAUVE_VERSION "0.10.0"
+
 /* The lengths in bytes of the file of a table of watchpoints, and of one of actionpoints. */
 #define NEEDLEMAUVE_WDT 4380u
 #define NEEDLEMAUVE_ADT 19516u
@@ -49,7 +60,7 @@ extern "C" {
 #define NEEDLEMAUVE_MORE 250u      /* no whole record is held: feed more */
 #define NEEDLEMAUVE_NO_TABLE 251u  /* no table has that number */
 #define NEEDLEMAUVE_LENGTHS 252u   /* the lengths of texts do not add up to their bytes */
-#define NEEDLEMAUVE_TOO_LONG 253u  /* a length is above PTRDIFF_MAX */
+#define NEEDLEMAUVE_TOO_LONG 253u  /* a length is above PTRDIFF_MAX, or too large for a record */
 #define NEEDLEMAUVE_NULL 254u      /* NULL in the place of something */
 #define NEEDLEMAUVE_NO_MEMORY 255u /* no memory */
 
@@ -153,7 +164,63 @@ uint32_t needlemauve_host_feed(struct needlemauve_host *host, const uint8_t *byt
 /* Closes a host: all applications retire, and all its memory is given back. The handle holds nothing afterwards. */
 void needlemauve_host_close(struct needlemauve_host *host);
 
-/* ---- what the archives can't see: NULL, and lengths that no object has */
+/* ---- records of a stream, whose layout is in docs/FORMATS.md */
+
+/* The bytes of a record's header, of the name in a file's and a half's record, and of a half's body; the most bytes that a
+ * packet may have, and a file without its name. */
+#define NEEDLEMAUVE_RECORD 11u
+#define NEEDLEMAUVE_NAME 40u
+#define NEEDLEMAUVE_HALF 43u
+#define NEEDLEMAUVE_MOST_PACKET 65536u
+#define NEEDLEMAUVE_MOST_FILE (65536u - NEEDLEMAUVE_NAME)
+
+static inline uint32_t needlemauve_record(uint8_t *header, uint8_t kind, uint32_t seconds, uint16_t subseconds, uint32_t length)
+{
+  unsigned n;
+  if (header == NULL) return NEEDLEMAUVE_NULL;
+  header[0] = kind;
+  for (n = 0; n < 4; n++) {
+    header[1 + n] = (uint8_t)(seconds >> (24 - 8 * n));
+    header[7 + n] = (uint8_t)(length >> (24 - 8 * n));
+  }
+  header[5] = (uint8_t)(subseconds >> 8);
+  header[6] = (uint8_t)subseconds;
+  return NEEDLEMAUVE_DONE;
+}
+
+/* Each of these writes the header of a record at a moment, in seconds and 1/65,536 of a second, and returns 0. Where `header` is
+ * NULL (254), or the length too large for a record (253), nothing is written. */
+
+/* A packet of `length` bytes, which follow the header. */
+static inline uint32_t needlemauve_packet_record(uint8_t header[NEEDLEMAUVE_RECORD], uint32_t seconds, uint16_t subseconds,
+                                                 size_t length)
+{
+  if (length > NEEDLEMAUVE_MOST_PACKET) return NEEDLEMAUVE_TOO_LONG;
+  return needlemauve_record(header, 1, seconds, subseconds, (uint32_t)length);
+}
+
+/* A tick, which is the header alone. */
+static inline uint32_t needlemauve_tick_record(uint8_t header[NEEDLEMAUVE_RECORD], uint32_t seconds, uint16_t subseconds)
+{
+  return needlemauve_record(header, 2, seconds, subseconds, 0);
+}
+
+/* A file of `length` bytes: its name follows the header, NEEDLEMAUVE_NAME bytes with zeros after it, and then its bytes. */
+static inline uint32_t needlemauve_file_record(uint8_t header[NEEDLEMAUVE_RECORD], uint32_t seconds, uint16_t subseconds,
+                                               size_t length)
+{
+  if (length > NEEDLEMAUVE_MOST_FILE) return NEEDLEMAUVE_TOO_LONG;
+  return needlemauve_record(header, 3, seconds, subseconds, (uint32_t)length + NEEDLEMAUVE_NAME);
+}
+
+/* Half of a rule text, to be stored as a file: NEEDLEMAUVE_HALF bytes follow, the name, NEEDLEMAUVE_WATCHPOINTS or
+ * NEEDLEMAUVE_ACTIONPOINTS in one byte, and the text's number in two. */
+static inline uint32_t needlemauve_half_record(uint8_t header[NEEDLEMAUVE_RECORD], uint32_t seconds, uint16_t subseconds)
+{
+  return needlemauve_record(header, 4, seconds, subseconds, NEEDLEMAUVE_HALF);
+}
+
+/* ---- what the archives can't see: NULL, lengths that no object has, and a handle that is in use */
 
 static inline uint32_t needlemauve_misused(const void *at, size_t length)
 {
@@ -162,12 +229,20 @@ static inline uint32_t needlemauve_misused(const void *at, size_t length)
   return NEEDLEMAUVE_DONE;
 }
 
-static inline void needlemauve_tell(uint32_t code, uint32_t of, struct needlemauve_refusal *told)
+static inline void needlemauve_tell(uint32_t code, uint32_t of, struct needlemauve_refusal *told,
+                                    struct needlemauve_sentence *sentence)
 {
+  const char *words = code == NEEDLEMAUVE_NULL       ? "NULL in the place of something"
+                      : code == NEEDLEMAUVE_HAS_HOST ? "the handle holds a host already"
+                                                     : "a length is above PTRDIFF_MAX";
+  uint32_t n;
   told->code = code;
   told->of = of;
   told->at = 0;
   told->text = 0;
+  for (n = 0; n < sizeof sentence->bytes; n++) sentence->bytes[n] = 0;
+  for (n = 0; words[n] != 0; n++) sentence->bytes[n] = words[n];
+  sentence->length = n;
 }
 
 static inline uint32_t needlemauve_validate_tested(uint32_t kind, const uint8_t *file, size_t length,
@@ -188,11 +263,9 @@ static inline uint32_t needlemauve_compile_tested(const uint8_t *text, size_t le
   if (told == NULL) return NEEDLEMAUVE_NULL;
   if (code == NEEDLEMAUVE_DONE && (wdt == NULL || adt == NULL)) code = NEEDLEMAUVE_NULL;
   if (code == NEEDLEMAUVE_DONE) return needlemauve_compile(text, length, wdt, adt, told);
-  needlemauve_tell(code, NEEDLEMAUVE_NOTHING, &told->refusal);
+  needlemauve_tell(code, NEEDLEMAUVE_NOTHING, &told->refusal, &told->sentence);
   told->watchpoints = 0;
   told->rules = 0;
-  told->sentence.length = 0;
-  told->sentence.bytes[0] = 0;
   return code;
 }
 
@@ -210,10 +283,8 @@ static inline uint32_t needlemauve_run_tested(const uint8_t *texts, size_t size,
   if (code == NEEDLEMAUVE_DONE) code = needlemauve_misused(output, room);
   if (code == NEEDLEMAUVE_DONE)
     return needlemauve_run(texts, size, lengths, count, schedule, schedule_length, stream, stream_length, output, room, told);
-  needlemauve_tell(code, NEEDLEMAUVE_NOT_RUN, &told->ending);
+  needlemauve_tell(code, NEEDLEMAUVE_NOT_RUN, &told->ending, &told->sentence);
   told->written = 0;
-  told->sentence.length = 0;
-  told->sentence.bytes[0] = 0;
   return code;
 }
 
@@ -231,9 +302,7 @@ static inline uint32_t needlemauve_host_new_tested(const uint8_t *texts, size_t 
   if (code == NEEDLEMAUVE_DONE && host->at != NULL) code = NEEDLEMAUVE_HAS_HOST;
   if (code == NEEDLEMAUVE_DONE)
     return needlemauve_host_new(texts, size, lengths, count, schedule, schedule_length, room, host, told);
-  needlemauve_tell(code, NEEDLEMAUVE_NOT_RUN, &told->refusal);
-  told->sentence.length = 0;
-  told->sentence.bytes[0] = 0;
+  needlemauve_tell(code, NEEDLEMAUVE_NOT_RUN, &told->refusal, &told->sentence);
   return code;
 }
 

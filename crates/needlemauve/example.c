@@ -27,22 +27,28 @@ static uint8_t wdt[NEEDLEMAUVE_WDT], adt[NEEDLEMAUVE_ADT];
 static uint8_t stream[1024], output[2048];
 static size_t stream_length;
 
-/* One record more: its kind, the second 100, and its body. */
-static void record(uint8_t kind, const uint8_t *body, uint8_t length)
+/* The body of a record, whose header was written. */
+static void follow(const uint8_t *body, size_t length)
 {
-  const uint8_t header[11] = {kind, 0, 0, 0, 100, 0, 0, 0, 0, 0, length};
-  memcpy(stream + stream_length, header, sizeof header);
-  memcpy(stream + stream_length + sizeof header, body, length);
-  stream_length += sizeof header + length;
+  memcpy(stream + stream_length + NEEDLEMAUVE_RECORD, body, length);
+  stream_length += NEEDLEMAUVE_RECORD + length;
+}
+
+/* A packet comes in second 100. */
+static void packet(const uint8_t *bytes, size_t length)
+{
+  needlemauve_packet_record(stream + stream_length, 100, 0, length);
+  follow(bytes, length);
 }
 
 /* The compiled file of text 0 is stored under a name, for one of the two tables. */
 static void half(const char *name, uint8_t table)
 {
-  uint8_t body[43] = {0};
+  uint8_t body[NEEDLEMAUVE_HALF] = {0};
   memcpy(body, name, strlen(name));
-  body[40] = table;
-  record(4, body, sizeof body);
+  body[NEEDLEMAUVE_NAME] = table;
+  needlemauve_half_record(stream + stream_length, 100, 0);
+  follow(body, sizeof body);
 }
 
 static int compiles(void)
@@ -89,12 +95,12 @@ static int runs(void)
   size_t at, n;
   int i;
 
-  half("/cf/lc_def_wdt.tbl", 1);
-  half("/cf/lc_def_adt.tbl", 2);
-  record(1, start, sizeof start);
+  half("/cf/lc_def_wdt.tbl", NEEDLEMAUVE_WATCHPOINTS);
+  half("/cf/lc_def_adt.tbl", NEEDLEMAUVE_ACTIONPOINTS);
+  packet(start, sizeof start);
   for (i = 0; i < 2; i++) {
-    record(1, low, sizeof low);
-    record(1, sample, sizeof sample);
+    packet(low, sizeof low);
+    packet(sample, sizeof sample);
   }
   needlemauve_run((const uint8_t *)rules, sizeof rules - 1, lengths, 1, (const uint8_t *)schedule, sizeof schedule - 1, stream,
                   stream_length, output, sizeof output, &told);

@@ -160,6 +160,7 @@ static void spoil_host(void)
   CHECK(62, code == 0 || is_refusal_of_text(code) || (code >= 131 && code <= 133));
   CHECK(63, code != 0 || needlemauve_host_new(texts, size, &size, 1, plan, plan_length, room, &host, &made) ==
                              NEEDLEMAUVE_HAS_HOST);
+  CHECK(60, code != 0 || (strcmp(made.sentence.bytes, "the handle holds a host already") == 0 && is_sentence(&made.sentence)));
   answered[code] += 1;
   for (n = 0; code == 0 && n < 200; n++) {
     size_t piece = number_below((uint32_t)(records_length - at) + 1);
@@ -228,12 +229,14 @@ static void misuse(void)
   CHECK(47, needlemauve_compile(text, one, first, NULL, &compiled) == NEEDLEMAUVE_NULL);
   CHECK(48, needlemauve_compile(text, SIZE_MAX / 2 + 1, first, second, &compiled) == NEEDLEMAUVE_TOO_LONG);
   CHECK(49, is_filled(first, NEEDLEMAUVE_WDT) && is_filled(second, NEEDLEMAUVE_ADT));
+  CHECK(50, strcmp(compiled.sentence.bytes, "a length is above PTRDIFF_MAX") == 0 && is_sentence(&compiled.sentence));
   CHECK(51, needlemauve_run(NULL, one, &one, 1, plan, 8, stream, stream_length, room, 8, &told) == NEEDLEMAUVE_NULL);
   CHECK(52, needlemauve_run(text, one, NULL, 1, plan, 8, stream, stream_length, room, 8, &told) == NEEDLEMAUVE_NULL);
   CHECK(53, needlemauve_run(text, one, &one, 1, NULL, 8, stream, stream_length, room, 8, &told) == NEEDLEMAUVE_NULL);
   CHECK(54, needlemauve_run(text, one, &one, 1, plan, 8, NULL, stream_length, room, 8, &told) == NEEDLEMAUVE_NULL);
   CHECK(55, needlemauve_run(text, one, &one, 1, plan, 8, stream, stream_length, NULL, 8, &told) == NEEDLEMAUVE_NULL);
   CHECK(56, told.ending.of == NEEDLEMAUVE_NOT_RUN && told.written == 0);
+  CHECK(59, strcmp(told.sentence.bytes, "NULL in the place of something") == 0 && is_sentence(&told.sentence));
   CHECK(57, needlemauve_run(text, one, &one, SIZE_MAX / 8, plan, 8, stream, 9, room, 8, &told) == NEEDLEMAUVE_TOO_LONG);
   CHECK(58, needlemauve_run(text, one, &one, 1, plan, 8, NULL, 0, NULL, 0, &told) == 0 && is_filled(room, sizeof room));
   {

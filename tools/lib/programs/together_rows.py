@@ -3,6 +3,7 @@ calls behind each other, and the script for many streams."""
 
 import os
 import select
+import signal
 import socket
 import subprocess
 import tempfile
@@ -162,6 +163,29 @@ def to_one_that_dies(programs):
         return ended(ran, 0, b"")
 
 
+def by_signals(programs):
+    """A signal ends `flight_tools live` between two records: what all records before led to is written, and nothing is said. SIGPIPE
+    does nothing."""
+    faults = []
+    for number, status in ((signal.SIGINT, None), (signal.SIGTERM, None), (signal.SIGHUP, None), (signal.SIGPIPE, 4)):
+        with tempfile.TemporaryDirectory(prefix="try-programs-") as place:
+            written(place, {"schedule": NO_ENTRIES, "rules": LOW_VOLTS})
+            pipe = subprocess.PIPE
+            words = [programs["flight_tools"], "live", "schedule", "rules"]
+            ran = subprocess.Popen(words, cwd=place, stdin=pipe, stdout=pipe, stderr=pipe, bufsize=0)
+            faults += step_by_step(ran.stdin.fileno(), ran.stdout.fileno())
+            os.write(ran.stdin.fileno(), LOW[:5])
+            ran.send_signal(number)
+            if status is not None:
+                ran.stdin.close()
+                ran.stdin = None
+            packets, said = ran.communicate(timeout=SECONDS)
+            expected = (-number, b"", b"") if status is None else (status, b"", b"the stream ends inside record 8\n")
+            if (ran.returncode, packets, said) != expected:
+                faults.append(f"{number.name} ended it with {(ran.returncode, packets, said)} and should with {expected}")
+    return faults
+
+
 def of_a_sparse_file(programs):
     """No command takes the memory of a file that is a hole, of 3 GB, or of 300 MB where it is read to its end, with 256 MiB to have."""
     with tempfile.TemporaryDirectory(prefix="try-programs-") as place:
@@ -276,6 +300,7 @@ TRIALS = [
     Trial("a stream from one writer after the other", from_writers_in_turn),
     Trial("a stream from a process that dies is cut", from_one_that_dies),
     Trial("packets to a process that dies end the run quietly", to_one_that_dies),
+    Trial("a signal ends a run as it comes between two records", by_signals),
     Trial("a folder as the stream of a run as it comes", from_no_input),
     Trial("no memory is taken for a hole of 3 GB", of_a_sparse_file),
     Trial("a stream is listed in pieces, and its script says it again", in_pieces),
