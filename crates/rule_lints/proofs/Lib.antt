@@ -5,3 +5,4 @@ mod Nothing
 mod Naming
 mod Meeting
 mod Grouping
+mod Twins

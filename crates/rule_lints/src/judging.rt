@@ -1,6 +1,6 @@
 //! The warnings about judgements.
 
-ghost use Rattle.std.specs.Prelude.{◌≡◌, ◌++◌, ◌==◌, ◌&&◌, Some, OnOk, IfOk, flat_map, length, option_map, slice_get};
+ghost use Rattle.std.specs.Prelude.{◌≡◌, ◌++◌, ◌==◌, ◌&&◌, Some, OnOk, IfOk, filter, flat_map, length, option_map, slice_get};
 ghost use Rattle.std.specs.List.{list_any};
 ghost use Rattle.lc_model.specs.Tables.Equation.{same_term};
 ghost use Rattle.analysis_listing.specs.Said.{line_of};
@@ -295,14 +295,51 @@ fn has_twin(items: &[Item<'_>], pairs: &[PairJudgement], number: usize) -> bool
     false
 }
 
-/// Whether one rule of a pair follows the other, both request one sequence, and neither has a twin before it.
-fn is_within(items: &[Item<'_>], pairs: &[PairJudgement], pair: PairJudgement) -> bool
+/// The pairs of rules that fail alike.
+fn alike_among(
+    alloc: Global,
+    pairs: &[PairJudgement],
+) -> Result<Vec<PairJudgement>, AllocError>
+    ensures { IfOk result (λ alike. alike.items ≡ filter (λ p. is_same p.relation) pairs.now) }
+{
+    let mut alike = Vec::new(alloc);
+    for pair in pairs {
+        if is_same(pair.relation) {
+            alike.push(*pair)?;
+        }
+    }
+    Ok(alike)
+}
+
+/// Whether an earlier rule always fails together with the rule with this number, and requests its sequence. Of all pairs, `alike` are
+/// those of rules that fail alike.
+fn has_twin_among(
+    items: &[Item<'_>],
+    pairs: &[PairJudgement],
+    alike: &[PairJudgement],
+    number: usize,
+) -> bool
+    requires { alike.now ≡ filter (λ p. is_same p.relation) pairs.now }
+    ensures { result ≡ has_twin (items_of items.now) pairs.now number }
+{
+    has_twin(items, alike, number)
+}
+
+/// Whether one rule of a pair follows the other, both request one sequence, and neither has a twin before it. Of all pairs, `alike` are
+/// those of rules that fail alike.
+fn is_within(
+    items: &[Item<'_>],
+    pairs: &[PairJudgement],
+    alike: &[PairJudgement],
+    pair: PairJudgement,
+) -> bool
+    requires { alike.now ≡ filter (λ p. is_same p.relation) pairs.now }
     ensures { result ≡ is_within (items_of items.now) pairs.now pair }
 {
     !is_same(pair.relation)
         && request_alike(items, pair.first, pair.second)
-        && !has_twin(items, pairs, pair.first)
-        && !has_twin(items, pairs, pair.second)
+        && !has_twin_among(items, pairs, alike, pair.first)
+        && !has_twin_among(items, pairs, alike, pair.second)
 }
 
 /// Whether a pair is worth a warning: the first two rules of a group that fail alike; rules of which one follows the other, if both
@@ -310,27 +347,31 @@ fn is_within(items: &[Item<'_>], pairs: &[PairJudgement], pair: PairJudgement) -
 fn is_doubtful(
     items: &[Item<'_>],
     pairs: &[PairJudgement],
+    alike: &[PairJudgement],
     groups: &[PairJudgement],
     pair: PairJudgement,
 ) -> bool
+    requires { alike.now ≡ filter (λ p. is_same p.relation) pairs.now }
     ensures { result ≡ is_doubtful (items_of items.now) pairs.now groups.now pair }
 {
-    is_same(pair.relation) && leads(groups, pair) || is_within(items, pairs, pair)
+    is_same(pair.relation) && leads(groups, pair) || is_within(items, pairs, alike, pair)
 }
 
 /// Adds the warning of a pair of rules.
 fn add_pair(
     items: &[Item<'_>],
     all: &Judged,
+    alike: &[PairJudgement],
     pair: PairJudgement,
     found: &mut Vec<Warning>,
 ) -> Result<(), AllocError>
+    requires { alike.now ≡ filter (λ p. is_same p.relation) all.now.pairs.items }
     ensures { OnOk result (found.new.items ≡ found.old.items ++
         of_pair (items_of items.now) all.now.rules.items all.now.pairs.items
         all.now.groups.items pair) }
 {
     let is_open = is_open(&all.rules, pair.first) && is_open(&all.rules, pair.second);
-    if !(is_open && is_doubtful(items, &all.pairs, &all.groups, pair)) {
+    if !(is_open && is_doubtful(items, &all.pairs, alike, &all.groups, pair)) {
         return Ok(());
     }
     let place = name_at(items, told_of(pair));
@@ -346,15 +387,17 @@ fn add_pair(
 fn add_pairs(
     items: &[Item<'_>],
     all: &Judged,
+    alike: &[PairJudgement],
     pairs: &[PairJudgement],
     found: &mut Vec<Warning>,
 ) -> Result<(), AllocError>
+    requires { alike.now ≡ filter (λ p. is_same p.relation) all.now.pairs.items }
     ensures { OnOk result (found.new.items ≡ found.old.items ++
         flat_map (of_pair (items_of items.now) all.now.rules.items all.now.pairs.items
         all.now.groups.items) pairs.now) }
 {
     for pair in pairs {
-        add_pair(items, all, *pair, found)?;
+        add_pair(items, all, alike, *pair, found)?;
     }
     Ok(())
 }
@@ -472,7 +515,8 @@ pub(crate) fn add_judged(
         all.now.unsampled.items) }
 {
     add_rules(alloc, items, &all.rules, found)?;
-    add_pairs(items, all, &all.pairs, found)?;
+    let alike = alike_among(alloc, &all.pairs)?;
+    add_pairs(items, all, &alike, &all.pairs, found)?;
     add_spares(items, &all.rules, &all.spare, found)?;
     add_unsampled(items, &all.unsampled, found)
 }
