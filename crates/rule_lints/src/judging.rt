@@ -296,10 +296,7 @@ fn has_twin(items: &[Item<'_>], pairs: &[PairJudgement], number: usize) -> bool
 }
 
 /// The pairs of rules that fail alike.
-fn alike_among(
-    alloc: Global,
-    pairs: &[PairJudgement],
-) -> Result<Vec<PairJudgement>, AllocError>
+fn alike_among(alloc: Global, pairs: &[PairJudgement]) -> Result<Vec<PairJudgement>, AllocError>
     ensures { IfOk result (λ alike. alike.items ≡ filter (λ p. is_same p.relation) pairs.now) }
 {
     let mut alike = Vec::new(alloc);
