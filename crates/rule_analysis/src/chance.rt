@@ -5,7 +5,7 @@ use lc_model::Term;
 use std::alloc::{AllocError, Global};
 
 /// The next random number after another (a linear congruence: each run picks the same).
-pub(crate) fn next_random(random: u32) -> u32 {
+fn next_random(random: u32) -> u32 {
     random.wrapping_mul(1_664_525).wrapping_add(1_013_904_223)
 }
 

@@ -126,7 +126,8 @@ fn follows(
     }
 }
 
-/// How the conditions are related; `None` if they aren't, or if it isn't known. `known` is what is known before any search. Counts in `unsettled` what isn't known.
+/// How the conditions are related; `None` if they aren't, or if it isn't known. `known` is what is known before any search. Counts in
+/// `unsettled` what isn't known.
 fn relation(
     alloc: Global,
     first: &Cond,

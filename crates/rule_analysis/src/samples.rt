@@ -7,7 +7,7 @@ ghost use Rattle.rule_analysis.specs.Fields.{field_number};
 ghost use Rattle.rule_analysis.specs.Judgement.{HoldsForSome};
 ghost use Rattle.rule_analysis.specs.Search.{found_so_far};
 
-use crate::chance::{next_random, numbers_of, pick_bits, pick_own_bits};
+use crate::chance::{numbers_of, pick_bits, pick_own_bits};
 use crate::conditions::negation;
 use crate::deciding::{Decision, decide};
 use crate::fields::{Field, collect, fields_of};
@@ -19,8 +19,8 @@ use std::alloc::{AllocError, Global};
 /// The most steps that the search for a sample takes.
 const SAMPLE_STEPS: u32 = 1 << 7;
 
-/// Bits of all fields of some rules, many times, and each rule's result with each of them. They are only hints: what they show is tested where it
-/// counts.
+/// Samples of the fields of some rules: bits for all fields, and each rule's result with them. They are hints: what a sample shows is
+/// evaluated again before it is used.
 #[derive(Drop)]
 pub(crate) struct Samples {
     fields: Vec<Field>,
@@ -71,9 +71,9 @@ fn come_near(bits: &mut [u32], others: &[u32], tree: &Open, numbers: &[usize], w
     }
 }
 
-/// A rule whose results are sampled.
+/// A rule for which samples are sought: its condition, its comparisons, and the numbers of their fields.
 #[derive(Clone, Copy)]
-struct Subject<'s> {
+struct RuleTree<'s> {
     tree: &'s Open,
     terms: &'s [Term],
     numbers: &'s [usize],
@@ -89,11 +89,12 @@ impl Samples {
         })
     }
 
-    /// Adds samples with which a rule has this result, next to the backgrounds; `cond` is true where it has. Where none is found, its fields have bits by chance.
+    /// Adds a sample for each background, in which a rule has the wanted result; `cond` is true if it has. If no such bits are found
+    /// soon, the rule's fields have bits by chance.
     fn add_with(
         &mut self,
         alloc: Global,
-        subject: &Subject<'_>,
+        rule: &RuleTree<'_>,
         cond: &Cond,
         wanted: bool,
         backgrounds: &[Vec<u32>],
@@ -103,12 +104,12 @@ impl Samples {
         let found = decide(alloc, cond, &mut steps)?;
         for background in backgrounds {
             let mut others = copy_bits(alloc, background)?;
-            pick_own_bits(&mut others, subject.terms, subject.numbers, random);
+            pick_own_bits(&mut others, rule.terms, rule.numbers, random);
             let mut bits = copy_bits(alloc, &others)?;
             if let Decision::Holds { fields, bits: own } = &found {
                 put_bits(&mut bits, &self.fields, fields, own);
             }
-            come_near(&mut bits, &others, subject.tree, subject.numbers, wanted);
+            come_near(&mut bits, &others, rule.tree, rule.numbers, wanted);
             self.bits.push(bits)?;
         }
         Ok(())
@@ -126,14 +127,14 @@ impl Samples {
         collect(cond, &mut terms)?;
         let numbers = numbers_of(alloc, &terms, &self.fields)?;
         let tree = open_of(alloc, cond, &self.fields)?;
-        let subject = Subject {
+        let rule = RuleTree {
             tree: &tree,
             terms: &terms,
             numbers: &numbers,
         };
         let other = negation(alloc, cond)?;
-        self.add_with(alloc, &subject, cond, true, backgrounds, random)?;
-        self.add_with(alloc, &subject, &other, false, backgrounds, random)
+        self.add_with(alloc, &rule, cond, true, backgrounds, random)?;
+        self.add_with(alloc, &rule, &other, false, backgrounds, random)
     }
 
     /// Adds the results of a rule with all samples.
@@ -216,7 +217,7 @@ pub(crate) fn are_apart_with(first: &Cond, second: &Cond, fields: &[Field], bits
     has_result(first, fields, bits, Truth::True) && has_result(second, fields, bits, Truth::False)
 }
 
-/// So many times bits by chance for all fields.
+/// Bits by chance for all fields, `count` times.
 fn backgrounds_of(
     alloc: Global,
     terms: &[Term],
@@ -232,8 +233,8 @@ fn backgrounds_of(
     Ok(backgrounds)
 }
 
-/// Samples of the fields of rules: for each rule `count` with which it fails, and as many with which it passes, where such are found soon. The only error is a
-/// lack of memory.
+/// Samples of the fields of rules: for each rule `count` with which it fails and as many with which it passes, if such are found soon.
+/// The only error is a lack of memory.
 pub(crate) fn samples_of(
     alloc: Global,
     rules: &[Rule],
