@@ -149,9 +149,9 @@ def expect_plain_texts(look):
 def expect_bounds_told(look):
     """What isn't in the page is told, with how much it is."""
     look.show()
-    look.expect(look.ask("run.events_left_out !== null && byId('rows_shown').textContent.includes(run.events_left_out[0] + ' events')"), "events are left out in silence")
-    look.expect(look.ask("run.commands_left_out !== null && byId('rows_shown').textContent.includes(run.commands_left_out[0] + ' commands')"), "commands are left out in silence")
-    look.expect(look.ask("run.tables.at(-1)[3] === 'untold'") and look.ask("document.body.textContent.includes('not told any more')"), "tables are untold in silence")
+    look.expect(look.ask("run.events_left_out !== null && byId('rows_shown').textContent.includes(run.events_left_out[0].toLocaleString('en') + ' events')"), "events are left out in silence")
+    look.expect(look.ask("run.commands_left_out !== null && byId('rows_shown').textContent.includes(run.commands_left_out[0].toLocaleString('en') + ' commands')"), "commands are left out in silence")
+    look.expect(look.ask("run.tables.at(-1)[3] === 'untold'") and look.ask("[...document.querySelectorAll('#lanes .cell.band')].some(each => each.getAttribute('aria-label').includes('not recorded any more'))"), "tables are untold in silence")
 
 
 CASES = {
