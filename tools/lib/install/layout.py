@@ -46,8 +46,10 @@ def built(folder):
 
 
 def documents():
-    """README and CHANGELOG, the documents that they link to, and the examples."""
-    paths = ["README.md", "CHANGELOG.md", *(path for it in ("docs/*.md", "docs/*.png", "examples/*/*") for path in glob.glob(it, root_dir=ROOT))]
+    """README and CHANGELOG, the documents that they link to, the examples, and what editors need."""
+    paths = ["README.md", "CHANGELOG.md"]
+    for pattern in ("docs/*.md", "docs/*.png", "examples/*/*", "editors/**"):
+        paths += (it for it in glob.glob(pattern, root_dir=ROOT, recursive=True) if os.path.isfile(f"{ROOT}/{it}"))
     return {f"share/doc/needlemauve/{it}": content(f"{ROOT}/{it}") for it in paths}
 
 
