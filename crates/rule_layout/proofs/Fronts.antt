@@ -6,7 +6,8 @@ use Rattle.lc_model.specs.Text.Token as model
 use Rattle.lc_model.specs.Text.Token.{Cuts, here, blank, comment, token, IsComment, IsLongest, is_blank, is_token, line_feed, number_sign}
 use Rattle.lc_model.proofs.Facts.{or_first, or_second, tested_equal}
 use Rattle.lc_model.proofs.Texts.OneSplit.{blank_cases}
-use Rattle.rule_layout.specs.Pieces.{begins, is_line_byte}
+use Rattle.rule_layout.specs.Pieces.{begins_blank, is_line_byte}
+use Rattle.rule_layout.specs.Shapes.{is_comment}
 
 -- ---- first bytes
 
@@ -74,15 +75,15 @@ with_comment at end bytes rest ts n size some i cuts = record {
 }
 
 pub behind_comment : {at end : ℕ} {text : List ℕ} {ts : List model.Token} → Cuts at text ts end [] →
-    begins (◌==◌ number_sign) text ≡ true → HasComment at end text ts (prefix_len is_line_byte text)
+    is_comment text ≡ true → HasComment at end text ts (prefix_len is_line_byte text)
 behind_comment here e = absurd (cc e)
-behind_comment (blank {c = c} b cuts) e = absurd (blank_no_sign c b (sym (tested_equal number_sign c e)))
+behind_comment (blank {c = c} b cuts) e = absurd (blank_no_sign c b (tested_equal c number_sign e))
 behind_comment (comment [] i cuts) e = absurd i
 behind_comment {at = at} {end = end} {ts = ts} (comment {text = rest} (d ∷ ds) i cuts) e =
     with_comment at end (d ∷ ds) rest ts (prefix_len is_line_byte ((d ∷ ds) ++ rest)) (comment_length d ds rest i) (omega arith) i cuts
 behind_comment (token [] good longest cuts) e = absurd (cc good)
 behind_comment (token (d ∷ ds) good longest cuts) e =
-    let sign : d ≡ number_sign = sym (tested_equal number_sign d e) in
+    let sign : d ≡ number_sign = tested_equal d number_sign e in
     absurd (cc (good, sign_no_token d ds sign))
 
 -- the token in front, and how the text splits behind it
@@ -112,7 +113,7 @@ with_token at end word rest others some good longest cuts = record {
 }
 
 pub at_token : {at end : ℕ} {text : List ℕ} {ts : List model.Token} → Cuts at text ts end [] → text ≢ [] →
-    begins is_blank text ≡ false → begins (◌==◌ number_sign) text ≡ false → HasToken at end text ts
+    begins_blank text ≡ false → is_comment text ≡ false → HasToken at end text ts
 at_token here some b s = absurd (some refl)
 at_token (blank is cuts) some b s = absurd (cc (is, b))
 at_token (comment [] i cuts) some b s = absurd i

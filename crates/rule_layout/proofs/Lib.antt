@@ -1,5 +1,5 @@
--- What this crate proves of parts and their gaps.
+-- What this crate proves of pieces and their layout.
 pub mod Fronts
-pub mod Longest
-pub mod Parting
 pub mod Reading
+pub mod Longest
+pub mod Texts

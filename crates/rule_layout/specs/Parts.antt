@@ -1,5 +1,5 @@
 -- The tokens and comments of a rule text, in their order. This project's own.
-use Rattle.std.specs.Prelude.{ℕ, IsTrue, List, [], ◌∷◌, ◌++◌}
+use Rattle.std.specs.Prelude.{IsTrue, ℕ, List, [], ◌∷◌, ◌++◌}
 use Rattle.lc_model.specs.Text.Token.{IsComment, IsLongest, is_blank, is_token}
 
 -- a token or a comment, by its bytes

@@ -6,8 +6,7 @@ ghost use Rattle.lc_model.specs.Text.Syntax.{Item};
 ghost use Rattle.lc_model.specs.Text.Token as model;
 ghost use Rattle.lc_model.specs.Text.Token.{Splits, longest_text};
 ghost use Rattle.rule_lexer.specs.Token.{HasItsKind, tokens_of};
-ghost use Rattle.rule_layout.specs.Formatting.{IsUnformatted};
-ghost use Rattle.rule_layout.specs.Parts.{HaveSameParts};
+ghost use Rattle.rule_layout.specs.Formatting.{IsFormatted, IsUnformatted};
 
 use crate::error::FormatError;
 use crate::reader::pieces_of;
@@ -33,7 +32,7 @@ fn look_at_items(alloc: Global, text: &[u8], tokens: &[Token]) -> Result<(), For
 /// Returns a rule text in the one layout: at most 100 columns where an item can be broken, four blanks before lines that go
 /// on, `=` in one column over neighbouring declarations of one kind, empty lines singly, comments where they stand.
 pub fn format(alloc: Global, text: &[u8]) -> Result<Vec<u8>, FormatError>
-    ensures parts { IfOk result (λ out. HaveSameParts text.now out.items) }
+    ensures formatted { IfOk result (λ out. IsFormatted text.now out.items) }
     ensures short { IfOk result (λ out. length out.items ≤ longest_text) }
     ensures refused { IfErr result (IsUnformatted text.now) }
 {

@@ -11,6 +11,7 @@ mod columns;
 mod layout;
 mod writing;
 mod formatting;
+pub mod laws;
 
 pub use error::FormatError;
 pub use formatting::format;

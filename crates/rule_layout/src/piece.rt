@@ -1,30 +1,30 @@
 //! Pieces of a rule text: its tokens and comments.
 
-ghost use Rattle.std.specs.Prelude.{◌≡◌, is_some, not};
-
-use rule_lexer::TokenKind;
+ghost use Rattle.std.specs.Prelude.{◌≡◌, bytes_eq};
+ghost use Rattle.rule_layout.specs.Shapes.{is_comment};
 
 /// A token or a comment of a rule text.
 #[derive(Clone, Copy)]
 pub(crate) struct Piece<'a> {
     /// Its bytes; those of a comment from `#` up to the end of its line.
     pub text: &'a [u8],
-    /// Which token it is; `None`: a comment.
-    pub kind: Option<TokenKind>,
     /// The line feeds between the piece before it and this one; at most 2 are counted.
     pub lines: u8,
 }
 
-impl<'a> Piece<'a> {
-    /// Whether the piece is a comment.
-    pub fn is_comment(&self) -> bool
-        ensures { result ≡ not (is_some self.now.kind) }
-    {
-        self.kind.is_none()
-    }
+/// Whether the bytes are these.
+pub(crate) fn is(text: &[u8], other: &[u8]) -> bool
+    ensures { result ≡ bytes_eq text.now other.now }
+{
+    text == other
+}
 
-    /// Whether the piece is this word or sign.
-    pub fn is(&self, kind: TokenKind) -> bool {
-        self.kind == Some(kind)
+/// Whether a piece with this text is a comment: no token begins with `#`.
+pub(crate) fn is_comment(text: &[u8]) -> bool
+    ensures { result ≡ is_comment text.now }
+{
+    match text {
+        [] => false,
+        [first, ..] => *first == b'#',
     }
 }

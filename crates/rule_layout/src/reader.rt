@@ -1,11 +1,11 @@
 //! Reads the pieces of a rule text, one after the other.
 
-ghost use Rattle.std.specs.Prelude.{◌≡◌, ◌≢◌, ◌<◌, ◌≤◌, false, true, length, take, drop, IfOk, [], ◌==◌};
+ghost use Rattle.std.specs.Prelude.{◌≡◌, ◌≢◌, ◌<◌, ◌≤◌, false, true, length, take, drop, IfOk, []};
 ghost use Rattle.std.specs.List.{prefix_len};
-ghost use Rattle.lc_model.specs.Text.Token.{Splits, is_blank, number_sign};
+ghost use Rattle.lc_model.specs.Text.Token.{Splits, is_blank};
 ghost use Rattle.rule_lexer.specs.Token.{tokens_of};
-ghost use Rattle.rule_layout.specs.Parts.{HasParts};
-ghost use Rattle.rule_layout.specs.Pieces.{HasSkipped, HasTaken, IsNext, SplitsInto, begins, is_line_byte, part_of, parts_of};
+ghost use Rattle.rule_layout.specs.Pieces.{HasSkipped, HasTaken, IsNext, SplitsInto, begins_blank, is_line_byte, shape_of, shapes_of};
+ghost use Rattle.rule_layout.specs.Shapes.{HasShapes, is_comment, lines_after};
 
 use crate::piece::Piece;
 use rule_lexer::Token;
@@ -29,6 +29,19 @@ fn is_blank(byte: u8) -> bool
     ensures { result ≡ is_blank byte }
 {
     matches!(byte, b' ' | b'\t' | b'\n' | b'\r')
+}
+
+/// The line feeds that count after a blank more.
+fn lines_after(lines: u8, byte: u8) -> u8
+    requires { lines ≤ 2 }
+    ensures lines { result ≡ lines_after lines byte }
+    ensures few { result ≤ 2 }
+{
+    if byte == LINE_FEED {
+        (lines + 1).min(MOST_LINES)
+    } else {
+        lines
+    }
 }
 
 /// The number of bytes before the next line feed, or of all bytes if there is none.
@@ -55,16 +68,14 @@ impl<'a, 't> Reader<'a, 't> {
     /// Moves over the blanks in front, and returns how many line feeds are among them, at most 2.
     fn skip_blanks(&mut self) -> u8
         requires { SplitsInto self.old.rest.now (drop self.old.count self.old.tokens.now) }
-        ensures skipped { HasSkipped self.old.rest.now self.new.rest.now
+        ensures skipped { HasSkipped self.old.rest.now self.new.rest.now result
             (drop self.new.count self.new.tokens.now) }
-        ensures begun { begins is_blank self.new.rest.now ≡ false }
+        ensures begun { begins_blank self.new.rest.now ≡ false }
     {
-        let mut lines = 0u8;
+        let mut lines = 0;
         while !self.rest.is_empty() && is_blank(self.rest[0]) {
-            let front = self.advance(1);
-            if front[0] == LINE_FEED && lines < MOST_LINES {
-                lines += 1;
-            }
+            lines = lines_after(lines, self.rest[0]);
+            self.advance(1);
         }
         lines
     }
@@ -72,16 +83,12 @@ impl<'a, 't> Reader<'a, 't> {
     /// Moves over the comment in front.
     fn take_comment(&mut self, lines: u8) -> Piece<'a>
         requires splits { SplitsInto self.old.rest.now (drop self.old.count self.old.tokens.now) }
-        requires comment { begins (◌==◌ number_sign) self.old.rest.now ≡ true }
-        ensures { HasTaken self.old.rest.now (part_of result) self.new.rest.now
+        requires comment { is_comment self.old.rest.now ≡ true }
+        ensures { HasTaken lines self.old.rest.now (shape_of result) self.new.rest.now
             (drop self.new.count self.new.tokens.now) }
     {
         let text = self.advance(line_length(self.rest));
-        Piece {
-            text,
-            kind: None,
-            lines,
-        }
+        Piece { text, lines }
     }
 
     /// Moves over the next token, which is in front.
@@ -89,19 +96,15 @@ impl<'a, 't> Reader<'a, 't> {
         requires splits { SplitsInto self.old.rest.now (drop self.old.count self.old.tokens.now) }
         requires within { self.old.count < length self.old.tokens.now }
         requires some { self.old.rest.now ≢ [] }
-        requires no_blank { begins is_blank self.old.rest.now ≡ false }
-        requires no_comment { begins (◌==◌ number_sign) self.old.rest.now ≡ false }
-        ensures { HasTaken self.old.rest.now (part_of result) self.new.rest.now
+        requires no_blank { begins_blank self.old.rest.now ≡ false }
+        requires no_comment { is_comment self.old.rest.now ≡ false }
+        ensures { HasTaken lines self.old.rest.now (shape_of result) self.new.rest.now
             (drop self.new.count self.new.tokens.now) }
     {
         let token = self.tokens[self.count];
         self.count += 1;
         let text = self.advance(token.text.len());
-        Piece {
-            text,
-            kind: Some(token.kind),
-            lines,
-        }
+        Piece { text, lines }
     }
 
     /// Moves over blanks and the next piece, and returns it; `None` at the text's end.
@@ -128,7 +131,7 @@ pub(crate) fn pieces_of<'a>(
     tokens: &[Token<'a>],
 ) -> Result<Vec<Piece<'a>>, AllocError>
     requires { Splits text.now (tokens_of tokens.now) }
-    ensures { IfOk result (λ pieces. HasParts text.now (parts_of pieces.items)) }
+    ensures { IfOk result (λ pieces. HasShapes 0 text.now (shapes_of pieces.items)) }
 {
     let mut pieces = Vec::new(alloc);
     let mut reader = Reader {

@@ -1,5 +1,4 @@
 use Rattle.std.proofs.Common.{rules, ◌≡◌, ◌≢◌, drop, length, List, []}
-use Rattle.rule_layout.specs.Parts.{HasParts, none}
 use Rattle.rule_layout.proofs.Reading.{nothing_left, token_is_there}
 use Rattle.rule_layout.proofs.reader.Reader.next_piece.Goals as goal
 
@@ -12,5 +11,5 @@ take_token-requires-clause-within c =
 
 pub returns-then-is_empty : goal.returns-then-is_empty
 returns-then-is_empty c =
-    nothing_left c.args.self.now.rest.now c.skip_blanks-lines.new.self.rest.now
+    nothing_left c.args.self.now.rest.now c.skip_blanks-lines.new.self.rest.now c.skip_blanks-lines.result
     (drop c.skip_blanks-lines.new.self.count c.skip_blanks-lines.new.self.tokens.now) c.skip_blanks-lines.ensures.skipped (search rules)

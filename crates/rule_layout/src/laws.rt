@@ -1,0 +1,8 @@
+//! The laws of the layout, each stated by a function with an empty body.
+
+ghost use Rattle.rule_layout.specs.Laws.{KeepsParts};
+
+/// States that formatting keeps the tokens and comments of a text, in their order.
+pub fn formatting_keeps_parts()
+    ensures { KeepsParts }
+{}
