@@ -11,7 +11,7 @@ use Rattle.rule_layout.specs.Shapes.{is_comment}
 
 -- ---- first bytes
 
-blank_no_token : (c : ℕ) (cs : List ℕ) → is_blank c ≡ true → is_token (c ∷ cs) ≡ false
+pub blank_no_token : (c : ℕ) (cs : List ℕ) → is_blank c ≡ true → is_token (c ∷ cs) ≡ false
 blank_no_token c cs e = go (blank_cases c e)
   where
     go : ((c ≡ 32) ⊎ (c ≡ 9)) ⊎ ((c ≡ 10) ⊎ (c ≡ 13)) → is_token (c ∷ cs) ≡ false
@@ -20,10 +20,10 @@ blank_no_token c cs e = go (blank_cases c e)
     go (inr (inl s)) = rw s refl
     go (inr (inr s)) = rw s refl
 
-blank_no_sign : (c : ℕ) → is_blank c ≡ true → c ≡ number_sign → ⊥
+pub blank_no_sign : (c : ℕ) → is_blank c ≡ true → c ≡ number_sign → ⊥
 blank_no_sign c e s = cc (rw s at e)
 
-sign_no_token : (c : ℕ) (cs : List ℕ) → c ≡ number_sign → is_token (c ∷ cs) ≡ false
+pub sign_no_token : (c : ℕ) (cs : List ℕ) → c ≡ number_sign → is_token (c ∷ cs) ≡ false
 sign_no_token c cs s = rw s refl
 
 -- a comment in front, before its line feed or the end
@@ -37,7 +37,7 @@ line_end c (x ∷ cs) text i =
     let size : 1 + length cs ≡ suc (length cs) = omega arith in
     rw (passes, others) size
 
-comment_length : (c : ℕ) (cs text : List ℕ) → IsComment (c ∷ cs) text → prefix_len is_line_byte ((c ∷ cs) ++ text) ≡ length (c ∷ cs)
+pub comment_length : (c : ℕ) (cs text : List ℕ) → IsComment (c ∷ cs) text → prefix_len is_line_byte ((c ∷ cs) ++ text) ≡ length (c ∷ cs)
 comment_length c cs text i =
     let sign : c ≡ number_sign = i.0 in
     let passes : is_line_byte c ≡ true = rw sign refl in

@@ -3,3 +3,5 @@ pub mod Fronts
 pub mod Reading
 pub mod Longest
 pub mod Texts
+pub mod Unique
+pub mod Twice

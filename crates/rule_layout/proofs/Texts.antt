@@ -12,6 +12,7 @@ use Rattle.rule_layout.specs.Shapes.{HasShapes, Shape, blank, comment, is_commen
 use Rattle.rule_layout.specs.Gaps.{gap_bytes, may_touch, new_line, sound_gap}
 use Rattle.rule_layout.specs.Layout.{after, at_start, ending, gap_of, laid_out, laid_out_from}
 use Rattle.rule_layout.specs.Formatting.{IsFormatted}
+use Rattle.rule_layout.proofs.Fronts.{sign_no_token}
 use Rattle.rule_layout.proofs.Longest.{Ends, feed, space, semicolon, close, before_end, behind_open}
 
 -- ---- pieces
@@ -24,9 +25,6 @@ data IsPiece : List ℕ → Type 0 where
 abbrev ArePieces : List Shape → Type 0
 ArePieces [] = Unit {0}
 ArePieces (shape ∷ shapes) = IsPiece shape.text × ArePieces shapes
-
-sign_no_token : (c : ℕ) (cs : List ℕ) → c ≡ number_sign → is_token (c ∷ cs) ≡ false
-sign_no_token c cs s = rw s refl
 
 pub token_no_comment : (word : List ℕ) → is_token word ≡ true → is_comment word ≡ false
 token_no_comment [] good = refl
