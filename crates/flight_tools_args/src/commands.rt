@@ -28,6 +28,8 @@ enum More {
     Checked,
     /// Further rule texts, which a stream may bring.
     Further,
+    /// Rule texts, and whether they stay as they are.
+    Formatted,
 }
 
 /// A command: its word, its help, its required files with the help of each, and its other words.
@@ -39,7 +41,7 @@ struct CommandEntry {
 }
 
 /// All commands, as the help lists them.
-const ROWS: [CommandEntry; 11] = [
+const ROWS: [CommandEntry; 12] = [
     CommandEntry {
         word: "table",
         about: "Says what a table file holds",
@@ -123,6 +125,12 @@ const ROWS: [CommandEntry; 11] = [
         about: "Runs a stream from standard input as it comes, to standard output",
         files: &[("SCHEDULE", "The schedule")],
         more: More::Rules,
+    },
+    CommandEntry {
+        word: "format",
+        about: "Gives rule texts the one layout, in place",
+        files: &[],
+        more: More::Formatted,
     },
 ];
 
@@ -341,6 +349,13 @@ fn with_more<'a>(
         More::Paged => with_part(alloc, command)?.arg(rule_words(alloc)),
         More::Checked => with_checks(alloc, command),
         More::Further => command.arg(further_words(alloc)),
+        More::Formatted => command
+            .arg(flag_word(
+                alloc,
+                "check",
+                "Writes nothing, and lists the files that differ",
+            ))?
+            .arg(rule_words(alloc)),
     }
 }
 

@@ -47,6 +47,7 @@ fn plan_by<'a>(
         CommandKind::Compare => compare_plan(alloc, found),
         CommandKind::Try => try_plan(alloc, found),
         CommandKind::Live => live_plan(alloc, found),
+        CommandKind::Format => format_plan(alloc, found),
     }
 }
 
@@ -376,6 +377,22 @@ fn live_plan<'a>(
 {
     match rules_of(alloc, found)? {
         Some(rules) => Ok(live_of(found, rules)),
+        None => Ok(None),
+    }
+}
+
+fn format_plan<'a>(
+    alloc: Global,
+    found: &ArgMatches<'a>,
+) -> Result<Option<CommandPlan<'a>>, AllocError>
+    ensures { IfOk result (λ plan. IfSome plan
+        (HoldsRows (codes "format", rows_of (found_of found.now)))) }
+{
+    match rules_of(alloc, found)? {
+        Some(rules) => Ok(Some(CommandPlan::Format {
+            rules,
+            check: flag(found, "check"),
+        })),
         None => Ok(None),
     }
 }

@@ -28,6 +28,8 @@ pub enum CommandKind {
     Try,
     /// `live`.
     Live,
+    /// `format`.
+    Format,
 }
 
 /// The command over files with this word.
@@ -64,6 +66,7 @@ fn of_rules(word: &str) -> Option<CommandKind>
         "compare" => Some(CommandKind::Compare),
         "try" => Some(CommandKind::Try),
         "live" => Some(CommandKind::Live),
+        "format" => Some(CommandKind::Format),
         _ => None,
     }
 }

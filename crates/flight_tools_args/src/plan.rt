@@ -71,6 +71,11 @@ pub enum CommandPlan<'a> {
         new: &'a str,
         further: Vec<&'a str>,
     },
+    /// `format [--check] RULES..`: gives rule texts the one layout, or lists those that differ from it.
+    Format {
+        rules: Vec<&'a str>,
+        check: bool,
+    },
     /// `try [--strict] SCRIPT SCHEDULE RULES..`: runs a script, and reports whether its expectations are met.
     Try {
         script: &'a str,

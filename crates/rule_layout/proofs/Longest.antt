@@ -1,9 +1,9 @@
 -- No token grows into a blank, a `;` or a `)` behind it.
-use Rattle.std.proofs.Common.{◌≡◌, refl, sym, ◌∙◌, ap, subst, ℕ, Bool, true, false, ◌&&◌, ◌||◌, ◌==◌, List, [], ◌∷◌, ◌++◌, codes, arith}
+use Rattle.std.proofs.Common.{◌≡◌, refl, ℕ, Bool, true, false, ◌&&◌, ◌||◌, ◌==◌, List, [], ◌∷◌, ◌++◌, codes}
 use Rattle.std.specs.Prelude.{bytes_eq, nat_le, length}
-use Rattle.std.specs.List.{list_all, list_any}
+use Rattle.std.specs.List.{list_all}
 use Rattle.std.specs.Char.{is_ascii_digit}
-use Rattle.lc_model.specs.Text.Token.{IsLongest, is_closed, is_lexeme, is_letter, is_numeral, is_sign, is_string, is_text_byte, is_token, is_word, is_word_byte, magnitude_text, quote, signs}
+use Rattle.lc_model.specs.Text.Token.{IsLongest, is_closed, is_lexeme, is_letter, is_numeral, is_sign, is_string, is_text_byte, is_token, is_word, is_word_byte, quote}
 use Rattle.lc_model.proofs.Facts.{and_first, and_first_false, and_second, and_second_false, or_neither, tested_equal}
 
 -- the bytes that end a token: a line feed, a space, `;` and `)`

@@ -1,19 +1,19 @@
 -- A text in the layout has the pieces that it was made of.
-use Rattle.std.proofs.Common.{◌≡◌, ◌≢◌, refl, sym, ◌∙◌, ap, subst, ℕ, zero, suc, ◌+◌, ◌≤◌, min, ◌⊎◌, inl, inr, Bool, true, false, not, cond, ◌&&◌, ◌||◌, ◌==◌, List, [], ◌∷◌, ◌++◌, length, map, Option, Some, None, codes, append_assoc, replicate, arith}
+use Rattle.std.proofs.Common.{◌≡◌, ◌≢◌, refl, sym, ◌∙◌, ap, subst, ℕ, zero, suc, min, Bool, true, false, cond, ◌==◌, List, [], ◌∷◌, ◌++◌, map, Option, Some, None, codes, append_assoc, replicate, arith}
 use Rattle.std.specs.Prelude.{bytes_eq}
 use Rattle.std.proofs.lemmas.Slice.Eq.{bytes_eq-Decides}
-use Rattle.lc_model.specs.Text.Token.{IsComment, IsLongest, is_blank, is_token, line_feed, number_sign}
+use Rattle.lc_model.specs.Text.Token.{IsComment, IsLongest, is_token, line_feed, number_sign}
 use Rattle.lc_model.proofs.Facts.{tested_equal}
 use Rattle.rule_layout.specs.declared.gap.Gap.{Gap}
 use Rattle.rule_layout.specs.declared.layout.Layout.{Layout}
 use Rattle.rule_layout.specs.Parts as part
 use Rattle.rule_layout.specs.Parts.{HasParts, HaveSameParts, Part, Comment, Token}
 use Rattle.rule_layout.specs.Shapes.{HasShapes, Shape, blank, comment, is_comment, line, none, one_line_more, token}
-use Rattle.rule_layout.specs.Gaps.{gap_bytes, may_touch, new_line, sound_gap}
-use Rattle.rule_layout.specs.Layout.{after, at_start, ending, gap_of, laid_out, laid_out_from}
+use Rattle.rule_layout.specs.Gaps.{gap_bytes, may_touch, sound_gap}
+use Rattle.rule_layout.specs.Layout.{after, at_start, gap_of, laid_out, laid_out_from}
 use Rattle.rule_layout.specs.Formatting.{IsFormatted}
 use Rattle.rule_layout.proofs.Fronts.{sign_no_token}
-use Rattle.rule_layout.proofs.Longest.{Ends, feed, space, semicolon, close, before_end, behind_open}
+use Rattle.rule_layout.proofs.Longest.{feed, space, semicolon, close, before_end, behind_open}
 
 -- ---- pieces
 
@@ -185,7 +185,7 @@ one_more layout before piece rest there behind = record { has = has; follows = f
     follows None there e = tt
     follows (Some word) there e =
         let sound : IsSound word gap text =
-            subst (λ (b : Option (List ℕ)). IsSound word (gap_of layout b piece rest) text) e (is_sound word _ text) in
+        subst (λ (b : Option (List ℕ)). IsSound word (gap_of layout b piece rest) text) e (is_sound word _ text) in
         subst (MayFollow word) (sym parted) (behind_gap word gap.lines gap.blanks text rest_text there sound)
 
 is_text : (layout : Layout) (before : Option (List ℕ)) (shapes : List Shape) → IsPieceIfThere before → ArePieces shapes → IsText layout before shapes

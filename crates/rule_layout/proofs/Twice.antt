@@ -1,20 +1,19 @@
 -- Formatting twice is formatting once.
-use Rattle.std.proofs.Common.{◌≡◌, ◌≢◌, refl, sym, ◌∙◌, ap, subst, ℕ, zero, suc, ◌+◌, ◌-◌, ◌*◌, ◌≤◌, ◌<◌, min, max, ◌⊎◌, inl, inr, Bool, true, false, not, cond, ◌&&◌, ◌||◌, ◌==◌, List, [], ◌∷◌, ◌++◌, length, Option, Some, None, codes, arith}
+use Rattle.std.proofs.Common.{◌≡◌, ◌≢◌, refl, sym, ◌∙◌, ap, subst, ℕ, ◌+◌, ◌-◌, ◌*◌, ◌≤◌, min, max, ◌⊎◌, inl, inr, Bool, true, false, not, cond, ◌&&◌, ◌||◌, ◌==◌, List, [], ◌∷◌, ◌++◌, length, Option, Some, None, codes, arith}
 use Rattle.std.specs.Prelude.{bytes_eq, nat_lt, if◌then◌else◌}
-use Rattle.std.proofs.lemmas.Slice.Eq.{bytes_eq-Decides}
 use Rattle.lc_model.specs.Text.Token.{IsComment, is_token, line_feed, number_sign}
 use Rattle.lc_model.proofs.Facts.{tested_equal, tested_unequal}
 use Rattle.rule_layout.specs.declared.gap.Gap.{Gap}
 use Rattle.rule_layout.specs.declared.group.Group.{Group}
-use Rattle.rule_layout.specs.declared.group.Place.{Place}
-use Rattle.rule_layout.specs.declared.group.Place.TheVariants.{Item, Name, Inside}
+use Rattle.rule_layout.specs.declared.group.NextPart.{NextPart}
+use Rattle.rule_layout.specs.declared.group.NextPart.TheVariants.{Item, Name, Inside}
 use Rattle.rule_layout.specs.declared.layout.Layout.{Layout}
-use Rattle.rule_layout.specs.Shapes.{HasShapes, Shape, blank, comment, is_comment, line, none, one_line_more, token}
+use Rattle.rule_layout.specs.Shapes.{HasShapes, Shape, blank, comment, is_comment, line, none, token}
 use Rattle.rule_layout.specs.Gaps.{gap_bytes, may_touch, sound_gap}
 use Rattle.rule_layout.specs.Layout.{after, at_start, before_comment, before_equals, before_token, column_after, columns_from, gap_before, gap_of, group_from, group_of, group_step, indent_of, item_columns, laid_out, laid_out_from, may_break, must_break, plus, with_comment, with_item, with_token}
 use Rattle.rule_layout.specs.Formatting.{IsFormatted}
 use Rattle.rule_layout.proofs.Fronts.{blank_no_token}
-use Rattle.rule_layout.proofs.Texts.{again_from, comment_is, has_again, token_no_comment}
+use Rattle.rule_layout.proofs.Texts.{again_from, has_again, token_no_comment}
 use Rattle.rule_layout.proofs.Unique.{one_list}
 
 -- ---- what the pieces of a text have in common
@@ -176,7 +175,7 @@ item_lines layout before piece rest is out tidy =
 -- ---- groups
 
 -- a place in a declaration, as the layout knows it
-abbrev IsAt : Place → Layout → Type 0
+abbrev IsAt : NextPart → Layout → Type 0
 IsAt Item layout = layout.is_inside ≡ false
 IsAt Name layout = layout.is_inside ≡ true
 IsAt Inside layout = layout.is_inside ≡ true
@@ -189,7 +188,7 @@ step_item : (kind : List ℕ) (group : Group) (text : List ℕ) (m n : ℕ) → 
     group_step kind group Item (record { text = text; lines = m }) ≡ group_step kind group Item (record { text = text; lines = n })
 step_item kind group text m n is same = rw is (rw same refl)
 
-step_again : (kind : List ℕ) (group : Group) (place : Place) (layout : Layout) (before : List ℕ) (piece : Shape) (rest : List Shape) →
+step_again : (kind : List ℕ) (group : Group) (place : NextPart) (layout : Layout) (before : List ℕ) (piece : Shape) (rest : List Shape) →
     IsAt place layout → IsTidy (Some before) piece →
     group_step kind group place (record { text = piece.text; lines = lines_again layout (Some before) piece rest }) ≡ group_step kind group place piece
 step_again kind group Name layout before piece rest there tidy = refl
@@ -232,7 +231,7 @@ token_place layout gap text rest is inside = go (bytes_eq text (codes ";")) refl
         subst (λ (c : Bool). IsAt (cond c Item Inside) (after layout gap text rest)) (sym e) (token_ends layout gap text rest is inside ∙ ap not e)
 
 -- the place behind a piece is as the layout knows it
-place_behind : (kind : List ℕ) (group : Group) (place : Place) (layout : Layout) (gap : Gap) (piece : Shape) (rest : List Shape) (next : Group × Place) →
+place_behind : (kind : List ℕ) (group : Group) (place : NextPart) (layout : Layout) (gap : Gap) (piece : Shape) (rest : List Shape) (next : Group × NextPart) →
     IsAt place layout → group_step kind group place piece ≡ Some next → IsAt next.1 (after layout gap piece.text rest)
 place_behind kind group Item layout gap piece rest next there e = go (is_comment piece.text) refl
   where
@@ -240,7 +239,7 @@ place_behind kind group Item layout gap piece rest next there e = go (is_comment
     beside true f g =
         let h : Some (group, Item) ≡ Some next = rw (f, g) at e in
         let same : (group, Item) ≡ next = cc h in
-        subst (λ (x : Group × Place). IsAt x.1 (after layout gap piece.text rest)) same (comment_stays layout gap piece.text rest f ∙ there)
+        subst (λ (x : Group × NextPart). IsAt x.1 (after layout gap piece.text rest)) same (comment_stays layout gap piece.text rest f ∙ there)
     beside false f g =
         let h : None ≡ Some next = rw (f, g) at e in
         absurd (cc h)
@@ -249,7 +248,7 @@ place_behind kind group Item layout gap piece rest next there e = go (is_comment
     begun true f g =
         let h : Some (record { items = plus group.items 1; columns = group.columns }, Name) ≡ Some next = rw (f, g) at e in
         let same : (record { items = plus group.items 1; columns = group.columns }, Name) ≡ next = cc h in
-        subst (λ (x : Group × Place). IsAt x.1 (after layout gap piece.text rest)) same (item_begins layout gap piece.text rest f there)
+        subst (λ (x : Group × NextPart). IsAt x.1 (after layout gap piece.text rest)) same (item_begins layout gap piece.text rest f there)
     begun false f g =
         let h : None ≡ Some next = rw (f, g) at e in
         absurd (cc h)
@@ -263,48 +262,48 @@ place_behind kind group Name layout gap piece rest next there e = go (is_comment
     go true f =
         let h : Some (group, Name) ≡ Some next = rw f at e in
         let same : (group, Name) ≡ next = cc h in
-        subst (λ (x : Group × Place). IsAt x.1 (after layout gap piece.text rest)) same (comment_stays layout gap piece.text rest f ∙ there)
+        subst (λ (x : Group × NextPart). IsAt x.1 (after layout gap piece.text rest)) same (comment_stays layout gap piece.text rest f ∙ there)
     go false f =
-        let found : Group × Place = (record { items = group.items; columns = max group.columns (length piece.text) }, (if bytes_eq piece.text (codes ";") then Item else Inside)) in
+        let found : Group × NextPart = (record { items = group.items; columns = max group.columns (length piece.text) }, (if bytes_eq piece.text (codes ";") then Item else Inside)) in
         let h : Some found ≡ Some next = rw f at e in
         let same : found ≡ next = cc h in
-        subst (λ (x : Group × Place). IsAt x.1 (after layout gap piece.text rest)) same (token_place layout gap piece.text rest f there)
+        subst (λ (x : Group × NextPart). IsAt x.1 (after layout gap piece.text rest)) same (token_place layout gap piece.text rest f there)
 place_behind kind group Inside layout gap piece rest next there e = go (is_comment piece.text) refl
   where
     go : (b : Bool) → is_comment piece.text ≡ b → IsAt next.1 (after layout gap piece.text rest)
     go true f =
         let h : Some (group, Inside) ≡ Some next = rw f at e in
         let same : (group, Inside) ≡ next = cc h in
-        subst (λ (x : Group × Place). IsAt x.1 (after layout gap piece.text rest)) same (comment_stays layout gap piece.text rest f ∙ there)
+        subst (λ (x : Group × NextPart). IsAt x.1 (after layout gap piece.text rest)) same (comment_stays layout gap piece.text rest f ∙ there)
     go false f =
-        let found : Group × Place = (group, (if bytes_eq piece.text (codes ";") then Item else Inside)) in
+        let found : Group × NextPart = (group, (if bytes_eq piece.text (codes ";") then Item else Inside)) in
         let h : Some found ≡ Some next = rw f at e in
         let same : found ≡ next = cc h in
-        subst (λ (x : Group × Place). IsAt x.1 (after layout gap piece.text rest)) same (token_place layout gap piece.text rest f there)
+        subst (λ (x : Group × NextPart). IsAt x.1 (after layout gap piece.text rest)) same (token_place layout gap piece.text rest f there)
 
 -- what a step leaves
-goes_on : (kind : List ℕ) (group : Group) (rest : List Shape) → Option (Group × Place) → Group
+goes_on : (kind : List ℕ) (group : Group) (rest : List Shape) → Option (Group × NextPart) → Group
 goes_on kind group rest None = group
 goes_on kind group rest (Some next) = group_from kind next.0 next.1 rest
 
-taken_apart : (kind : List ℕ) (group : Group) (rest : List Shape) (r : Option (Group × Place)) →
+taken_apart : (kind : List ℕ) (group : Group) (rest : List Shape) (r : Option (Group × NextPart)) →
     elim r [ None ↦ group | Some next ↦ group_from kind next.0 next.1 rest ] ≡ goes_on kind group rest r
 unfolding goes_on
 taken_apart kind group rest None = refl
 taken_apart kind group rest (Some next) = refl
 
-one_step : (kind : List ℕ) (group : Group) (place : Place) (piece : Shape) (rest : List Shape) →
+one_step : (kind : List ℕ) (group : Group) (place : NextPart) (piece : Shape) (rest : List Shape) →
     group_from kind group place (piece ∷ rest) ≡ goes_on kind group rest (group_step kind group place piece)
 one_step kind group place piece rest = taken_apart kind group rest (group_step kind group place piece)
 
-alike : (kind : List ℕ) (group : Group) (others rest : List Shape) (r : Option (Group × Place)) →
-    ((next : Group × Place) → r ≡ Some next → group_from kind next.0 next.1 others ≡ group_from kind next.0 next.1 rest) →
+alike : (kind : List ℕ) (group : Group) (others rest : List Shape) (r : Option (Group × NextPart)) →
+    ((next : Group × NextPart) → r ≡ Some next → group_from kind next.0 next.1 others ≡ group_from kind next.0 next.1 rest) →
     goes_on kind group others r ≡ goes_on kind group rest r
 unfolding goes_on
 alike kind group others rest None same = refl
 alike kind group others rest (Some next) same = same next refl
 
-group_again : (kind : List ℕ) (group : Group) (place : Place) (layout : Layout) (before : List ℕ) (shapes : List Shape) →
+group_again : (kind : List ℕ) (group : Group) (place : NextPart) (layout : Layout) (before : List ℕ) (shapes : List Shape) →
     IsAt place layout → AreTidy (Some before) shapes →
     group_from kind group place (again_from layout (Some before) shapes) ≡ group_from kind group place shapes
 group_again kind group place layout before [] there tidy = refl

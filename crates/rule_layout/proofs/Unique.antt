@@ -1,8 +1,8 @@
 -- A text has its pieces in one way.
-use Rattle.std.proofs.Common.{◌≡◌, ◌≢◌, refl, sym, ◌∙◌, ap, subst, ℕ, ◌+◌, ◌⊎◌, inl, inr, Bool, true, false, ◌==◌, List, [], ◌∷◌, ◌++◌, length, take, drop, append-nil}
+use Rattle.std.proofs.Common.{◌≡◌, ◌≢◌, refl, sym, ◌∙◌, ap, subst, ℕ, ◌⊎◌, inl, inr, true, false, List, [], ◌∷◌, ◌++◌, length, take, drop, append-nil}
 use Rattle.std.specs.List.{prefix_len}
 use Rattle.std.proofs.Math.Seq.{take-append_seam, drop-append_seam}
-use Rattle.lc_model.specs.Text.Token.{IsComment, IsLongest, is_blank, is_token, line_feed, number_sign}
+use Rattle.lc_model.specs.Text.Token.{IsComment, IsLongest, is_blank, is_token, line_feed}
 use Rattle.lc_model.proofs.Texts.OneSplit.{fronts, token_is_lexeme}
 use Rattle.rule_layout.specs.Shapes.{HasShapes, Shape, blank, comment, line, none, one_line_more, token}
 use Rattle.rule_layout.specs.Pieces.{is_line_byte}

@@ -4,8 +4,8 @@ use Rattle.std.specs.List.{list_any}
 use Rattle.lc_model.specs.Text.Token.{line_feed}
 use Rattle.rule_layout.specs.declared.gap.Gap.{Gap}
 use Rattle.rule_layout.specs.declared.group.Group.{Group}
-use Rattle.rule_layout.specs.declared.group.Place.{Place}
-use Rattle.rule_layout.specs.declared.group.Place.TheVariants.{Item, Name, Inside}
+use Rattle.rule_layout.specs.declared.group.NextPart.{NextPart}
+use Rattle.rule_layout.specs.declared.group.NextPart.TheVariants.{Item, Name, Inside}
 use Rattle.rule_layout.specs.declared.layout.Layout.{Layout}
 use Rattle.rule_layout.specs.Gaps.{blanks, gap_bytes, lines, may_touch, new_line, sound_gap}
 use Rattle.rule_layout.specs.Shapes.{Shape, is_comment}
@@ -48,21 +48,23 @@ part_columns text rest = columns_from true text (length text) rest
 -- ---- groups
 
 -- a group of declarations of one kind, with one piece more; none if the piece is no part of it
-abbrev pub group_step : List ℕ → Group → Place → Shape → Option (Group × Place)
+abbrev pub group_step : List ℕ → Group → NextPart → Shape → Option (Group × NextPart)
 group_step kind group Item piece =
     if is_comment piece.text then (if piece.lines == 0 then Some (group, Item) else None) else
     if bytes_eq piece.text kind && nat_lt piece.lines 2 then Some (record { items = plus group.items 1; columns = group.columns }, Name) else
     None
 group_step kind group Name piece =
     if is_comment piece.text then Some (group, Name) else
-    Some (record { items = group.items; columns = max group.columns (length piece.text) },
-    (if bytes_eq piece.text (codes ";") then Item else Inside))
+    Some (
+      record { items = group.items; columns = max group.columns (length piece.text) },
+      (if bytes_eq piece.text (codes ";") then Item else Inside),
+    )
 group_step kind group Inside piece =
     if is_comment piece.text then Some (group, Inside) else
     Some (group, (if bytes_eq piece.text (codes ";") then Item else Inside))
 
 -- the group with all pieces that are part of it
-abbrev pub group_from : List ℕ → Group → Place → List Shape → Group
+abbrev pub group_from : List ℕ → Group → NextPart → List Shape → Group
 group_from kind group place [] = group
 group_from kind group place (piece ∷ rest) =
     elim (group_step kind group place piece) [ None ↦ group | Some next ↦ group_from kind next.0 next.1 rest ]

@@ -1,5 +1,5 @@
 -- How the pieces of a text are read. This project's own.
-use Rattle.std.specs.Prelude.{◌≡◌, ℕ, ◌<◌, ◌≤◌, Bool, false, not, ◌==◌, List, [], ◌∷◌, length, map, Option, Some, None}
+use Rattle.std.specs.Prelude.{ℕ, ◌<◌, ◌≤◌, Bool, false, not, ◌==◌, List, [], ◌∷◌, length, map, Option, Some, None}
 use Rattle.lc_model.specs.Text.Token.{Cuts, is_blank, line_feed}
 use Rattle.rule_lexer.specs.declared.token.Token.{Token}
 use Rattle.rule_lexer.specs.Token.{tokens_of}

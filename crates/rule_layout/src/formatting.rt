@@ -1,12 +1,9 @@
 //! The public call: a rule text gets its layout.
 
-ghost use Rattle.std.specs.Prelude.{◌≤◌, All, IfErr, IfOk, List, length};
-ghost use Rattle.lc_model.specs.Text.Reading.{Parses};
-ghost use Rattle.lc_model.specs.Text.Syntax.{Item};
-ghost use Rattle.lc_model.specs.Text.Token as model;
+ghost use Rattle.std.specs.Prelude.{◌≤◌, All, IfErr, IfOk, length};
 ghost use Rattle.lc_model.specs.Text.Token.{Splits, longest_text};
 ghost use Rattle.rule_lexer.specs.Token.{HasItsKind, tokens_of};
-ghost use Rattle.rule_layout.specs.Formatting.{IsFormatted, IsUnformatted};
+ghost use Rattle.rule_layout.specs.Formatting.{HasItems, IsFormatted, IsUnformatted};
 
 use crate::error::FormatError;
 use crate::reader::pieces_of;
@@ -20,7 +17,8 @@ use std::alloc::Global;
 fn look_at_items(alloc: Global, text: &[u8], tokens: &[Token]) -> Result<(), FormatError>
     requires kinds { All HasItsKind tokens.now }
     requires splits { Splits text.now (tokens_of tokens.now) }
-    ensures { IfErr result (IsUnformatted text.now) }
+    ensures items { IfOk result (λ _. HasItems text.now) }
+    ensures refused { IfErr result (IsUnformatted text.now) }
 {
     match parse(alloc, text, tokens) {
         Ok(_) => Ok(()),
@@ -32,6 +30,7 @@ fn look_at_items(alloc: Global, text: &[u8], tokens: &[Token]) -> Result<(), For
 /// Returns a rule text in the one layout: at most 100 columns where an item can be broken, four blanks before lines that go
 /// on, `=` in one column over neighbouring declarations of one kind, empty lines singly, comments where they stand.
 pub fn format(alloc: Global, text: &[u8]) -> Result<Vec<u8>, FormatError>
+    ensures items { IfOk result (λ _. HasItems text.now) }
     ensures formatted { IfOk result (λ out. IsFormatted text.now out.items) }
     ensures short { IfOk result (λ out. length out.items ≤ longest_text) }
     ensures refused { IfErr result (IsUnformatted text.now) }

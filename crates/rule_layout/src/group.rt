@@ -1,7 +1,7 @@
 //! Groups: declarations of one kind on neighbouring lines, whose `=` stand in one column.
 
 ghost use Rattle.std.specs.Prelude.{◌≡◌, bytes_eq, codes, if◌then◌else◌};
-ghost use Rattle.rule_layout.specs.declared.group.Place.TheVariants.{Inside, Item};
+ghost use Rattle.rule_layout.specs.declared.group.NextPart.TheVariants.{Inside, Item};
 ghost use Rattle.rule_layout.specs.Layout.{group_of, group_step};
 ghost use Rattle.rule_layout.specs.Pieces.{shape_of, shapes_of};
 
@@ -18,55 +18,60 @@ pub(crate) struct Group {
 
 /// What comes next in a declaration.
 #[derive(Clone, Copy)]
-enum Place {
+enum NextPart {
     Item,
     Name,
     Inside,
 }
 
-/// The place after a token inside an item.
-fn place_after(text: &[u8]) -> Place
+/// What comes after a token inside an item.
+fn part_after(text: &[u8]) -> NextPart
     ensures { result ≡ (if bytes_eq text.now (codes ";") then Item else Inside) }
 {
     if is(text, b";") {
-        Place::Item
+        NextPart::Item
     } else {
-        Place::Inside
+        NextPart::Inside
     }
 }
 
 /// A group with one piece more; `None` if the piece is no part of it.
-fn group_step(kind: &[u8], group: Group, place: Place, piece: &Piece) -> Option<(Group, Place)>
+fn group_step(
+    kind: &[u8],
+    group: Group,
+    place: NextPart,
+    piece: &Piece,
+) -> Option<(Group, NextPart)>
     ensures { result ≡ group_step kind.now group place (shape_of piece.now) }
 {
     let Group { items, columns } = group;
     if is_comment(piece.text) {
         return match place {
-            Place::Item => {
+            NextPart::Item => {
                 if piece.lines == 0 {
-                    Some((group, Place::Item))
+                    Some((group, NextPart::Item))
                 } else {
                     None
                 }
             }
-            Place::Name => Some((group, Place::Name)),
-            Place::Inside => Some((group, Place::Inside)),
+            NextPart::Name => Some((group, NextPart::Name)),
+            NextPart::Inside => Some((group, NextPart::Inside)),
         };
     }
     match place {
-        Place::Item => {
+        NextPart::Item => {
             if is(piece.text, kind) && piece.lines < 2 {
                 let items = items.saturating_add(1);
-                Some((Group { items, columns }, Place::Name))
+                Some((Group { items, columns }, NextPart::Name))
             } else {
                 None
             }
         }
-        Place::Name => {
+        NextPart::Name => {
             let columns = columns.max(piece.text.len());
-            Some((Group { items, columns }, place_after(piece.text)))
+            Some((Group { items, columns }, part_after(piece.text)))
         }
-        Place::Inside => Some((group, place_after(piece.text))),
+        NextPart::Inside => Some((group, part_after(piece.text))),
     }
 }
 
@@ -78,7 +83,7 @@ pub(crate) fn group_of(kind: &[u8], rest: &[Piece]) -> Group
         items: 1,
         columns: 0,
     };
-    let mut place = Place::Name;
+    let mut place = NextPart::Name;
     let mut count = 0;
     while count < rest.len() {
         match group_step(kind, group, place, &rest[count]) {

@@ -2,16 +2,16 @@
 //! that the rules stay as they are.
 #![tactic(auto)]
 
+mod columns;
 mod error;
-mod piece;
-mod reader;
+mod formatting;
 mod gap;
 mod group;
-mod columns;
-mod layout;
-mod writing;
-mod formatting;
 pub mod laws;
+mod layout;
+mod piece;
+mod reader;
+mod writing;
 
 pub use error::FormatError;
 pub use formatting::format;

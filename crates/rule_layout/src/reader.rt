@@ -18,7 +18,7 @@ const MOST_LINES: u8 = 2;
 
 /// The rest of a text, all its tokens, and how many of them stand before the rest.
 #[derive(Drop)]
-struct Reader<'a, 't> {
+struct PieceReader<'a, 't> {
     rest: &'a [u8],
     tokens: &'t [Token<'a>],
     count: usize,
@@ -51,7 +51,7 @@ fn line_length(rest: &[u8]) -> usize
     rest.iter().take_while(|byte| **byte != LINE_FEED).count()
 }
 
-impl<'a, 't> Reader<'a, 't> {
+impl<'a, 't> PieceReader<'a, 't> {
     /// Moves over `count` bytes and returns them.
     fn advance(&mut self, count: usize) -> &'a [u8]
         requires { count ≤ length self.old.rest.now }
@@ -134,7 +134,7 @@ pub(crate) fn pieces_of<'a>(
     ensures { IfOk result (λ pieces. HasShapes 0 text.now (shapes_of pieces.items)) }
 {
     let mut pieces = Vec::new(alloc);
-    let mut reader = Reader {
+    let mut reader = PieceReader {
         rest: text,
         tokens,
         count: 0,

@@ -106,6 +106,9 @@ pub fn obey<'a, R: Files + Eprint + AllocGlobal, I: Read + Drop, W: Write>(
         CommandPlan::Import { files, how } => {
             file_commands::import(rt, files.as_slice(), how, input, out)
         }
+        CommandPlan::Format { rules, check } => {
+            file_commands::format(rt, rules.as_slice(), check, input, out)
+        }
         CommandPlan::Export { stream, raw } => file_commands::export(rt, stream, raw),
         CommandPlan::Compare {
             schedule,

@@ -1,6 +1,6 @@
 use Rattle.std.proofs.Common.{drop, length}
 use Rattle.rule_layout.specs.Pieces.{HasSkipped}
-use Rattle.rule_layout.proofs.reader.Reader.skip_blanks.Given as goal
+use Rattle.rule_layout.proofs.reader.PieceReader.skip_blanks.Given as goal
 
 abbrev pub invariant-loop-lines : goal.invariant-loop-lines
 invariant-loop-lines l = HasSkipped l.fn.self.rest.now l.self.rest.now l.lines (drop l.self.count l.self.tokens.now)

@@ -1,6 +1,6 @@
-use Rattle.std.proofs.Common.{◌≡◌, sym, ◌≤◌, ap, drop, length, subst}
+use Rattle.std.proofs.Common.{sym, ◌≤◌, drop, length, subst}
 use Rattle.rule_layout.proofs.Reading.{comment_fits, comment_taken}
-use Rattle.rule_layout.proofs.reader.Reader.take_comment.Goals as goal
+use Rattle.rule_layout.proofs.reader.PieceReader.take_comment.Goals as goal
 
 pub advance-text-requires : goal.advance-text-requires
 advance-text-requires c = subst (λ n. n ≤ length c.args.self.now.rest.now) (sym c.line_length.ensures) (comment_fits c.args.self.now.rest.now)

@@ -1,6 +1,6 @@
-use Rattle.std.proofs.Common.{rules, ◌≡◌, sym, ◌∙◌, drop, get_or, length, ◌<◌}
+use Rattle.std.proofs.Common.{rules, sym, ◌∙◌, drop, length, ◌<◌}
 use Rattle.rule_layout.proofs.Reading.{not_skipped, skipped_more}
-use Rattle.rule_layout.proofs.reader.Reader.skip_blanks.Goals as goal
+use Rattle.rule_layout.proofs.reader.PieceReader.skip_blanks.Goals as goal
 
 pub loop-lines-init : goal.loop-lines-init
 loop-lines-init c = not_skipped c.args.self.now.rest.now (drop c.args.self.now.count c.args.self.now.tokens.now) c.requires

@@ -1,6 +1,6 @@
-use Rattle.std.proofs.Common.{rules, ◌≡◌, refl, sym, ◌∙◌, ap, ◌≤◌, ℕ, suc, ◌+◌, ◌∷◌, drop, drop-cons, length, get_or, arith}
+use Rattle.std.proofs.Common.{◌≡◌, refl, ◌∙◌, suc, ◌+◌, drop, drop-cons, arith}
 use Rattle.rule_layout.proofs.Reading.{token_fits, token_taken}
-use Rattle.rule_layout.proofs.reader.Reader.take_token.Goals as goal
+use Rattle.rule_layout.proofs.reader.PieceReader.take_token.Goals as goal
 
 pub advance-text-requires : goal.advance-text-requires
 advance-text-requires c =

@@ -1,6 +1,6 @@
-use Rattle.std.proofs.Common.{rules, ◌≡◌, ◌≢◌, drop, length, List, []}
+use Rattle.std.proofs.Common.{rules, ◌≢◌, drop, []}
 use Rattle.rule_layout.proofs.Reading.{nothing_left, token_is_there}
-use Rattle.rule_layout.proofs.reader.Reader.next_piece.Goals as goal
+use Rattle.rule_layout.proofs.reader.PieceReader.next_piece.Goals as goal
 
 pub take_token-requires-clause-within : goal.take_token-requires-clause-within
 take_token-requires-clause-within c =
