@@ -5,3 +5,5 @@ pub mod Longest
 pub mod Texts
 pub mod Unique
 pub mod Twice
+pub mod Moved
+pub mod Rules

@@ -1,6 +1,6 @@
 //! The laws of the layout, each stated by a function with an empty body.
 
-ghost use Rattle.rule_layout.specs.Laws.{FormatsOnce, KeepsParts};
+ghost use Rattle.rule_layout.specs.Laws.{FormatsOnce, KeepsParts, KeepsRules};
 
 /// States that formatting keeps the tokens and comments of a text, in their order.
 pub fn formatting_keeps_parts()
@@ -10,4 +10,9 @@ pub fn formatting_keeps_parts()
 /// States that formatting twice is formatting once.
 pub fn formatting_twice_is_once()
     ensures { FormatsOnce }
+{}
+
+/// States that formatting keeps the rules of a text.
+pub fn formatting_keeps_rules()
+    ensures { KeepsRules }
 {}
