@@ -57,6 +57,12 @@ fn replace<'a, R: Files + AllocGlobal>(
     }
 }
 
+/// Lists a name.
+fn list<W: Write>(name: &str, out: &mut W) -> Result<(), Fault<'static>> {
+    listing_result(writeln!(out, "{name}"))?;
+    listing_result(out.flush())
+}
+
 /// Formats the file of this name, or, if it is a check, lists its name. Returns whether it differed.
 fn format_file<'a, R: Files + AllocGlobal, W: Write>(
     rt: &R,
@@ -70,7 +76,7 @@ fn format_file<'a, R: Files + AllocGlobal, W: Write>(
         return Ok(false);
     }
     if is_check {
-        listing_result(writeln!(out, "{name}"))?;
+        list(name, out)?;
     } else {
         replace(rt, name, new.as_slice())?;
     }
@@ -89,8 +95,9 @@ fn format_input<I: Read + Drop, W: Write>(
     let is_other = new.as_slice() != old.as_slice();
     if !is_check {
         listing_result(out.write_all(new.as_slice()))?;
+        listing_result(out.flush())?;
     } else if is_other {
-        listing_result(writeln!(out, "{STANDARD}"))?;
+        list(STANDARD, out)?;
     }
     Ok(is_other)
 }

@@ -58,9 +58,9 @@ rule R active fails 1 sequence 1 event info 1000 ""
 """
 # Blanks would make this text longer than a text may be.
 CROWDED = b"packet P=mid 1 length 2;" * 2_730
-REFUSED = b"packet P = mid 1 length 2;\nfield V P u8 at 0;\n"
+REFUSED = b"packet P = mid 0x0883 length 16;\nfield V P u8 at 0;\n"
 SAID = b"""\
-text:2:9: error[11]: expected `=`, found `P`
+text:2:9: error[11]: expected `=`, found the name `P`
   2 | field V P u8 at 0;
     |         ^ write `=` before this
 
@@ -92,13 +92,13 @@ ROWS = [
         error=b"text: the formatted text would have over 65,536 bytes\n",
     ),
     Row("a link leads to the formatted text", ["flight_tools", "format", "link"], {"text": WIDE, "link": Link("text")}, after={"text": LAID_OUT}),
-    Row("no such text", ["flight_tools", "format", "none"], status=3, error=b"none: no such file\n"),
+    Row("no such text", ["flight_tools", "format", "none"], status=3, error=b"cannot use none: there is none of that name\n"),
     Row(
         "a device that takes no more",
         ["flight_tools", "format", "text"],
         {"text": WIDE},
         status=3,
-        error=b"text: the file may not be larger\n",
+        error=b"cannot use text: the device is full\n",
         longest_file=100,
     ),
 ]

@@ -301,6 +301,7 @@ Commands:
   compare   Says what comes of one of two rule texts alone, over one stream
   try       Runs a script, and says what of that which it expects doesn't come
   live      Runs a stream from standard input as it comes, to standard output
+  format    Gives rule texts the one layout, in place
   help      Print this message or the help of the given subcommand(s)
 
 Options:
@@ -319,7 +320,7 @@ WORDS = [
     Row("help is no fault", ["flight_tools", "--help"], output=HELP),
     Row("no command", ["flight_tools"], status=2, error=b"""\
 error: 'flight_tools' requires a subcommand but one was not provided
-  [subcommands: table, stream, packets, scenario, import, export, report, check, compare, try, live, help]
+  [subcommands: table, stream, packets, scenario, import, export, report, check, compare, try, live, format, help]
 
 Usage: flight_tools <COMMAND>
 
