@@ -163,6 +163,12 @@ def to_one_that_dies(programs):
         return ended(ran, 0, b"")
 
 
+def heed_signals():
+    """Signals end this process, also where whoever started the gate ignores some, as `nohup` does."""
+    for number in (signal.SIGINT, signal.SIGTERM, signal.SIGHUP):
+        signal.signal(number, signal.SIG_DFL)
+
+
 def by_signals(programs):
     """A signal ends `flight_tools live` between two records: what all records before led to is written, and nothing is said. SIGPIPE
     does nothing."""
@@ -172,7 +178,7 @@ def by_signals(programs):
             written(place, {"schedule": NO_ENTRIES, "rules": LOW_VOLTS})
             pipe = subprocess.PIPE
             words = [programs["flight_tools"], "live", "schedule", "rules"]
-            ran = subprocess.Popen(words, cwd=place, stdin=pipe, stdout=pipe, stderr=pipe, bufsize=0)
+            ran = subprocess.Popen(words, cwd=place, stdin=pipe, stdout=pipe, stderr=pipe, bufsize=0, preexec_fn=heed_signals)
             faults += step_by_step(ran.stdin.fileno(), ran.stdout.fileno())
             os.write(ran.stdin.fileno(), LOW[:5])
             ran.send_signal(number)
