@@ -53,8 +53,8 @@ class Inputs:
 
     def judge(self, is_import_tried):
         """Refuses texts, schedules and options with the words of the programs."""
-        tools, texts = os.path.abspath(self.files["flight_tools"]), [os.path.abspath(self.files[it]) for it in self.texts]
-        self.call([tools, "check", "--schedule", *texts])
+        tools = os.path.abspath(self.files["flight_tools"])
+        self.call([tools, "check", "--schedule", *(self.files[it] for it in self.texts)])
         if is_import_tried:
             with tempfile.TemporaryDirectory(prefix="campaign-") as place:
                 open(f"{place}/archive", "wb").close()
@@ -74,9 +74,23 @@ class Inputs:
         return [(name, self.files[name], self.prints[name]) for name in self.texts] + programs + [("import", shlex.join(self.options), None)]
 
 
+def judge_table(file):
+    """Refuses a table's name that is there and no table, or whose folder is not there."""
+    folder = os.path.dirname(file) or "."
+    if not os.path.isdir(folder):
+        raise Unusable(f"there is no folder {folder}")
+    if os.path.exists(file):
+        if not os.path.isfile(file):
+            raise Unusable(f"{file} is no file")
+        with open(file, "rb") as old:
+            if old.read(16) not in (b"", b"SQLite format 3\0"):
+                raise Unusable(f"{file} is there, and no SQLite file")
+
+
 @contextlib.contextmanager
 def alone(file):
     """No other campaign writes the same table meanwhile."""
+    judge_table(file)
     os.makedirs(f"{file}.parts", exist_ok=True)
     with open(f"{file}.parts/lock", "wb") as lock:
         try:

@@ -1,4 +1,4 @@
-#!/usr/bin/env python3
+#!/usr/bin/env -S python3 -I -S
 """Looks at recordings of a campaign: the one command that each engine runs, on any host that has the campaign's folder.
 
     task ROUND NUMBER..
@@ -19,7 +19,6 @@ import subprocess
 import sys
 import tempfile
 import time
-import uuid
 
 PIECE = 1 << 20
 RUNS = ("old", "new")
@@ -83,7 +82,7 @@ def looks_of(path):
 def part_of(path, parts):
     """The name of a part that becomes the file, and takes its name only if nothing fails."""
     os.makedirs(os.path.dirname(path), exist_ok=True)
-    part = f"{parts}/{uuid.uuid4().hex}"
+    part = f"{parts}/{os.urandom(12).hex()}"
     try:
         yield part
         os.replace(part, path)
