@@ -40,8 +40,8 @@ class Parallel:
 
     def words(self):
         jobs = ["--jobs", str(self.jobs)] if self.jobs else []
-        words = ["parallel", "--quote", "--retries", str(TRIES), "--joblog", f"{self.round}/joblog", "--max-args", str(self.chunk), *jobs]
-        return [*words, *self.places(), self.task, self.round]
+        words = ["parallel", "--retries", str(TRIES), "--joblog", f"{self.round}/joblog", "--max-args", str(self.chunk), *jobs]
+        return [*words, *self.places(), shlex.quote(self.task), shlex.quote(self.round)]
 
     def places(self):
         return []
@@ -91,6 +91,7 @@ class Slurm(Parallel):
         super().__init__(*others)
         longest = self.longest()
         self.chunk = max(self.chunk, -(-self.count // longest))
+        self.name = f"campaign-{os.path.basename(os.path.dirname(os.path.dirname(self.round)))}-{os.getpid()}"
 
     @staticmethod
     def is_there():
@@ -110,17 +111,14 @@ class Slurm(Parallel):
         most = f"%{self.jobs}" if self.jobs else ""
         array = f"--array=1-{-(-self.count // self.chunk)}{most}"
         outputs = [f"--output={self.round}/task-%a", "--open-mode=append"]
-        return ["sbatch", "--parsable", "--wait", "--requeue", "--job-name=campaign", "--chdir=/", *outputs, array]
+        return ["sbatch", "--wait", "--requeue", f"--job-name={self.name}", "--chdir=/", *outputs, array]
 
     def reads(self):
         return JOB.format(chunk=self.chunk, count=self.count, task=shlex.quote(self.task), round=shlex.quote(self.round))
 
     def stop(self, ran):
-        """Ends the job whose number sbatch printed."""
-        with open(f"{self.round}/said", encoding="utf-8", errors="replace") as file:
-            job = re.match(r"\d+", file.read())
-        if job:
-            subprocess.run(["scancel", job[0]], stdin=subprocess.DEVNULL, stdout=subprocess.DEVNULL, stderr=subprocess.DEVNULL)
+        """Ends the job, which goes on without sbatch."""
+        subprocess.run(["scancel", f"--name={self.name}"], stdin=subprocess.DEVNULL, stdout=subprocess.DEVNULL, stderr=subprocess.DEVNULL)
         ran.terminate()
 
 
