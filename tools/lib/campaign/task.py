@@ -46,22 +46,19 @@ class Failure(Exception):
         return self.step == "check" or self.status in (*REFUSED, ENDS_EARLY)
 
 
-def read_failure(error):
-    return Failure("read", error.strerror or str(error))
-
-
 def print_of(path):
-    """The SHA-256 of a file, and what its system says of it: size, moment of its last change and place."""
+    """The SHA-256 of a file, and what the system said of it before it was read: size, moment of its last change and place."""
     try:
+        looks = looks_of(path)
         if not stat.S_ISREG(os.stat(path).st_mode):
             raise Failure("read", "it is no file")
         with open(path, "rb") as file:
             digest, piece = hashlib.sha256(), bytearray(PIECE)
             while size := file.readinto(piece):
                 digest.update(memoryview(piece)[:size])
-        return digest.hexdigest(), looks_of(path)
+        return digest.hexdigest(), looks
     except OSError as error:
-        raise read_failure(error) from error
+        raise Failure("read", error.strerror or str(error)) from error
 
 
 def text_of(line):
