@@ -3,6 +3,7 @@ import gzip
 import json
 import os
 import sqlite3
+import urllib.parse
 import zlib
 
 from . import task
@@ -112,9 +113,14 @@ def fill(database, campaign):
     return outcomes
 
 
+def opened(file):
+    """A table that is only read."""
+    return sqlite3.connect(f"file:{urllib.parse.quote(file)}?mode=ro", uri=True)
+
+
 def dump(file):
     """The lines of all tables without their columns of time, each table's sorted. Campaigns agree where these lines do."""
-    database = sqlite3.connect(f"file:{file}?mode=ro", uri=True)
+    database = opened(file)
     try:
         for table in TABLES:
             columns = [it for it in columns_of(table) if it not in TIMES]

@@ -1,1 +1,0 @@
-"""Hosts and clusters on one machine, for trials of engines that work over several."""
