@@ -26,11 +26,13 @@ class Failed(Exception):
     """What cannot be brought up, or did not come out as it should."""
 
 
-def with_packages(packages):
-    """The environment in which the programs of unpacked packages are found, and those that are installed."""
+def with_packages(packages, folder):
+    """The environment in which the programs of unpacked packages are found, and those that are installed. What a killed task leaves
+    lies in the folder too."""
     library = f"{packages}/usr/lib/x86_64-linux-gnu"
     paths = [f"{packages}/usr/sbin", f"{packages}/usr/bin"] if packages else []
-    variables = {**os.environ, "PATH": ":".join([*paths, os.environ["PATH"], "/usr/sbin", "/sbin"])}
+    os.mkdir(f"{folder}/scratch")
+    variables = {**os.environ, "TMPDIR": f"{folder}/scratch", "PATH": ":".join([*paths, os.environ["PATH"], "/usr/sbin", "/sbin"])}
     if packages:
         variables["LD_LIBRARY_PATH"] = f"{library}:{library}/slurm-wlm"
     return variables

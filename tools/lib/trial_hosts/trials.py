@@ -9,7 +9,7 @@ import time
 
 from campaign.table import dump
 from repository import ROOT
-from trial_hosts.namespaces import Failed, wait_until
+from trial_hosts.namespaces import SECONDS, Failed, wait_until
 
 SCRIPT = f"{ROOT}/tools/campaign"
 BUS = f"{ROOT}/crates/run_rows/data/power_bus"
@@ -36,7 +36,7 @@ class Trials:
 
     def __init__(self, folder, programs, count, pause, variables):
         self.folder, self.count, self.variables, self.faults = folder, count, variables, 0
-        self.pause, self.pauses, self.began = pause, {}, 0
+        self.pause, self.pauses, self.began, self.ran = pause, {}, 0, None
         os.mkdir(f"{folder}/programs")
         tools = os.path.abspath(f"{programs}/flight_tools")
         os.symlink(tools, f"{folder}/programs/flight_tools")
@@ -92,7 +92,14 @@ class Trials:
         with contextlib.suppress(FileNotFoundError):
             os.remove(f"{self.folder}/ledger")
         self.began = time.monotonic()
-        return subprocess.Popen([*words, *self.words(name, *others)], cwd=self.folder, env=self.variables, stdout=subprocess.PIPE, stderr=subprocess.PIPE, text=True)
+        self.ran = subprocess.Popen([*words, *self.words(name, *others)], cwd=self.folder, env=self.variables, stdout=subprocess.PIPE, stderr=subprocess.PIPE, text=True)
+        return self.ran
+
+    def close(self):
+        """Ends the campaign that runs, with its engine."""
+        if self.ran is not None and self.ran.poll() is None:
+            self.ran.terminate()
+            self.ran.communicate(timeout=SECONDS)
 
     def in_the_middle(self, host):
         """Waits until a host has ended recordings, unless it takes long over them, and is in the middle of two others."""
