@@ -1,4 +1,5 @@
 """The table of a campaign: one SQLite file, written as a part by one transaction, and its rows as sorted lines."""
+import contextlib
 import gzip
 import json
 import os
@@ -74,23 +75,18 @@ def rows_of(campaign, path):
 
 def write(campaign):
     """Writes the table, and returns how many recordings came to each outcome. FILE is what it was until all of it is there."""
-    part = f"{campaign.file}.{os.getpid()}.part"
-    try:
-        database = sqlite3.connect(part, isolation_level=None)
-        try:
-            for words in ("pragma journal_mode = off", "pragma synchronous = off", "begin"):
-                database.execute(words)
-            outcomes = fill(database, campaign)
-            database.execute("commit")
-        finally:
-            database.close()
-        with open(part, "rb") as file:
-            os.fsync(file.fileno())
-        os.replace(part, campaign.file)
-        return outcomes
-    finally:
-        if os.path.exists(part):
-            os.remove(part)
+    part = f"{campaign.folder}/table"
+    with contextlib.suppress(FileNotFoundError):
+        os.remove(part)
+    with contextlib.closing(sqlite3.connect(part, isolation_level=None)) as database:
+        for words in ("pragma journal_mode = off", "pragma synchronous = off", "begin"):
+            database.execute(words)
+        outcomes = fill(database, campaign)
+        database.execute("commit")
+    with open(part, "rb") as file:
+        os.fsync(file.fileno())
+    os.replace(part, campaign.file)
+    return outcomes
 
 
 def fill(database, campaign):
@@ -120,12 +116,9 @@ def opened(file):
 
 def dump(file):
     """The lines of all tables without their columns of time, each table's sorted. Campaigns agree where these lines do."""
-    database = opened(file)
-    try:
+    with contextlib.closing(opened(file)) as database:
         for table in TABLES:
             columns = [it for it in columns_of(table) if it not in TIMES]
             order = ", ".join(str(number) for number in range(1, len(columns) + 1))
             for row in database.execute(f"select {', '.join(columns)} from {table} order by {order}"):
                 yield json.dumps([table, *row], ensure_ascii=False)
-    finally:
-        database.close()
