@@ -1,5 +1,5 @@
-"""Calls that a row can't say: what comes to a program piece by piece, what goes on to one that dies, files that are holes, several
-calls behind each other, and the script for many streams."""
+"""Calls that a row can't say: what comes to a program piece by piece, what goes on to one that dies, files that are holes, and several
+calls behind each other."""
 
 import os
 import select
@@ -12,8 +12,6 @@ from dataclasses import dataclass
 from records import LOW, LOW_VOLTS, NO_ENTRIES, SAMPLE, STARTED, beginning, record, requested
 
 SECONDS = 20
-TOP = os.path.join(os.path.dirname(os.path.abspath(__file__)), "..", "..", "..")
-SCRIPT = os.path.join(TOP, "tools/many_streams")
 
 # What comes, and what has to be there before anything more comes.
 STEPS = [(beginning(), STARTED), (LOW + SAMPLE, b""), (LOW + SAMPLE, requested(4))]
@@ -275,30 +273,6 @@ def from_no_input(programs):
         return [] if found == expected else [f"it ended with {found} and should with {expected}"]
 
 
-def script_faults(title, words, line, status=125, parallel=None, **variables):
-    """The script for many streams ends with this status and this line. It finds `parallel` only where that is given, as a script."""
-
-    def faults(programs):
-        with tempfile.TemporaryDirectory(prefix="try-programs-") as place:
-            os.mkdir(os.path.join(place, "passes"))
-            tools = os.path.join(place, "tools")
-            os.mkdir(tools)
-            for tool in ("find", "sort", "sh"):
-                os.symlink(f"/usr/bin/{tool}", os.path.join(tools, tool))
-            if parallel is not None:
-                written(tools, {"parallel": parallel})
-                os.chmod(os.path.join(tools, "parallel"), 0o755)
-            environment = {"PATH": tools, "FLIGHT_RUN": programs["flight_run"], **variables}
-            ran = subprocess.run(["/bin/sh", SCRIPT, *words], cwd=place, env=environment, capture_output=True, timeout=SECONDS)
-        found = (ran.returncode, ran.stderr)
-        return [] if found == (status, line) else [f"it ended with {found} and should with {(status, line)}"]
-
-    return Trial(title, faults)
-
-
-PASSES = ["passes", "schedule", "rules"]
-PARALLEL = b"#!/bin/sh\nexit 7\n"
-
 TRIALS = [
     Trial("packets come through pipes before more of the stream does", through_pipes),
     Trial("packets come through named pipes before more of the stream does", through_fifos),
@@ -312,15 +286,4 @@ TRIALS = [
     Trial("a stream is listed in pieces, and its script says it again", in_pieces),
     Trial("a page keeps the rights of the old one", with_the_old_rights),
     Trial("a quote within a table's name ends no name", with_quotes_in_a_name),
-    script_faults("many streams without words", [], b"many_streams: usage: many_streams FOLDER SCHEDULE RULES..\n"),
-    script_faults("many streams without their folder", ["none", "schedule", "rules"], b"many_streams: there is no folder none\n"),
-    script_faults(
-        "many streams without the program",
-        PASSES,
-        b"many_streams: there is no program ./none: tools/build makes bin/flight_run, and FLIGHT_RUN names another\n",
-        parallel=PARALLEL,
-        FLIGHT_RUN="./none",
-    ),
-    script_faults("many streams without parallel", PASSES, b"many_streams: there is no `parallel` (Debian's package parallel)\n"),
-    script_faults("as many streams failed as parallel says", PASSES, b"", status=7, parallel=PARALLEL),
 ]
