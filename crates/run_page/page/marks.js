@@ -1,6 +1,6 @@
 // Marks of requests, events and commands. Those whose labels would meet are one mark, which says how many it has.
 
-// What a mark says, kind by kind: one request its sequence, one event its number, one command its first word, of several how many.
+// What a mark says, kind by kind: one request its sequence, one event its number, one command its first word, several how many they are.
 function labelsOf(items) {
   return Object.keys(SHAPES).map(kind => [kind, items.filter(item => item.kind === kind)]).filter(([, own]) => own.length).map(([kind, own]) => {
     const [item] = own;
@@ -32,6 +32,23 @@ function groupsOf(items, width) {
   return groups;
 }
 
+// What several commands say, the longest first: their words, the first word of each once, how many they are.
+function commandTexts(items) {
+  const words = [...new Set(items.map(({ says }) => says.split(' ')[0]))].join(', ');
+  return [items.map(({ says }) => says).join('; '), items.length === 1 ? words : `${items.length}× ${words}`];
+}
+
+// Commands say as much as fits before the next mark.
+function lengthen(groups, width) {
+  groups.forEach((group, index) => {
+    if (group.items.some(({ kind }) => kind !== 'command')) return;
+    const room = (groups[index + 1]?.left ?? width) - group.left - 12;
+    const text = fitting(commandTexts(group.items).map(says => `${SHAPES.command} ${says}`), room, 12, 700);
+    if (text) group.labels = [{ kind: 'command', text }];
+  });
+  return groups;
+}
+
 // A mark, and below it a line from the place of its first to that of its last.
 function drawGroup(group, width) {
   const count = group.items.length;
@@ -47,4 +64,4 @@ function drawGroup(group, width) {
   return [mark, reach];
 }
 
-const marksOf = (items, width) => groupsOf(items, width).flatMap(group => drawGroup(group, width));
+const marksOf = (items, width) => lengthen(groupsOf(items, width), width).flatMap(group => drawGroup(group, width));

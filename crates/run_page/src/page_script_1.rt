@@ -86,6 +86,19 @@ groups.push(group);
 }
 return groups;
 }
+function commandTexts(items) {
+const words = [...new Set(items.map(({ says }) => says.split(' ')[0]))].join(', ');
+return [items.map(({ says }) => says).join('; '), items.length === 1 ? words : `${items.length}× ${words}`];
+}
+function lengthen(groups, width) {
+groups.forEach((group, index) => {
+if (group.items.some(({ kind }) => kind !== 'command')) return;
+const room = (groups[index + 1]?.left ?? width) - group.left - 12;
+const text = fitting(commandTexts(group.items).map(says => `${SHAPES.command} ${says}`), room, 12, 700);
+if (text) group.labels = [{ kind: 'command', text }];
+});
+return groups;
+}
 function drawGroup(group, width) {
 const count = group.items.length;
 const name = count === 1 ? itemName(group.items[0])
@@ -99,7 +112,7 @@ reach.style.left = Math.min(group.first, width - 2) / width * 100 + '%';
 reach.style.width = (group.last - group.first) / width * 100 + '%';
 return [mark, reach];
 }
-const marksOf = (items, width) => groupsOf(items, width).flatMap(group => drawGroup(group, width));
+const marksOf = (items, width) => lengthen(groupsOf(items, width), width).flatMap(group => drawGroup(group, width));
 const LEAST = 4; // px: what is narrower is drawn together with its neighbours
 const CELL_WORDS = { fail: 'FAIL', error: 'error', stale: 'stale', pass: 'pass', none: 'none', absent: '' };
 const LETTERS = { fail: ['F'], error: ['E'], stale: ['S'] };
@@ -368,16 +381,4 @@ const wide = Math.max(0, right - left);
 const shades = part.ranges.map(([low, high]) => {
 const top = Math.max(0, heightOf(plot, high + 0.5));
 const bottom = Math.min(HEIGHT, heightOf(plot, low - 0.5));
-if (bottom < 0 || top > HEIGHT) return '';
-return `<rect class="shade" x="${left}" y="${top}" width="${wide}" height="${Math.max(1, bottom - top)}"/>`;
-});
-const lines = part.limits.map(([, number]) => `<path class="limit" d="M${left} ${heightOf(plot, numberOf(number))}h${wide}"/>`);
-return shades.concat(lines).join('');
-}).join('');
-}
-function valueShapes(plot, width) {
-let line = '', boxes = '', dots = '', before = null;
-for (const step of plot.steps) {
-const [left, right] = [step.from, step.to].map(place => sharePixels(place, width));
-if (right < 0 || left > width) continue;
 "#;

@@ -1,7 +1,19 @@
 //! The page behind its data, part 2. Written by tools/gate/page_constants.
 
 /// The page behind its data, part 2.
-pub const TEXT: &str = r#"if (step.low === null) { before = null; continue; }
+pub const TEXT: &str = r#"if (bottom < 0 || top > HEIGHT) return '';
+return `<rect class="shade" x="${left}" y="${top}" width="${wide}" height="${Math.max(1, bottom - top)}"/>`;
+});
+const lines = part.limits.map(([, number]) => `<path class="limit" d="M${left} ${heightOf(plot, numberOf(number))}h${wide}"/>`);
+return shades.concat(lines).join('');
+}).join('');
+}
+function valueShapes(plot, width) {
+let line = '', boxes = '', dots = '', before = null;
+for (const step of plot.steps) {
+const [left, right] = [step.from, step.to].map(place => sharePixels(place, width));
+if (right < 0 || left > width) continue;
+if (step.low === null) { before = null; continue; }
 const [top, bottom] = [heightOf(plot, step.high), heightOf(plot, step.low)];
 line += before === null ? `M${left} ${bottom}` : `H${left}V${bottom}`;
 if (step.changes > 1) boxes += `<rect class="between" x="${left}" y="${top}" width="${Math.max(1, right - left)}" height="${Math.max(1, bottom - top)}"/>`;
@@ -369,16 +381,4 @@ if (lane) {
 lane.row.hidden = false;
 openLane(lane, true);
 }
-showItem(item);
-const row = rowOf(item);
-row.scrollIntoView({ block: 'start' });
-(lane?.name ?? row.querySelector('[tabindex="0"]'))?.focus({ preventScroll: true });
-}
-function showRow(item) {
-const index = found.indexOf(item);
-if (index < 0) return;
-if (index >= drawn) drawRows(index + MORE - drawn);
-choose(item.packet);
-const row = byId('rows').querySelector(`[data-packet="${item.packet}"]`);
-row.scrollIntoView({ block: 'center' });
 "#;

@@ -1,7 +1,19 @@
 //! The page behind its data, part 3. Written by tools/gate/page_constants.
 
 /// The page behind its data, part 3.
-pub const TEXT: &str = r#"row.querySelector('button').focus({ preventScroll: true });
+pub const TEXT: &str = r#"showItem(item);
+const row = rowOf(item);
+row.scrollIntoView({ block: 'start' });
+(lane?.name ?? row.querySelector('[tabindex="0"]'))?.focus({ preventScroll: true });
+}
+function showRow(item) {
+const index = found.indexOf(item);
+if (index < 0) return;
+if (index >= drawn) drawRows(index + MORE - drawn);
+choose(item.packet);
+const row = byId('rows').querySelector(`[data-packet="${item.packet}"]`);
+row.scrollIntoView({ block: 'center' });
+row.querySelector('button').focus({ preventScroll: true });
 }
 function fillFilters() {
 byId('rule').append(make('option', '', 'all rules', { value: '' }));
@@ -172,7 +184,7 @@ const events = LEVELS.reduce((sum, level) => sum + all[level], 0);
 byId('figures').append(
 figure('records', all.records, `${all.telemetry} telemetry, ${all.ticks} ticks, ${all.commands} commands, ${all.files} files`),
 figure('packets written', all.packets, `${all.housekeeping} housekeeping${all.other ? `, ${all.other} others` : ''}`),
-figure('requests', all.requests, `of ${run.requests_left_out ? 'at least ' : ''}${new Set(run.requests.map(request => request.rule)).size} rules`),
+figure('requests', all.requests, `of ${run.requests_left_out ? 'at least ' : ''}${counted(new Set(run.requests.map(request => request.rule)).size, 'rule')}`),
 figure('events', events, LEVELS.map(level => `${all[level]} ${level}`).join(', ')));
 }
 function tellFiles() {

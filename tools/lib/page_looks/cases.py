@@ -54,12 +54,12 @@ def expect_bands(look):
 
 
 def expect_commands(look):
-    """Each command is a mark that says its first word, and its words where it is opened; a rule has its name in the text in force."""
+    """Each command is a mark that says its words where there is room; a rule has its name in the text in force."""
     says = look.ask("run.commands.map(([, , says]) => says)")
     look.expect({"start LC", "mode passive", "state FAST_1 disabled", "half wdt 1 /cf/w.tbl"} <= set(says), f"commands: {says}")
     marks = look.ask("[...document.querySelectorAll('#lanes .mark.command')].map(each => each.textContent)")
-    look.expect("◆ state" in marks, f"marks of commands: {marks}")
-    look.do("[...document.querySelectorAll('#lanes .mark.command')].find(each => each.textContent === '◆ state').click()")
+    look.expect({"◆ half wdt 1 /cf/w.tbl; housekeeping", "◆ 2× mode", "◆ state FAST_1 disabled"} <= set(marks), f"marks of commands: {marks}")
+    look.do("[...document.querySelectorAll('#lanes .mark.command')].find(each => each.textContent.startsWith('◆ state')).click()")
     look.expect("command state FAST_1 disabled" in look.ask("byId('panel').textContent"), "a command's mark doesn't say its words")
 
 
