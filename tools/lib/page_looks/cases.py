@@ -102,7 +102,7 @@ def expect_left_out(look):
     look.expect(ends == [True] * 3, f"the hatch has other ends: {ends}")
     look.do("document.querySelector('#lanes .cell.hatch').click()")
     says = look.ask("byId('panel').innerText")
-    look.expect("5,013 requests of records" in says and "flight_tools report --epoch 2024-02-29T00:00:00Z --from 50612 --until 60634 schedule.txt" in says, f"what is left out says {says}")
+    look.expect("5,013 requests of records" in says and "flight_tools report --epoch 2024-02-29T00:00:00Z --from 50612 --until 60635 schedule.txt" in says, f"what is left out says {says}")
     look.do("moveTo(3000, 3100)")
     look.do("document.querySelector('#lanes .cell.hatch').click()")
     look.expect("--from 53000 --until 53101 " in look.ask("byId('panel').innerText"), "the command isn't that of the part in the window")
