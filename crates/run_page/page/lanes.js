@@ -167,7 +167,7 @@ function makeMarks(key, label, items, kinds) {
   if (!items.length) return;
   const { row, track } = markRows[key] = makeRow(label, false);
   track.classList.add('marks_alone');
-  drawings.push(() => redraw(track, [...hatches(kinds, track.clientWidth), ...marksOf(items, track.clientWidth || 1)]));
+  drawings.push(() => redraw(track, [...hatches(kinds, track.clientWidth), ...marksOf(items, track.clientWidth || 1, true)]));
 }
 
 function makeLanes() {

@@ -32,19 +32,22 @@ function groupsOf(items, width) {
   return groups;
 }
 
-// What several commands say, the longest first: their words, the first word of each once, how many they are.
-function commandTexts(items) {
+// What marks of one kind say in words, the longest first; of commands also the first word of each once.
+function longTexts(items) {
+  if (items[0].kind === 'request') return [items.map(({ request }) => `sequence ${request.sequence}`).join('; ')];
+  if (items[0].kind !== 'command') return [items.map(({ id, says }) => `${id} ${says}`).join('; ')];
   const words = [...new Set(items.map(({ says }) => says.split(' ')[0]))].join(', ');
   return [items.map(({ says }) => says).join('; '), items.length === 1 ? words : `${items.length}× ${words}`];
 }
 
-// Commands say as much as fits before the next mark.
+// Marks of one kind say as much as fits before the next mark.
 function lengthen(groups, width) {
   groups.forEach((group, index) => {
-    if (group.items.some(({ kind }) => kind !== 'command')) return;
+    if (group.labels.length > 1) return;
+    const [{ kind }] = group.labels;
     const room = (groups[index + 1]?.left ?? width) - group.left - 12;
-    const text = fitting(commandTexts(group.items).map(says => `${SHAPES.command} ${says}`), room, 12, 700);
-    if (text) group.labels = [{ kind: 'command', text }];
+    const text = fitting(longTexts(group.items).map(words => `${SHAPES[kind]} ${words}`), room, 12, 700);
+    if (text) group.labels = [{ kind, text }];
   });
   return groups;
 }
@@ -64,4 +67,4 @@ function drawGroup(group, width) {
   return [mark, reach];
 }
 
-const marksOf = (items, width) => lengthen(groupsOf(items, width), width).flatMap(group => drawGroup(group, width));
+const marksOf = (items, width, inWords) => (inWords ? lengthen : groups => groups)(groupsOf(items, width), width).flatMap(group => drawGroup(group, width));

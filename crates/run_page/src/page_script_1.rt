@@ -86,16 +86,19 @@ groups.push(group);
 }
 return groups;
 }
-function commandTexts(items) {
+function longTexts(items) {
+if (items[0].kind === 'request') return [items.map(({ request }) => `sequence ${request.sequence}`).join('; ')];
+if (items[0].kind !== 'command') return [items.map(({ id, says }) => `${id} ${says}`).join('; ')];
 const words = [...new Set(items.map(({ says }) => says.split(' ')[0]))].join(', ');
 return [items.map(({ says }) => says).join('; '), items.length === 1 ? words : `${items.length}× ${words}`];
 }
 function lengthen(groups, width) {
 groups.forEach((group, index) => {
-if (group.items.some(({ kind }) => kind !== 'command')) return;
+if (group.labels.length > 1) return;
+const [{ kind }] = group.labels;
 const room = (groups[index + 1]?.left ?? width) - group.left - 12;
-const text = fitting(commandTexts(group.items).map(says => `${SHAPES.command} ${says}`), room, 12, 700);
-if (text) group.labels = [{ kind: 'command', text }];
+const text = fitting(longTexts(group.items).map(words => `${SHAPES[kind]} ${words}`), room, 12, 700);
+if (text) group.labels = [{ kind, text }];
 });
 return groups;
 }
@@ -112,7 +115,7 @@ reach.style.left = Math.min(group.first, width - 2) / width * 100 + '%';
 reach.style.width = (group.last - group.first) / width * 100 + '%';
 return [mark, reach];
 }
-const marksOf = (items, width) => lengthen(groupsOf(items, width), width).flatMap(group => drawGroup(group, width));
+const marksOf = (items, width, inWords) => (inWords ? lengthen : groups => groups)(groupsOf(items, width), width).flatMap(group => drawGroup(group, width));
 const LEAST = 4; // px: what is narrower is drawn together with its neighbours
 const CELL_WORDS = { fail: 'FAIL', error: 'error', stale: 'stale', pass: 'pass', none: 'none', absent: '' };
 const LETTERS = { fail: ['F'], error: ['E'], stale: ['S'] };
@@ -256,7 +259,7 @@ function makeMarks(key, label, items, kinds) {
 if (!items.length) return;
 const { row, track } = markRows[key] = makeRow(label, false);
 track.classList.add('marks_alone');
-drawings.push(() => redraw(track, [...hatches(kinds, track.clientWidth), ...marksOf(items, track.clientWidth || 1)]));
+drawings.push(() => redraw(track, [...hatches(kinds, track.clientWidth), ...marksOf(items, track.clientWidth || 1, true)]));
 }
 function makeLanes() {
 const byRule = new Map();
@@ -378,7 +381,4 @@ function limitShapes(plot, width) {
 return plot.parts.map(part => {
 const [left, right] = [part.from, part.to].map(place => sharePixels(place, width));
 const wide = Math.max(0, right - left);
-const shades = part.ranges.map(([low, high]) => {
-const top = Math.max(0, heightOf(plot, high + 0.5));
-const bottom = Math.min(HEIGHT, heightOf(plot, low - 0.5));
 "#;

@@ -1,7 +1,10 @@
 //! The page behind its data, part 2. Written by tools/gate/page_constants.
 
 /// The page behind its data, part 2.
-pub const TEXT: &str = r#"if (bottom < 0 || top > HEIGHT) return '';
+pub const TEXT: &str = r#"const shades = part.ranges.map(([low, high]) => {
+const top = Math.max(0, heightOf(plot, high + 0.5));
+const bottom = Math.min(HEIGHT, heightOf(plot, low - 0.5));
+if (bottom < 0 || top > HEIGHT) return '';
 return `<rect class="shade" x="${left}" y="${top}" width="${wide}" height="${Math.max(1, bottom - top)}"/>`;
 });
 const lines = part.limits.map(([, number]) => `<path class="limit" d="M${left} ${heightOf(plot, numberOf(number))}h${wide}"/>`);
@@ -378,7 +381,4 @@ function showInLanes(item) {
 bring(item.at);
 const lane = lanes[item.rule];
 if (lane) {
-lane.row.hidden = false;
-openLane(lane, true);
-}
 "#;

@@ -1,7 +1,10 @@
 //! The page behind its data, part 3. Written by tools/gate/page_constants.
 
 /// The page behind its data, part 3.
-pub const TEXT: &str = r#"showItem(item);
+pub const TEXT: &str = r#"lane.row.hidden = false;
+openLane(lane, true);
+}
+showItem(item);
 const row = rowOf(item);
 row.scrollIntoView({ block: 'start' });
 (lane?.name ?? row.querySelector('[tabindex="0"]'))?.focus({ preventScroll: true });
