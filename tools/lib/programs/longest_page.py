@@ -18,7 +18,7 @@ from together_rows import SECONDS, written
 
 PAIRS = 50  # rules that request, each over two fields of 32 bits
 RECORDS = 12_000
-LEAST = 0.88  # of the bytes that are counted: these numbers of records have a digit less, and one stream can't fill all at once
+LEAST = 0.85  # of the bytes that a page can have: these numbers of records are shorter, and no stream makes all lists longest at once
 WORDS = {"at", "or", "u8", "i8"}
 
 
@@ -60,7 +60,7 @@ class Stream:
         self.add(1, bytes([9, 0, 0xC0, 0]) + (5 + len(values)).to_bytes(2, "big") + bytes(6) + values)
 
 
-def started(stream):
+def start(stream):
     """Both halves, and LC, whose rules' events alone are sent."""
     for name, number in [(b"/cf/lc_def_wdt.tbl", 1), (b"/cf/lc_def_adt.tbl", 2)]:
         stream.add(4, half(name, number)[11:])
@@ -69,7 +69,7 @@ def started(stream):
         stream.commands(commanded(0x1801, 1, b"LC".ljust(20, b"\0") + event.to_bytes(2, "big") + b"\xff\xff"))
 
 
-def adoptions(stream):
+def adopt_tables(stream):
     """Changes of the mode and of the tables in force, until no more are kept."""
     names = [name.ljust(40, b"\0") for name in [b"/cf/lc_def_wdt.tbl", b"/cf/lc_def_adt.tbl", b"LC.LC_WDT", b"LC.LC_ADT"]]
     ask = commanded(0x18A5, 0, b"")
@@ -78,7 +78,7 @@ def adoptions(stream):
         stream.commands(*(commanded(0x1804, 3, name) for name in names[2:]), ask, commanded(0x18A4, 2, bytes([0, 1 if number % 2 else 3, 0, 0])))
 
 
-def requests(stream):
+def request_sequences(stream):
     """Six hundred of them, each with its event."""
     for _ in range(12):
         stream.commands(commanded(0x18A4, 3, bytes([0xFF, 0xFF, 0, 1])))
@@ -86,24 +86,24 @@ def requests(stream):
         stream.add(1, SAMPLE[11:])
 
 
-def files(stream):
+def store_files(stream):
     for _ in range(300):
         stream.add(3, 40 * b"<")
 
 
 def whole_stream():
     it = Stream()
-    started(it)
+    start(it)
     for _ in range(6):
         it.telemetry()
         it.add(1, SAMPLE[11:])
-    requests(it)
-    files(it)
-    adoptions(it)
-    requests(it)
+    request_sequences(it)
+    store_files(it)
+    adopt_tables(it)
+    request_sequences(it)
     while len(it.records) < RECORDS - 300:
         it.telemetry()
-    files(it)
+    store_files(it)
     return b"".join(it.records)
 
 
@@ -116,5 +116,5 @@ def longest_page(programs):
         with open(os.path.join(place, "page"), encoding="utf-8") as page:
             text = page.read()
     most = sum(most_bytes().values())
-    sizes = [] if LEAST * most < len(text) <= MOST_BYTES else [f"the page has {len(text):,} bytes of {most:,}"]
+    sizes = [] if LEAST * most < len(text) <= MOST_BYTES else [f"the page has {len(text):,} bytes, where at most {most:,} were expected"]
     return sizes + faults_of(text.split('<script type="application/json" id="run">', 1)[1].split("</script>", 1)[0])

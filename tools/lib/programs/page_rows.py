@@ -52,7 +52,7 @@ def whole(wanted):
     return None, wanted
 
 
-def told(page):
+def contents_of(page):
     """What a page says of its records, with times since second 0."""
 
     def since(entry, *places):
@@ -61,9 +61,10 @@ def told(page):
     def samples(request):
         return [[*since(sample[:2], 1), [since(met, 2) for met in sample[2]]] for sample in request["samples"]]
 
+    lists = [*page["lanes"], *(field["values"] for field in page["fields"]), page["tables"], page["mode"]]
     return {
         "figures": list(page["figures"].values()) + [field["packets"] for field in page["fields"]],
-        "changes": [[since(entry, 1) for entry in each] for each in [*page["lanes"], *(field["values"] for field in page["fields"]), page["tables"], page["mode"]]],
+        "changes": [[since(entry, 1) for entry in each] for each in lists],
         "items": [
             *({**each, "time": each["time"] + page["start"], "samples": samples(each)} for each in page["requests"]),
             *(since(event, 2) for event in page["events"]),
@@ -84,7 +85,7 @@ def parts_add_up(script, texts, seconds):
     def faults(programs):
         with tempfile.TemporaryDirectory(prefix="try-programs-") as place:
             pages = [page_data(place, programs["flight_tools"], script, texts, words) for words in options]
-        whole, *parts = map(told, pages)
+        whole, *parts = map(contents_of, pages)
         before = [[sum(page["figures"][name] for page in pages[1 : number + 1]) for name in ("records", "packets")] for number in range(len(parts))]
         compared = {
             "figures": ([sum(each) for each in zip(*(part["figures"] for part in parts))], whole["figures"]),
@@ -104,6 +105,7 @@ def those(members, wanted):
 
 BACK_IN_TIME = START + "at 102 0\ntick\nat 99 0\ntick\nat 104 0\ntick\nat 101 0\ntick\n"
 ADOPTED_BACK = START + "filter LC 2 65535\nwdt 1 /cf/b_wdt.tbl\nadt 1 /cf/b_adt.tbl\n" + ADOPTION.format("/cf/b") + ADOPTION.format("/cf/lc_def")
+MANY_TURNS = ADOPTED_BACK + 3 * FAILURE + 2 * PASS + "stop LC\nafter 1\nstart LC\n" + 2 * FAILURE
 WHY = "record rule text sequence event held counted"
 
 TRIALS = [
@@ -167,7 +169,7 @@ TRIALS = [
             ["--from", "101", "--until", "103"],
         ),
     ),
-    Trial("parts of a run add up to it", parts_add_up(ADOPTED_BACK + 3 * FAILURE + 2 * PASS + "stop LC\nafter 1\nstart LC\n" + 2 * FAILURE, ["rules", "other"], ["101", "103", "104.5", "106"])),
+    Trial("parts of a run add up to it", parts_add_up(MANY_TURNS, ["rules", "other"], ["101", "103", "104.5", "106"])),
     Trial("the longest page", longest_page.longest_page),
     *(
         Trial(f"a page {title}", shown(START + 3 * FAILURE, ["rules"], expected, options))
