@@ -75,7 +75,7 @@ function drawLane(lane) {
   const width = lane.track.clientWidth || 1;
   lane.track.drawn = cellsOf(lane.spans, width);
   const cells = lane.track.drawn.map(cell => drawCell(lane, cell, width));
-  redraw(lane.track, [...hatches(['requests', 'events'], width), ...cells, ...marksOf(lane.marks, width)]);
+  redraw(lane.track, [...hatches(['requests', 'events'], width), ...cells, ...marksOf(groupsOf(lane.marks, width), width)]);
   if (lane.plots) lane.plots.forEach(drawPlot);
 }
 
@@ -167,7 +167,10 @@ function makeMarks(key, label, items, kinds) {
   if (!items.length) return;
   const { row, track } = markRows[key] = makeRow(label, false);
   track.classList.add('marks_alone');
-  drawings.push(() => redraw(track, [...hatches(kinds, track.clientWidth), ...marksOf(items, track.clientWidth || 1, true)]));
+  drawings.push(() => {
+    const width = track.clientWidth || 1;
+    redraw(track, [...hatches(kinds, width), ...marksOf(lengthen(groupsOf(items, width), width, kinds), width)]);
+  });
 }
 
 function makeLanes() {

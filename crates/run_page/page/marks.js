@@ -40,13 +40,14 @@ function longTexts(items) {
   return [items.map(({ says }) => says).join('; '), items.length === 1 ? words : `${items.length}× ${words}`];
 }
 
-// Marks of one kind say as much as fits before the next mark.
-function lengthen(groups, width) {
+// Marks of one kind say as much as fits before the next mark, and before what is left out of these kinds.
+function lengthen(groups, width, kinds) {
+  const hatched = stretches.filter(({ kind }) => kinds.includes(kind)).map(({ from }) => shareOf(from) * width);
   groups.forEach((group, index) => {
     if (group.labels.length > 1) return;
     const [{ kind }] = group.labels;
-    const room = (groups[index + 1]?.left ?? width) - group.left - 12;
-    const text = fitting(longTexts(group.items).map(words => `${SHAPES[kind]} ${words}`), room, 12, 700);
+    const end = Math.min(groups[index + 1]?.left ?? width, ...hatched.filter(left => left >= group.last));
+    const text = fitting(longTexts(group.items).map(words => `${SHAPES[kind]} ${words}`), end - group.left - 12, 12, 700);
     if (text) group.labels = [{ kind, text }];
   });
   return groups;
@@ -67,4 +68,4 @@ function drawGroup(group, width) {
   return [mark, reach];
 }
 
-const marksOf = (items, width, inWords) => (inWords ? lengthen : groups => groups)(groupsOf(items, width), width).flatMap(group => drawGroup(group, width));
+const marksOf = (groups, width) => groups.flatMap(group => drawGroup(group, width));

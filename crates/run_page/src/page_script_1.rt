@@ -92,12 +92,13 @@ if (items[0].kind !== 'command') return [items.map(({ id, says }) => `${id} ${sa
 const words = [...new Set(items.map(({ says }) => says.split(' ')[0]))].join(', ');
 return [items.map(({ says }) => says).join('; '), items.length === 1 ? words : `${items.length}× ${words}`];
 }
-function lengthen(groups, width) {
+function lengthen(groups, width, kinds) {
+const hatched = stretches.filter(({ kind }) => kinds.includes(kind)).map(({ from }) => shareOf(from) * width);
 groups.forEach((group, index) => {
 if (group.labels.length > 1) return;
 const [{ kind }] = group.labels;
-const room = (groups[index + 1]?.left ?? width) - group.left - 12;
-const text = fitting(longTexts(group.items).map(words => `${SHAPES[kind]} ${words}`), room, 12, 700);
+const end = Math.min(groups[index + 1]?.left ?? width, ...hatched.filter(left => left >= group.last));
+const text = fitting(longTexts(group.items).map(words => `${SHAPES[kind]} ${words}`), end - group.left - 12, 12, 700);
 if (text) group.labels = [{ kind, text }];
 });
 return groups;
@@ -115,7 +116,7 @@ reach.style.left = Math.min(group.first, width - 2) / width * 100 + '%';
 reach.style.width = (group.last - group.first) / width * 100 + '%';
 return [mark, reach];
 }
-const marksOf = (items, width, inWords) => (inWords ? lengthen : groups => groups)(groupsOf(items, width), width).flatMap(group => drawGroup(group, width));
+const marksOf = (groups, width) => groups.flatMap(group => drawGroup(group, width));
 const LEAST = 4; // px: what is narrower is drawn together with its neighbours
 const CELL_WORDS = { fail: 'FAIL', error: 'error', stale: 'stale', pass: 'pass', none: 'none', absent: '' };
 const LETTERS = { fail: ['F'], error: ['E'], stale: ['S'] };
@@ -180,7 +181,7 @@ function drawLane(lane) {
 const width = lane.track.clientWidth || 1;
 lane.track.drawn = cellsOf(lane.spans, width);
 const cells = lane.track.drawn.map(cell => drawCell(lane, cell, width));
-redraw(lane.track, [...hatches(['requests', 'events'], width), ...cells, ...marksOf(lane.marks, width)]);
+redraw(lane.track, [...hatches(['requests', 'events'], width), ...cells, ...marksOf(groupsOf(lane.marks, width), width)]);
 if (lane.plots) lane.plots.forEach(drawPlot);
 }
 let others = [];
@@ -259,7 +260,10 @@ function makeMarks(key, label, items, kinds) {
 if (!items.length) return;
 const { row, track } = markRows[key] = makeRow(label, false);
 track.classList.add('marks_alone');
-drawings.push(() => redraw(track, [...hatches(kinds, track.clientWidth), ...marksOf(items, track.clientWidth || 1, true)]));
+drawings.push(() => {
+const width = track.clientWidth || 1;
+redraw(track, [...hatches(kinds, width), ...marksOf(lengthen(groupsOf(items, width), width, kinds), width)]);
+});
 }
 function makeLanes() {
 const byRule = new Map();
@@ -377,8 +381,4 @@ return plot;
 }
 const sharePixels = (place, width) => Math.max(-10, Math.min(width + 10, shareOf(place) * width));
 const heightOf = (plot, value) => EDGE + (plot.high - value) / (plot.high - plot.low) * (HEIGHT - 2 * EDGE);
-function limitShapes(plot, width) {
-return plot.parts.map(part => {
-const [left, right] = [part.from, part.to].map(place => sharePixels(place, width));
-const wide = Math.max(0, right - left);
 "#;

@@ -1,7 +1,11 @@
 //! The page behind its data, part 2. Written by tools/gate/page_constants.
 
 /// The page behind its data, part 2.
-pub const TEXT: &str = r#"const shades = part.ranges.map(([low, high]) => {
+pub const TEXT: &str = r#"function limitShapes(plot, width) {
+return plot.parts.map(part => {
+const [left, right] = [part.from, part.to].map(place => sharePixels(place, width));
+const wide = Math.max(0, right - left);
+const shades = part.ranges.map(([low, high]) => {
 const top = Math.max(0, heightOf(plot, high + 0.5));
 const bottom = Math.min(HEIGHT, heightOf(plot, low - 0.5));
 if (bottom < 0 || top > HEIGHT) return '';
@@ -377,8 +381,4 @@ drawRows(MORE);
 atTheEnd.unobserve(byId('more'));
 atTheEnd.observe(byId('more'));
 }, { rootMargin: '600px' });
-function showInLanes(item) {
-bring(item.at);
-const lane = lanes[item.rule];
-if (lane) {
 "#;

@@ -1,7 +1,11 @@
 //! The page behind its data, part 3. Written by tools/gate/page_constants.
 
 /// The page behind its data, part 3.
-pub const TEXT: &str = r#"lane.row.hidden = false;
+pub const TEXT: &str = r#"function showInLanes(item) {
+bring(item.at);
+const lane = lanes[item.rule];
+if (lane) {
+lane.row.hidden = false;
 openLane(lane, true);
 }
 showItem(item);
