@@ -172,7 +172,7 @@ const [worst] = wordsOf(cell.results, RESULTS);
 const states = wordsOf(cell.states, STATES);
 const state = states.length > 1 ? 'mixed' : states[0] ?? '';
 const text = fitting(cellTexts(cell, worst, state), cell.right - cell.left - 6, 11, 700);
-const classes = `cell ${worst} ${state}${cell.changes > 1 ? ' many' : ''}${cell.pause ? ' paused' : ''}`;
+const classes = `cell ${worst} ${state}${cell.changes > 1 ? ' many' : ''}${cell.results & 4 && worst !== 'pass' ? ' passes' : ''}${cell.pause ? ' paused' : ''}`;
 const element = makeButton(classes, text, spanName(lane.rule, cell), event => { if (!event.detail) openCell(lane, cell); });
 place(element, cell, width);
 return element;
