@@ -19,14 +19,21 @@ function sinceWhen(spans, bits) {
   return spans[first] ? (first === 0 ? ' all the time' : ` since ${sinceStart(spans[first].from.time)} s`) : '';
 }
 
+// The last result of a rule that isn't in force any more, if the page says it.
+function lastResult(spans, { name, rule }) {
+  const last = spans.findLast(({ results }) => results !== 1);
+  return last?.changes === 1 && nameIn(textAt(last.from.record), rule) === name ? `, last result ${resultWords(last.results)[0]}` : '';
+}
+
 // How a rule stands at the end: a kind, one word for its sign, and a sentence.
-function standing({ name, rule }) {
+function standing(group) {
+  const { name, rule } = group;
   if (rule === null) return ['unknown', '? not known', 'not known, since its rule is not known'];
   const spans = lanes[rule]?.spans ?? [];
   const span = spans.at(-1);
   const text = textAt(END.record);
   if (!span || span.results === 1 || nameIn(text, rule) !== name) {
-    return text === undefined ? ['unknown', '? not known', 'not known, since the tables in force are not'] : ['unknown', '? not in force', `not in force at ${ENDING}`];
+    return text === undefined ? ['unknown', '? not known', 'not known, since the tables in force are not'] : ['unknown', '? not in force', `not in force at ${ENDING}${lastResult(spans, group)}`];
   }
   const [result] = wordsOf(span.results, RESULTS);
   const again = span.states === 2 ? '; passive: no more requests until it is set active' : '';

@@ -65,7 +65,7 @@ function drawCell(lane, cell, width) {
   const states = wordsOf(cell.states, STATES);
   const state = states.length > 1 ? 'mixed' : states[0] ?? '';
   const text = fitting(cellTexts(cell, worst, state), cell.right - cell.left - 6, 11, 700);
-  const classes = `cell ${worst} ${state}${cell.changes > 1 ? ' many' : ''}${cell.pause ? ' paused' : ''}`;
+  const classes = `cell ${worst} ${state}${cell.changes > 1 ? ' many' : ''}${cell.results & 4 && worst !== 'pass' ? ' passes' : ''}${cell.pause ? ' paused' : ''}`;
   const element = makeButton(classes, text, spanName(lane.rule, cell), event => { if (!event.detail) openCell(lane, cell); });
   place(element, cell, width);
   return element;
@@ -75,7 +75,7 @@ function drawLane(lane) {
   const width = lane.track.clientWidth || 1;
   lane.track.drawn = cellsOf(lane.spans, width);
   const cells = lane.track.drawn.map(cell => drawCell(lane, cell, width));
-  redraw(lane.track, [...hatches(['requests', 'events'], width), ...cells, ...marksOf(lane.marks, width)]);
+  redraw(lane.track, [...hatches(['requests', 'events'], width), ...cells, ...marksOf(groupsOf(lane.marks, width), width)]);
   if (lane.plots) lane.plots.forEach(drawPlot);
 }
 
@@ -167,7 +167,10 @@ function makeMarks(key, label, items, kinds) {
   if (!items.length) return;
   const { row, track } = markRows[key] = makeRow(label, false);
   track.classList.add('marks_alone');
-  drawings.push(() => redraw(track, [...hatches(kinds, track.clientWidth), ...marksOf(items, track.clientWidth || 1)]));
+  drawings.push(() => {
+    const width = track.clientWidth || 1;
+    redraw(track, [...hatches(kinds, width), ...marksOf(lengthen(groupsOf(items, width), width, kinds), width)]);
+  });
 }
 
 function makeLanes() {

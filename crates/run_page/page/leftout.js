@@ -43,7 +43,7 @@ function showStretch(stretch, row) {
   const inside = view.unit !== 'record' && stretch.from.time < high && stretch.to.time > low;
   const part = inside ? [{ time: Math.max(low, stretch.from.time) }, { time: Math.min(high, stretch.to.time) }] : [stretch.from, stretch.to];
   showAfter(row, `${stretch.kind} left out`, makeBroken('p', '', `${leftOutWords(stretch)}, between ${when(stretch.from)} and ${when(stretch.to)}. `
-    + 'A page has the first and the last 300 requests, 300 commands and 1,000 events.'), ...moreAbout(...part));
+    + 'A page has the first and the last 300 requests, 300 commands and 500 events of its part: zoom in for a shorter one.'), ...moreAbout(...part));
 }
 
 // Hatched where something of these kinds lies that the page leaves out; what overlaps is hatched once.

@@ -28,7 +28,7 @@ function tellFigures() {
   byId('figures').append(
     figure('records', all.records, `${all.telemetry} telemetry, ${all.ticks} ticks, ${all.commands} commands, ${all.files} files`),
     figure('packets written', all.packets, `${all.housekeeping} housekeeping${all.other ? `, ${all.other} others` : ''}`),
-    figure('requests', all.requests, `of ${run.requests_left_out ? 'at least ' : ''}${new Set(run.requests.map(request => request.rule)).size} rules`),
+    figure('requests', all.requests, `of ${run.requests_left_out ? 'at least ' : ''}${counted(new Set(run.requests.map(request => request.rule)).size, 'rule')}`),
     figure('events', events, LEVELS.map(level => `${all[level]} ${level}`).join(', ')));
 }
 

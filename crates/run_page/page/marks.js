@@ -1,6 +1,6 @@
 // Marks of requests, events and commands. Those whose labels would meet are one mark, which says how many it has.
 
-// What a mark says, kind by kind: one request its sequence, one event its number, one command its first word, of several how many.
+// What a mark says, kind by kind: one request its sequence, one event its number, one command its first word, several how many they are.
 function labelsOf(items) {
   return Object.keys(SHAPES).map(kind => [kind, items.filter(item => item.kind === kind)]).filter(([, own]) => own.length).map(([kind, own]) => {
     const [item] = own;
@@ -32,6 +32,27 @@ function groupsOf(items, width) {
   return groups;
 }
 
+// What marks of one kind say in words, the longest first; of commands also the first word of each once.
+function longTexts(items) {
+  if (items[0].kind === 'request') return [items.map(({ request }) => `sequence ${request.sequence}`).join('; ')];
+  if (items[0].kind !== 'command') return [items.map(({ id, says }) => `${id} ${says}`).join('; ')];
+  const words = [...new Set(items.map(({ says }) => says.split(' ')[0]))].join(', ');
+  return [items.map(({ says }) => says).join('; '), items.length === 1 ? words : `${items.length}× ${words}`];
+}
+
+// Marks of one kind say as much as fits before the next mark, and before what is left out of these kinds.
+function lengthen(groups, width, kinds) {
+  const hatched = stretches.filter(({ kind }) => kinds.includes(kind)).map(({ from }) => shareOf(from) * width);
+  groups.forEach((group, index) => {
+    if (group.labels.length > 1) return;
+    const [{ kind }] = group.labels;
+    const end = Math.min(groups[index + 1]?.left ?? width, ...hatched.filter(left => left >= group.last));
+    const text = fitting(longTexts(group.items).map(words => `${SHAPES[kind]} ${words}`), end - group.left - 12, 12, 700);
+    if (text) group.labels = [{ kind, text }];
+  });
+  return groups;
+}
+
 // A mark, and below it a line from the place of its first to that of its last.
 function drawGroup(group, width) {
   const count = group.items.length;
@@ -47,4 +68,4 @@ function drawGroup(group, width) {
   return [mark, reach];
 }
 
-const marksOf = (items, width) => groupsOf(items, width).flatMap(group => drawGroup(group, width));
+const marksOf = (groups, width) => groups.flatMap(group => drawGroup(group, width));

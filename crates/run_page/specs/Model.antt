@@ -115,7 +115,7 @@ SaidLast place rule stands (told ∷ more) = (is_said_last told (stood place (st
 
 -- the most entries of all lists
 abbrev pub most_entries : ℕ
-most_entries = 22528
+most_entries = 13312
 
 -- the lists have these entries, shortened: first the lanes, then the fields; all share one bound
 pub record ListsTell (lists : Lists) (lanes values : List (List Entry)) : Type 0 where

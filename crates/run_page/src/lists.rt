@@ -12,7 +12,7 @@ use run_summary::{Place, Stand, stand_in};
 use std::alloc::{AllocError, Global};
 
 /// The most entries of all lists.
-const ENTRIES: usize = 22_528;
+const ENTRIES: usize = 13_312;
 
 /// A list for each lane, and after them one for each field. A lane shows the rules with one number in all texts.
 #[derive(Drop)]

@@ -116,6 +116,7 @@ repeating-linear-gradient(90deg,var(--error) 0 4px,transparent 4px 7px);
 color:var(--error-ink);border-color:var(--error);z-index:2;}
 .cell.fail{background-color:var(--fail);color:var(--fail-ink);border-color:var(--fail);font-weight:700;height:30px;line-height:24px;z-index:3;}
 .cell.many{border-top:3px dotted var(--ink);line-height:18px;}
+.cell.fail.passes{background-image:linear-gradient(transparent calc(100% - 5px),var(--pass) 0);}
 .cell.active{border-bottom:4px solid var(--ink);}
 .cell.passive{border-bottom:4px dashed var(--held);}
 .cell.mixed{border-bottom:5px double var(--ink);}
@@ -243,7 +244,7 @@ thead{display:table-header-group;}
 <span><i class="cell none active">none</i> no result yet</span>
 <span><i class="cell absent"></i> no such rule in force</span>
 <span><i class="cell pass paused">off</i> grey: not sampled (rule disabled or off for good, or LC disabled)</span>
-<span><i class="cell fail active many">FAIL</i> dots above: several changes, the worst is shown</span>
+<span><i class="cell fail active many passes">FAIL</i> dots above: several changes, the worst is shown; a strip below it: it passed, too</span>
 <span><i class="cell pass active"></i> rule active</span>
 <span><i class="cell pass passive">P</i> passive</span>
 <span><i class="cell pass mixed"></i> several states</span>

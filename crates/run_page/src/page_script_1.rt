@@ -86,6 +86,23 @@ groups.push(group);
 }
 return groups;
 }
+function longTexts(items) {
+if (items[0].kind === 'request') return [items.map(({ request }) => `sequence ${request.sequence}`).join('; ')];
+if (items[0].kind !== 'command') return [items.map(({ id, says }) => `${id} ${says}`).join('; ')];
+const words = [...new Set(items.map(({ says }) => says.split(' ')[0]))].join(', ');
+return [items.map(({ says }) => says).join('; '), items.length === 1 ? words : `${items.length}× ${words}`];
+}
+function lengthen(groups, width, kinds) {
+const hatched = stretches.filter(({ kind }) => kinds.includes(kind)).map(({ from }) => shareOf(from) * width);
+groups.forEach((group, index) => {
+if (group.labels.length > 1) return;
+const [{ kind }] = group.labels;
+const end = Math.min(groups[index + 1]?.left ?? width, ...hatched.filter(left => left >= group.last));
+const text = fitting(longTexts(group.items).map(words => `${SHAPES[kind]} ${words}`), end - group.left - 12, 12, 700);
+if (text) group.labels = [{ kind, text }];
+});
+return groups;
+}
 function drawGroup(group, width) {
 const count = group.items.length;
 const name = count === 1 ? itemName(group.items[0])
@@ -99,7 +116,7 @@ reach.style.left = Math.min(group.first, width - 2) / width * 100 + '%';
 reach.style.width = (group.last - group.first) / width * 100 + '%';
 return [mark, reach];
 }
-const marksOf = (items, width) => groupsOf(items, width).flatMap(group => drawGroup(group, width));
+const marksOf = (groups, width) => groups.flatMap(group => drawGroup(group, width));
 const LEAST = 4; // px: what is narrower is drawn together with its neighbours
 const CELL_WORDS = { fail: 'FAIL', error: 'error', stale: 'stale', pass: 'pass', none: 'none', absent: '' };
 const LETTERS = { fail: ['F'], error: ['E'], stale: ['S'] };
@@ -155,7 +172,7 @@ const [worst] = wordsOf(cell.results, RESULTS);
 const states = wordsOf(cell.states, STATES);
 const state = states.length > 1 ? 'mixed' : states[0] ?? '';
 const text = fitting(cellTexts(cell, worst, state), cell.right - cell.left - 6, 11, 700);
-const classes = `cell ${worst} ${state}${cell.changes > 1 ? ' many' : ''}${cell.pause ? ' paused' : ''}`;
+const classes = `cell ${worst} ${state}${cell.changes > 1 ? ' many' : ''}${cell.results & 4 && worst !== 'pass' ? ' passes' : ''}${cell.pause ? ' paused' : ''}`;
 const element = makeButton(classes, text, spanName(lane.rule, cell), event => { if (!event.detail) openCell(lane, cell); });
 place(element, cell, width);
 return element;
@@ -164,7 +181,7 @@ function drawLane(lane) {
 const width = lane.track.clientWidth || 1;
 lane.track.drawn = cellsOf(lane.spans, width);
 const cells = lane.track.drawn.map(cell => drawCell(lane, cell, width));
-redraw(lane.track, [...hatches(['requests', 'events'], width), ...cells, ...marksOf(lane.marks, width)]);
+redraw(lane.track, [...hatches(['requests', 'events'], width), ...cells, ...marksOf(groupsOf(lane.marks, width), width)]);
 if (lane.plots) lane.plots.forEach(drawPlot);
 }
 let others = [];
@@ -243,7 +260,10 @@ function makeMarks(key, label, items, kinds) {
 if (!items.length) return;
 const { row, track } = markRows[key] = makeRow(label, false);
 track.classList.add('marks_alone');
-drawings.push(() => redraw(track, [...hatches(kinds, track.clientWidth), ...marksOf(items, track.clientWidth || 1)]));
+drawings.push(() => {
+const width = track.clientWidth || 1;
+redraw(track, [...hatches(kinds, width), ...marksOf(lengthen(groupsOf(items, width), width, kinds), width)]);
+});
 }
 function makeLanes() {
 const byRule = new Map();
@@ -361,23 +381,4 @@ return plot;
 }
 const sharePixels = (place, width) => Math.max(-10, Math.min(width + 10, shareOf(place) * width));
 const heightOf = (plot, value) => EDGE + (plot.high - value) / (plot.high - plot.low) * (HEIGHT - 2 * EDGE);
-function limitShapes(plot, width) {
-return plot.parts.map(part => {
-const [left, right] = [part.from, part.to].map(place => sharePixels(place, width));
-const wide = Math.max(0, right - left);
-const shades = part.ranges.map(([low, high]) => {
-const top = Math.max(0, heightOf(plot, high + 0.5));
-const bottom = Math.min(HEIGHT, heightOf(plot, low - 0.5));
-if (bottom < 0 || top > HEIGHT) return '';
-return `<rect class="shade" x="${left}" y="${top}" width="${wide}" height="${Math.max(1, bottom - top)}"/>`;
-});
-const lines = part.limits.map(([, number]) => `<path class="limit" d="M${left} ${heightOf(plot, numberOf(number))}h${wide}"/>`);
-return shades.concat(lines).join('');
-}).join('');
-}
-function valueShapes(plot, width) {
-let line = '', boxes = '', dots = '', before = null;
-for (const step of plot.steps) {
-const [left, right] = [step.from, step.to].map(place => sharePixels(place, width));
-if (right < 0 || left > width) continue;
 "#;

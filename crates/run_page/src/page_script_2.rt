@@ -1,7 +1,26 @@
 //! The page behind its data, part 2. Written by tools/gate/page_constants.
 
 /// The page behind its data, part 2.
-pub const TEXT: &str = r#"if (step.low === null) { before = null; continue; }
+pub const TEXT: &str = r#"function limitShapes(plot, width) {
+return plot.parts.map(part => {
+const [left, right] = [part.from, part.to].map(place => sharePixels(place, width));
+const wide = Math.max(0, right - left);
+const shades = part.ranges.map(([low, high]) => {
+const top = Math.max(0, heightOf(plot, high + 0.5));
+const bottom = Math.min(HEIGHT, heightOf(plot, low - 0.5));
+if (bottom < 0 || top > HEIGHT) return '';
+return `<rect class="shade" x="${left}" y="${top}" width="${wide}" height="${Math.max(1, bottom - top)}"/>`;
+});
+const lines = part.limits.map(([, number]) => `<path class="limit" d="M${left} ${heightOf(plot, numberOf(number))}h${wide}"/>`);
+return shades.concat(lines).join('');
+}).join('');
+}
+function valueShapes(plot, width) {
+let line = '', boxes = '', dots = '', before = null;
+for (const step of plot.steps) {
+const [left, right] = [step.from, step.to].map(place => sharePixels(place, width));
+if (right < 0 || left > width) continue;
+if (step.low === null) { before = null; continue; }
 const [top, bottom] = [heightOf(plot, step.high), heightOf(plot, step.low)];
 line += before === null ? `M${left} ${bottom}` : `H${left}V${bottom}`;
 if (step.changes > 1) boxes += `<rect class="between" x="${left}" y="${top}" width="${Math.max(1, right - left)}" height="${Math.max(1, bottom - top)}"/>`;
@@ -362,23 +381,4 @@ drawRows(MORE);
 atTheEnd.unobserve(byId('more'));
 atTheEnd.observe(byId('more'));
 }, { rootMargin: '600px' });
-function showInLanes(item) {
-bring(item.at);
-const lane = lanes[item.rule];
-if (lane) {
-lane.row.hidden = false;
-openLane(lane, true);
-}
-showItem(item);
-const row = rowOf(item);
-row.scrollIntoView({ block: 'start' });
-(lane?.name ?? row.querySelector('[tabindex="0"]'))?.focus({ preventScroll: true });
-}
-function showRow(item) {
-const index = found.indexOf(item);
-if (index < 0) return;
-if (index >= drawn) drawRows(index + MORE - drawn);
-choose(item.packet);
-const row = byId('rows').querySelector(`[data-packet="${item.packet}"]`);
-row.scrollIntoView({ block: 'center' });
 "#;

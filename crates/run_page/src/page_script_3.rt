@@ -1,7 +1,26 @@
 //! The page behind its data, part 3. Written by tools/gate/page_constants.
 
 /// The page behind its data, part 3.
-pub const TEXT: &str = r#"row.querySelector('button').focus({ preventScroll: true });
+pub const TEXT: &str = r#"function showInLanes(item) {
+bring(item.at);
+const lane = lanes[item.rule];
+if (lane) {
+lane.row.hidden = false;
+openLane(lane, true);
+}
+showItem(item);
+const row = rowOf(item);
+row.scrollIntoView({ block: 'start' });
+(lane?.name ?? row.querySelector('[tabindex="0"]'))?.focus({ preventScroll: true });
+}
+function showRow(item) {
+const index = found.indexOf(item);
+if (index < 0) return;
+if (index >= drawn) drawRows(index + MORE - drawn);
+choose(item.packet);
+const row = byId('rows').querySelector(`[data-packet="${item.packet}"]`);
+row.scrollIntoView({ block: 'center' });
+row.querySelector('button').focus({ preventScroll: true });
 }
 function fillFilters() {
 byId('rule').append(make('option', '', 'all rules', { value: '' }));
@@ -41,13 +60,18 @@ function sinceWhen(spans, bits) {
 const first = spans.findLastIndex(span => span.results !== bits || span.changes > 1) + 1;
 return spans[first] ? (first === 0 ? ' all the time' : ` since ${sinceStart(spans[first].from.time)} s`) : '';
 }
-function standing({ name, rule }) {
+function lastResult(spans, { name, rule }) {
+const last = spans.findLast(({ results }) => results !== 1);
+return last?.changes === 1 && nameIn(textAt(last.from.record), rule) === name ? `, last result ${resultWords(last.results)[0]}` : '';
+}
+function standing(group) {
+const { name, rule } = group;
 if (rule === null) return ['unknown', '? not known', 'not known, since its rule is not known'];
 const spans = lanes[rule]?.spans ?? [];
 const span = spans.at(-1);
 const text = textAt(END.record);
 if (!span || span.results === 1 || nameIn(text, rule) !== name) {
-return text === undefined ? ['unknown', '? not known', 'not known, since the tables in force are not'] : ['unknown', '? not in force', `not in force at ${ENDING}`];
+return text === undefined ? ['unknown', '? not known', 'not known, since the tables in force are not'] : ['unknown', '? not in force', `not in force at ${ENDING}${lastResult(spans, group)}`];
 }
 const [result] = wordsOf(span.results, RESULTS);
 const again = span.states === 2 ? '; passive: no more requests until it is set active' : '';
@@ -172,7 +196,7 @@ const events = LEVELS.reduce((sum, level) => sum + all[level], 0);
 byId('figures').append(
 figure('records', all.records, `${all.telemetry} telemetry, ${all.ticks} ticks, ${all.commands} commands, ${all.files} files`),
 figure('packets written', all.packets, `${all.housekeeping} housekeeping${all.other ? `, ${all.other} others` : ''}`),
-figure('requests', all.requests, `of ${run.requests_left_out ? 'at least ' : ''}${new Set(run.requests.map(request => request.rule)).size} rules`),
+figure('requests', all.requests, `of ${run.requests_left_out ? 'at least ' : ''}${counted(new Set(run.requests.map(request => request.rule)).size, 'rule')}`),
 figure('events', events, LEVELS.map(level => `${all[level]} ${level}`).join(', ')));
 }
 function tellFiles() {

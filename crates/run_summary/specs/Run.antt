@@ -252,7 +252,7 @@ pub record FieldsCome : Type 0 where
       AreKnown (step.place.«record» + 1) fields (account_with step a).seen
   pub anew : (number : ℕ) (fields : List Field) (a : Account) → AreKnown number fields a.seen → AreKnown number fields (begun_anew a).seen
 
--- the account of a run has the first 1,000 and the last 1,000 of all its events, and how many are left out between them, from which record
+-- the account of a run has the first 500 and the last 500 of all its events, and how many are left out between them, from which record
 -- to which
 abbrev pub TellsEvents : Type 0
 TellsEvents = (texts : OfTexts) (steps : List Step) →

@@ -47,7 +47,7 @@ abbrev pub requests_kept : ℕ
 requests_kept = 300
 
 abbrev pub events_kept : ℕ
-events_kept = 1000
+events_kept = 500
 
 -- the most `Met` values in all samples that are kept
 abbrev pub most_parts : ℕ

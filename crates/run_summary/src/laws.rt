@@ -6,7 +6,7 @@ ghost use Rattle.run_summary.specs.Requests.{TellsRequests};
 ghost use Rattle.run_summary.specs.Run.{FieldsCome, StandAgain, TellsEvents, TellsFigures};
 ghost use Rattle.run_summary.specs.Turns.{TellsTurns};
 
-/// States that an account has the first 1,000 and the last 1,000 events of a run, each with the number of its packet, and the number and
+/// States that an account has the first 500 and the last 500 events of a run, each with the number of its packet, and the number and
 /// the records of those left out between them.
 pub fn the_ends_of_all_events()
     ensures { TellsEvents }

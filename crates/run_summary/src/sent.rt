@@ -16,7 +16,7 @@ use std::marker::Model;
 /// The number of first, and of last, requests and events that are kept.
 const REQUESTS: usize = 300;
 
-const EVENTS: usize = 1_000;
+const EVENTS: usize = 500;
 
 /// The most `Met` values in all samples that are kept.
 const PARTS: usize = 3_072;

@@ -1,5 +1,7 @@
 """What is asked of single examples beside what is asked of all."""
 
+import re
+
 
 def expect_ten_failures(look):
     """Ten failing samples within one column of 100,000 records are seen at each width, and keys come to the record and the time."""
@@ -54,12 +56,12 @@ def expect_bands(look):
 
 
 def expect_commands(look):
-    """Each command is a mark that says its first word, and its words where it is opened; a rule has its name in the text in force."""
+    """Each command is a mark that says its words where there is room; a rule has its name in the text in force."""
     says = look.ask("run.commands.map(([, , says]) => says)")
     look.expect({"start LC", "mode passive", "state FAST_1 disabled", "half wdt 1 /cf/w.tbl"} <= set(says), f"commands: {says}")
     marks = look.ask("[...document.querySelectorAll('#lanes .mark.command')].map(each => each.textContent)")
-    look.expect("◆ state" in marks, f"marks of commands: {marks}")
-    look.do("[...document.querySelectorAll('#lanes .mark.command')].find(each => each.textContent === '◆ state').click()")
+    look.expect({"◆ half wdt 1 /cf/w.tbl; housekeeping", "◆ 2× mode", "◆ state FAST_1 disabled"} <= set(marks), f"marks of commands: {marks}")
+    look.do("[...document.querySelectorAll('#lanes .mark.command')].find(each => each.textContent.startsWith('◆ state')).click()")
     look.expect("command state FAST_1 disabled" in look.ask("byId('panel').textContent"), "a command's mark doesn't say its words")
 
 
@@ -102,7 +104,8 @@ def expect_left_out(look):
     look.expect(ends == [True] * 3, f"the hatch has other ends: {ends}")
     look.do("document.querySelector('#lanes .cell.hatch').click()")
     says = look.ask("byId('panel').innerText")
-    look.expect("5,013 requests of records" in says and "flight_tools report --epoch 2024-02-29T00:00:00Z --from 50612 --until 60634 schedule.txt" in says, f"what is left out says {says}")
+    part = re.search(r"flight_tools report --epoch 2024-02-29T00:00:00Z --from (\d+) --until (\d+) schedule.txt out/run.stream PART.html rules_0.txt", says)
+    look.expect("5,013 requests of records" in says and part and 50_600 < int(part[1]) <= 50_612 and 60_634 <= int(part[2]) < 60_650, f"what is left out says {says}")
     look.do("moveTo(3000, 3100)")
     look.do("document.querySelector('#lanes .cell.hatch').click()")
     look.expect("--from 53000 --until 53101 " in look.ask("byId('panel').innerText"), "the command isn't that of the part in the window")

@@ -7,11 +7,11 @@ import hashlib
 
 from conditions import Condition, compared
 from kept import Changes, Ends, Pool, joined_bits, joined_values
+from page_bounds import MOST
 
 TICK = 65_536
 RESULT = {"absent": 1, "none": 2, "pass": 4, "stale": 8, "error": 16, "fail": 32}
 STATE = {None: 0, "active": 1, "passive": 2, "disabled": 4, "off": 8}
-MOST = {"entries": 22_528, "bands": 500, "requests": 600, "events": 2_000, "parts": 3_072, "commands": 600}
 
 
 class Rule:

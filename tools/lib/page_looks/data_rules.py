@@ -3,8 +3,8 @@
 import json
 import re
 
-MOST_ENTRIES, MOST_BAND, MOST_REQUESTS, MOST_EVENTS, MOST_PARTS, MOST_COMMANDS = 22_528, 500, 600, 2_000, 3_072, 600
-MOST_BYTES = 2_050_000  # of 100,000 records, without texts and files
+from page_bounds import MOST, MOST_BYTES, RECORDS, REST, most_bytes
+
 RESULT_BITS = {1, 2, 4, 8, 16, 32}
 STATE_BITS = {0, 1, 2, 4, 8}
 MEMBERS = {
@@ -121,7 +121,7 @@ class Data:
         for name, words in [("tables", "none started adopted untold"), ("mode", "absent active passive disabled untold")]:
             band = self.run[name]
             self.places(band, name)
-            self.expect(len(band) <= MOST_BAND, f"{name} has {len(band)} entries")
+            self.expect(len(band) <= MOST["bands"], f"{name} has {len(band)} entries")
             self.expect(bool(band) == bool(self.records) and (not band or band[0][0] == self.first), f"{name} doesn't begin at the first record")
             self.expect(all(entry[-1] in words.split() for entry in band), f"{name} has another word")
             self.expect(all(entry[-1] != "untold" for entry in band[:-1]), f"{name}: untold isn't the last")
@@ -139,7 +139,7 @@ class Data:
                 parts += len(met)
                 self.expect(record <= request["record"] and len(met) == len(rule["comparisons"]), f"samples of packet {request['packet']}")
             self.expect(len(request["samples"]) <= min(6, request["counted"]), f"packet {request['packet']} has {len(request['samples'])} samples")
-        self.expect(parts <= MOST_PARTS, f"{parts} parts")
+        self.expect(parts <= MOST["parts"], f"{parts} parts")
         self.places([[each["record"], each["time"]] for each in run["requests"]], "requests")
         self.places([event[1:3] for event in run["events"]], "events")
         self.places(run["commands"], "commands")
@@ -148,20 +148,27 @@ class Data:
         self.expect(len(packets) == len(set(packets)), "two with one packet")
         events = sum(run["figures"][level] for level in ["critical", "error", "info", "debug"])
         commands = run["figures"]["commands"] + run["figures"]["files"]
-        bounds = [("requests", run["figures"]["requests"], MOST_REQUESTS), ("events", events, MOST_EVENTS), ("commands", commands, MOST_COMMANDS)]
+        bounds = [("requests", run["figures"]["requests"], MOST["requests"]), ("events", events, MOST["events"]), ("commands", commands, MOST["commands"])]
         for name, all_, most in bounds:
             left = run[f"{name}_left_out"]
             self.expect(len(run[name]) <= most, f"{len(run[name])} {name}")
             self.expect(len(run[name]) + (left[0] if left else 0) == all_, f"{name} and those left out aren't all")
 
     def size(self):
+        """No list has more entries, and none has more bytes, than the longest page of so many records."""
         run = self.run
         lists = run["lanes"] + [field["values"] for field in run["fields"]]
         entries = sum(map(len, lists))
-        self.expect(entries <= max(MOST_ENTRIES, 2 * len(lists)), f"{entries} entries")
-        rest = {name: run[name] for name in run if name not in ["texts", "files"]}
-        bytes_ = len(json.dumps(rest, separators=(",", ":")))
-        self.expect(bytes_ < MOST_BYTES or self.records > 100_000, f"{bytes_:,} bytes")
+        self.expect(entries <= max(MOST["entries"], 2 * len(lists)), f"{entries} entries")
+        if self.records > RECORDS or len(run["texts"]) > 1:
+            return
+        most = most_bytes()
+        parts = {"entries": lists, "bands": [run["tables"], run["mode"]], **{name: run[name] for name in ["requests", "events", "commands"]}}
+        for name, part in parts.items():
+            size = len(json.dumps(part, separators=(",", ":")).replace("<", "\\u003c"))
+            self.expect(size <= most[name] + REST, f"{size:,} bytes of {name}, at most {most[name]:,} are allowed")
+        size = len(self.text) + most["script"]
+        self.expect(size <= MOST_BYTES, f"a page of {size:,} bytes")
 
 
 def faults_of(text):

@@ -5,6 +5,7 @@ import os
 import subprocess
 import tempfile
 
+import longest_page
 from records import NO_ENTRIES
 from together_rows import SECONDS, Trial, written
 
@@ -21,6 +22,7 @@ ADOPTION = (
     "load {0}_wdt.tbl\nload {0}_adt.tbl\nvalidate LC.LC_WDT\nvalidate LC.LC_ADT\nhousekeeping\n"
     "activate LC.LC_WDT\nactivate LC.LC_ADT\nhousekeeping\nafter 1\n"
 )
+PASS = "fields 0883 0 16 u16be 12 2400\nsample 65535 65535 keep\nafter 1\n"
 FAILURE = "fields 0883 0 16 u16be 12 1999\nsample 65535 65535 keep\nafter 1\n"
 
 
@@ -50,12 +52,60 @@ def whole(wanted):
     return None, wanted
 
 
+def contents_of(page):
+    """What a page says of its records, with times since second 0."""
+
+    def since(entry, *places):
+        return [what + page["start"] if number in places and what is not None else what for number, what in enumerate(entry)]
+
+    def samples(request):
+        return [[*since(sample[:2], 1), [since(met, 2) for met in sample[2]]] for sample in request["samples"]]
+
+    lists = [*page["lanes"], *(field["values"] for field in page["fields"]), page["tables"], page["mode"]]
+    return {
+        "figures": list(page["figures"].values()) + [field["packets"] for field in page["fields"]],
+        "changes": [[since(entry, 1) for entry in each] for each in lists],
+        "items": [
+            *({**each, "time": each["time"] + page["start"], "samples": samples(each)} for each in page["requests"]),
+            *(since(event, 2) for event in page["events"]),
+            *(since(command, 1) for command in page["commands"]),
+        ],
+    }
+
+
+def without_repetitions(entries):
+    """Changes, without those that say what the one before says: a part begins with what holds there."""
+    return [entry for number, entry in enumerate(entries) if not number or entry[2:] != entries[number - 1][2:]]
+
+
+def parts_add_up(script, texts, seconds):
+    """The pages of the parts between these seconds say, one behind the other, what the page of the whole run says."""
+    options = [[], ["--until", seconds[0]], *(["--from", one, "--until", two] for one, two in zip(seconds, seconds[1:])), ["--from", seconds[-1]]]
+
+    def faults(programs):
+        with tempfile.TemporaryDirectory(prefix="try-programs-") as place:
+            pages = [page_data(place, programs["flight_tools"], script, texts, words) for words in options]
+        whole, *parts = map(contents_of, pages)
+        before = [[sum(page["figures"][name] for page in pages[1 : number + 1]) for name in ("records", "packets")] for number in range(len(parts))]
+        compared = {
+            "figures": ([sum(each) for each in zip(*(part["figures"] for part in parts))], whole["figures"]),
+            "changes": ([without_repetitions(sum(each, [])) for each in zip(*(part["changes"] for part in parts))], whole["changes"]),
+            "items": (sorted(sum((part["items"] for part in parts), []), key=str), sorted(whole["items"], key=str)),
+            "what is before": ([[page["window"][name] for name in ("records", "packets")] for page in pages[1:]], before),
+        }
+        return [f"{name} of the parts are {found} and should be {wanted}" for name, (found, wanted) in compared.items() if found != wanted]
+
+    return faults
+
+
 def those(members, wanted):
     """These members of each request."""
     return lambda requests: [[request[name] for name in members.split()] for request in requests], wanted
 
 
+BACK_IN_TIME = START + "at 102 0\ntick\nat 99 0\ntick\nat 104 0\ntick\nat 101 0\ntick\n"
 ADOPTED_BACK = START + "filter LC 2 65535\nwdt 1 /cf/b_wdt.tbl\nadt 1 /cf/b_adt.tbl\n" + ADOPTION.format("/cf/b") + ADOPTION.format("/cf/lc_def")
+MANY_TURNS = ADOPTED_BACK + 3 * FAILURE + 2 * PASS + "stop LC\nafter 1\nstart LC\n" + 2 * FAILURE
 WHY = "record rule text sequence event held counted"
 
 TRIALS = [
@@ -103,6 +153,24 @@ TRIALS = [
             },
         ),
     ),
+    Trial(
+        "a part begins and ends at the first record of its times, also where times go back",
+        shown(
+            BACK_IN_TIME,
+            ["rules"],
+            {
+                "window": whole({"from": 6619136, "until": 6750208, "records": 3, "packets": 4}),
+                "figures": (lambda figures: figures["records"], 2),
+                "ordered": whole(False),
+                "start": whole(6684672),
+                "end": whole(-196608),
+                "tables": whole([[4, 0, 0, "started"]]),
+            },
+            ["--from", "101", "--until", "103"],
+        ),
+    ),
+    Trial("parts of a run add up to it", parts_add_up(MANY_TURNS, ["rules", "other"], ["101", "103", "104.5", "106"])),
+    Trial("the longest page", longest_page.longest_page),
     *(
         Trial(f"a page {title}", shown(START + 3 * FAILURE, ["rules"], expected, options))
         for title, options, expected in (
@@ -117,7 +185,9 @@ TRIALS = [
                     "tables": whole([[6, 0, 0, "started"]]),
                     "mode": whole([[6, 0, "active"]]),
                     "fields": (lambda fields: [[field["packets"], field["last"], field["values"]] for field in fields], [[1, [6, 0], [[6, 0, 1999]]]]),
-                    "requests": those(WHY, [[7, 0, 0, 7, 6, None, 2]]),
+                    "requests": those(
+                        WHY + " samples", [[7, 0, 0, 7, 6, None, 2, [[5, -65536, [[1999, 4, -65536, "true"]]], [7, 0, [[1999, 6, 0, "true"]]]]]]
+                    ),
                     "commands": (lambda commands: [command[:2] for command in commands], [[7, 0]]),
                 },
             ),
