@@ -7,19 +7,23 @@ ghost use Rattle.std.specs.declared.alloc.Global.{Global as Heap};
 ghost use Rattle.c_interface.specs.declared.handle.Fed.{Fed as FedValue};
 ghost use Rattle.c_interface.specs.Held.{held, fed_row};
 
+use crate::lasting::{LastingBox, Place};
 use crate::loose::Loose;
 use flight_core::FedHost;
-use flight_profile::Member;
 use std::alloc::Global;
 use std::marker::Model;
 use std::mem::replace;
 use std::ptr::null_mut;
 
-/// What a handle holds: a host, and room for what one record leads to.
+/// What a handle holds: a host, room for what one record leads to, and how many bytes were written.
 #[derive(Drop)]
 pub struct Fed {
-    pub(crate) host: FedHost<Box<Member>>,
+    pub(crate) host: FedHost<LastingBox>,
     pub(crate) room: Vec<u8>,
+    /// The boxes of the applications that the host has dropped.
+    pub(crate) places: Vec<Place>,
+    /// Up to 2^64 - 1.
+    pub(crate) written: u64,
 }
 
 /// A pointer to a host that a program in C was given, or null. The handle owns what it points to.

@@ -1,0 +1,88 @@
+//! Boxes of applications whose memory lasts until their host is closed, whenever the host drops them.
+
+ghost use Rattle.std.specs.Prelude.{◌≡◌, IfOk};
+ghost use Rattle.app_host.specs.Hosted.{objects_in};
+ghost use Rattle.flight_profile.specs.Members.{meaning_of};
+ghost use Rattle.c_interface.specs.Lasting.{lasting_meaning};
+
+use app_host::{App, Services};
+use flight_profile::{HasEngine, Member};
+use lc_model::Seat;
+use limit_engine::Engine;
+use std::alloc::{AllocError, Global};
+use std::cell::Cell;
+use std::rc::Rc;
+
+/// Where one box goes when the host drops it.
+#[derive(Drop)]
+pub(crate) struct Place {
+    box_of: Rc<Cell<Option<Box<Member>>>>,
+}
+
+impl Place {
+    /// Creates a place with nothing in it, and its two holders. Out of memory is the only error.
+    fn pair(alloc: Global) -> Result<(Place, Place), AllocError> {
+        let box_of = Rc::new(alloc, Cell::new(None))?;
+        let other = box_of.clone()?;
+        Ok((Place { box_of }, Place { box_of: other }))
+    }
+}
+
+/// An application in a box. Where it is dropped, the box with all its memory goes to its place, and is dropped with the place.
+pub struct LastingBox {
+    app: Box<Member>,
+    place: Place,
+}
+
+impl Drop for LastingBox {
+    fn drop(self) {
+        let LastingBox { app, place } = self;
+        place.box_of.set(Some(app));
+    }
+}
+
+impl App for LastingBox {
+    ghost use Rattle.c_interface.specs.Lasting.{lasting_meaning};
+
+    ghost meaning = { lasting_meaning };
+
+    fn name(&self) -> &[u8] {
+        self.app.name()
+    }
+
+    fn start(&mut self, seat: Seat, services: &mut Services) {
+        self.app.start(seat, services);
+    }
+
+    fn on_packet(&mut self, services: &mut Services, packet: &[u8]) {
+        self.app.on_packet(services, packet);
+    }
+
+    fn retire(&mut self, services: &mut Services) {
+        self.app.retire(services);
+    }
+}
+
+impl HasEngine for LastingBox {
+    fn engine(&self) -> Option<&Engine> {
+        self.app.engine()
+    }
+}
+
+/// Lets the memory of each box of a stock last as long as the places that are returned. Out of memory is the only error.
+pub(crate) fn lasting_stock(
+    alloc: Global,
+    stock: Vec<Box<Member>>,
+) -> Result<(Vec<LastingBox>, Vec<Place>), AllocError>
+    ensures { IfOk result (λ both. objects_in lasting_meaning both.0.items ≡
+        objects_in meaning_of stock.items) }
+{
+    let mut boxes = Vec::with_capacity(alloc, stock.len())?;
+    let mut places = Vec::with_capacity(alloc, stock.len())?;
+    for app in stock {
+        let (place, other) = Place::pair(alloc)?;
+        places.push(other)?;
+        boxes.push(LastingBox { app, place })?;
+    }
+    Ok((boxes, places))
+}
