@@ -11,9 +11,6 @@ use flight_profile::{engine_on, text_in_force};
 use lc_model::ApResult;
 use limit_engine::Engine;
 
-/// The version of the library: 1,000,000 times its first part, 1,000 times its second, and its third.
-pub const VERSION: u32 = 10_000;
-
 /// The code if no Limit Checker runs.
 pub const NO_CHECKER: u32 = 245;
 
@@ -121,7 +118,7 @@ fn number_of(text: Option<usize>) -> u64
 }
 
 /// The figures of a host.
-fn figures(fed: &Fed) -> Figures
+fn figures_in(fed: &Fed) -> Figures
     requires { IsFed fed.now }
     ensures { result ≡ figures_of fed.now }
 {
@@ -141,5 +138,5 @@ pub fn tell_figures(handle: &mut Handle, told: &mut Figures)
     ensures told { IsSomeAnd handle.old.value (λ fed. told.new ≡ figures_of fed) }
     ensures same { handle.new.value ≡ handle.old.value }
 {
-    *told = figures(handle.lend());
+    *told = figures_in(handle.lend());
 }
