@@ -7,7 +7,7 @@ use Rattle.app_host.specs.Delivered.{executive_in}
 use Rattle.flight_core.specs.Records.{most_counted}
 use Rattle.flight_profile.specs.Checkers.{engine_among}
 use Rattle.flight_profile.specs.Force.{text_in_force}
-use Rattle.c_interface.specs.declared.asking.Rule.{Rule}
+use Rattle.c_interface.specs.declared.asking.RuleReading.{RuleReading}
 use Rattle.c_interface.specs.declared.asking.Figures.{Figures}
 use Rattle.c_interface.specs.declared.handle.Fed.{Fed}
 use Rattle.c_interface.specs.Feeding.{host_in}
@@ -26,20 +26,20 @@ engine_in fed = engine_among (host_in fed).host.seats
 -- ---- a rule
 
 -- what is told of a rule with this state and these counts
-abbrev pub rule_told : Point Tally → Rule
+abbrev pub rule_told : Point Tally → RuleReading
 rule_told point = record { state = state_code point.state; result = result_code point.past.last; fails = point.past.run; quiet = point.past.quiet }
 
-abbrev pub told_or_none : Option (Point Tally) → Result Rule ℕ
+abbrev pub told_or_none : Option (Point Tally) → Result RuleReading ℕ
 told_or_none None = Err no_rule
 told_or_none (Some point) = Ok (rule_told point)
 
 -- of the rule with this number, from 0; or the code of the refusal
-abbrev pub rule_in : Option LcOwn → ℕ → Result Rule ℕ
+abbrev pub rule_in : Option LcOwn → ℕ → Result RuleReading ℕ
 rule_in None number = Err no_checker
 rule_in (Some own) number = told_or_none (slice_get own.points number)
 
 -- a rule is told, with code 0, or its refusal is returned and nothing is written
-abbrev pub TellsRule : Result Rule ℕ → (old new : Rule) (code : ℕ) → Type 0
+abbrev pub TellsRule : Result RuleReading ℕ → (old new : RuleReading) (code : ℕ) → Type 0
 TellsRule (Ok rule) old new code = (new ≡ rule) × (code ≡ 0)
 TellsRule (Err why) old new code = (new ≡ old) × (code ≡ why)
 

@@ -23,7 +23,7 @@ pub const NO_TEXT: u64 = u64::MAX;
 /// How a rule stands, as C sees it.
 #[repr(C)]
 #[derive(Clone, Copy)]
-pub struct Rule {
+pub struct RuleReading {
     /// Active (1), passive (2), disabled (3), off for good (4).
     pub state: u8,
     /// The last result: none yet (0), pass (1), fail (2), stale (3), error (4).
@@ -51,13 +51,13 @@ pub struct Figures {
 }
 
 /// How the rule with this number stands.
-fn rule_at(engine: &Engine, number: usize) -> Rule
+fn rule_at(engine: &Engine, number: usize) -> RuleReading
     requires { number < length engine.now.points }
     ensures { option_map (λ (point : Point Tally). rule_told point)
         (slice_get engine.now.points number) ≡ Some result }
 {
     let standing = engine.standing(number);
-    Rule {
+    RuleReading {
         state: standing.state.code(),
         result: ApResult::last_code(standing.last),
         fails: engine.fails_in_a_row(number),
@@ -66,7 +66,7 @@ fn rule_at(engine: &Engine, number: usize) -> Rule
 }
 
 /// How the rule with this number stands; or the code of the refusal.
-fn rule_of(fed: &Fed, number: u16) -> Result<Rule, u32>
+fn rule_of(fed: &Fed, number: u16) -> Result<RuleReading, u32>
     requires { IsFed fed.now }
     ensures { result ≡ rule_in (engine_in fed.now) number }
 {
@@ -81,7 +81,7 @@ fn rule_of(fed: &Fed, number: u16) -> Result<Rule, u32>
 
 /// Tells how the rule with this number stands, and returns 0; or returns `NO_CHECKER` or `NO_RULE`, and writes nothing.
 /// Condition: the handle holds a host.
-pub fn tell_rule(handle: &mut Handle, rule: u16, told: &mut Rule) -> u32
+pub fn tell_rule(handle: &mut Handle, rule: u16, told: &mut RuleReading) -> u32
     requires there { IsSomeAnd handle.old.value IsFed }
     ensures told { IsSomeAnd handle.old.value (λ fed.
         TellsRule (rule_in (engine_in fed) rule) told.old told.new result) }

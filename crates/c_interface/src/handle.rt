@@ -7,7 +7,7 @@ ghost use Rattle.std.specs.declared.alloc.Global.{Global as Heap};
 ghost use Rattle.c_interface.specs.declared.handle.Fed.{Fed as FedValue};
 ghost use Rattle.c_interface.specs.Held.{held, fed_row};
 
-use crate::lasting::{LastingBox, Place};
+use crate::lasting::{BoxPlace, LastingBox};
 use crate::loose::Loose;
 use flight_core::FedHost;
 use std::alloc::Global;
@@ -21,7 +21,7 @@ pub struct Fed {
     pub(crate) host: FedHost<LastingBox>,
     pub(crate) room: Vec<u8>,
     /// The boxes of the applications that the host has dropped.
-    pub(crate) places: Vec<Place>,
+    pub(crate) places: Vec<BoxPlace>,
     /// Up to 2^64 - 1.
     pub(crate) written: u64,
 }

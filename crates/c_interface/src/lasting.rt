@@ -15,23 +15,23 @@ use std::rc::Rc;
 
 /// Where one box goes when the host drops it.
 #[derive(Drop)]
-pub(crate) struct Place {
+pub(crate) struct BoxPlace {
     box_of: Rc<Cell<Option<Box<Member>>>>,
 }
 
-impl Place {
+impl BoxPlace {
     /// Creates a place with nothing in it, and its two holders. Out of memory is the only error.
-    fn pair(alloc: Global) -> Result<(Place, Place), AllocError> {
+    fn pair(alloc: Global) -> Result<(BoxPlace, BoxPlace), AllocError> {
         let box_of = Rc::new(alloc, Cell::new(None))?;
         let other = box_of.clone()?;
-        Ok((Place { box_of }, Place { box_of: other }))
+        Ok((BoxPlace { box_of }, BoxPlace { box_of: other }))
     }
 }
 
 /// An application in a box. Where it is dropped, the box with all its memory goes to its place, and is dropped with the place.
 pub struct LastingBox {
     app: Box<Member>,
-    place: Place,
+    place: BoxPlace,
 }
 
 impl Drop for LastingBox {
@@ -73,14 +73,14 @@ impl HasEngine for LastingBox {
 pub(crate) fn lasting_stock(
     alloc: Global,
     stock: Vec<Box<Member>>,
-) -> Result<(Vec<LastingBox>, Vec<Place>), AllocError>
+) -> Result<(Vec<LastingBox>, Vec<BoxPlace>), AllocError>
     ensures { IfOk result (λ both. objects_in lasting_meaning both.0.items ≡
         objects_in meaning_of stock.items) }
 {
     let mut boxes = Vec::with_capacity(alloc, stock.len())?;
     let mut places = Vec::with_capacity(alloc, stock.len())?;
     for app in stock {
-        let (place, other) = Place::pair(alloc)?;
+        let (place, other) = BoxPlace::pair(alloc)?;
         places.push(other)?;
         boxes.push(LastingBox { app, place })?;
     }

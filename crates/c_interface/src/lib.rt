@@ -18,7 +18,7 @@ mod sentence;
 mod stream;
 mod texts;
 
-pub use asking::{Figures, Rule, tell_figures, tell_rule};
+pub use asking::{Figures, RuleReading, tell_figures, tell_rule};
 pub use compiling::{ADT, Compiled, WDT, compile_files};
 pub use feeding::{Handled, Made, close_host, feed_host, make_host};
 pub use handle::Handle;

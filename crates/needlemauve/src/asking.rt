@@ -4,7 +4,7 @@ ghost use Rattle.std.specs.Prelude.{◌≡◌, IsSomeAnd};
 ghost use Rattle.c_interface.specs.Asking.{TellsRule, engine_in, figures_of, rule_in};
 ghost use Rattle.c_interface.specs.Feeding.{IsFed};
 
-use c_interface::{Figures, Handle, Rule, tell_figures, tell_rule};
+use c_interface::{Figures, Handle, RuleReading, tell_figures, tell_rule};
 
 /// Its first part times 1,000,000, its second times 1,000, and its third.
 const VERSION: u32 = 10_000;
@@ -20,7 +20,7 @@ pub extern "C" fn needlemauve_version() -> u32
 /// Tells how the rule with this number stands, and returns 0; or returns 245 (no Limit Checker runs) or 246 (no such rule), and
 /// writes nothing. Condition: the handle holds a host.
 #[unsafe(no_mangle)]
-pub extern "C" fn needlemauve_host_rule(host: &mut Handle, rule: u16, told: &mut Rule) -> u32
+pub extern "C" fn needlemauve_host_rule(host: &mut Handle, rule: u16, told: &mut RuleReading) -> u32
     requires there { IsSomeAnd host.old.value IsFed }
     ensures told { IsSomeAnd host.old.value (λ fed.
         TellsRule (rule_in (engine_in fed) rule) told.old told.new result) }
