@@ -20,21 +20,19 @@ pub extern "C" fn needlemauve_version() -> u32
 /// Tells how the rule with this number stands, and returns 0; or returns 245 (no Limit Checker runs) or 246 (no such rule), and
 /// writes nothing. Condition: the handle holds a host.
 #[unsafe(no_mangle)]
-pub extern "C" fn needlemauve_host_rule(host: &mut Handle, rule: u16, told: &mut RuleReading) -> u32
-    requires there { IsSomeAnd host.old.value IsFed }
-    ensures told { IsSomeAnd host.old.value (λ fed.
+pub extern "C" fn needlemauve_host_rule(host: &Handle, rule: u16, told: &mut RuleReading) -> u32
+    requires { IsSomeAnd host.now.value IsFed }
+    ensures { IsSomeAnd host.now.value (λ fed.
         TellsRule (rule_in (engine_in fed) rule) told.old told.new result) }
-    ensures same { host.new.value ≡ host.old.value }
 {
     tell_rule(host, rule, told)
 }
 
 /// Tells the figures of a host, and returns 0. Condition: the handle holds a host.
 #[unsafe(no_mangle)]
-pub extern "C" fn needlemauve_host_figures(host: &mut Handle, told: &mut Figures) -> u32
-    requires there { IsSomeAnd host.old.value IsFed }
-    ensures told { IsSomeAnd host.old.value (λ fed. told.new ≡ figures_of fed) }
-    ensures same { host.new.value ≡ host.old.value }
+pub extern "C" fn needlemauve_host_figures(host: &Handle, told: &mut Figures) -> u32
+    requires { IsSomeAnd host.now.value IsFed }
+    ensures told { IsSomeAnd host.now.value (λ fed. told.new ≡ figures_of fed) }
     ensures answered { result ≡ 0 }
 {
     tell_figures(host, told);
