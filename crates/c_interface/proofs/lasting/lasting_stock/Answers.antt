@@ -8,6 +8,7 @@ loop-app-preserved c =
     let steps = c.in-Some.ensures.steps in
     let fewer = ap length steps.0 in
     let as_many = c.loop-app.invariant.0 in
-    let less = steps.1 in
-    (omega (arith, fewer, as_many, less),
-     one_more c.loop-app.boxes.items _ _ _ _ _ c.in_ok-push-2.ensures.items steps.0 c.loop-app.invariant.1)
+    let less = steps.1 in (
+      omega (arith, fewer, as_many, less),
+      one_more c.loop-app.boxes.items _ _ _ _ _ c.in_ok-push-2.ensures.items steps.0 c.loop-app.invariant.1,
+    )
