@@ -16,13 +16,12 @@ ghost use Rattle.c_interface.specs.Texts.{texts_in};
 use crate::ending::{UNFIT, ending_in_numbers, no_schedule, not_run};
 use crate::error_sentences::{of_lengths, of_no_memory, of_run, of_schedule};
 use crate::handle::{Fed, Handle, handle_of, take_fed};
-use crate::lasting::{LastingBox, lasting_stock};
+use crate::lasting::{LastingBox, own_lasting_stock};
 use crate::refusal::{NO_MEMORY, Refusal, none};
 use crate::room::{Room, Size};
 use crate::sentence::Sentence;
 use crate::texts::{are_lengths, texts_in};
 use flight_core::{FedHost, Halt, RunError};
-use flight_profile::own_stock;
 use schedules::{Schedule, parse_schedule};
 use std::alloc::Global;
 use std::marker::Brand;
@@ -70,7 +69,7 @@ fn fed_of(
     ensures ready { IfOk result (λ fed. IsFed fed.value) }
     ensures refused { IfErr result (IsNotCompiled (sources_of texts.now)) }
 {
-    let (stock, places) = lasting_stock(alloc, own_stock(alloc, schedule)?)?;
+    let (stock, places) = own_lasting_stock(alloc, schedule)?;
     let host = FedHost::new(alloc, texts, stock)?;
     let Ok(room) = Vec::from_elem(alloc, 0u8, size) else {
         return Err(RunError::Memory);

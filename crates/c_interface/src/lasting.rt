@@ -2,13 +2,17 @@
 
 ghost use Rattle.std.specs.Prelude.{◌≡◌, IfOk};
 ghost use Rattle.app_host.specs.Hosted.{objects_in};
+ghost use Rattle.app_host.specs.Whole.{AreSpares};
+ghost use Rattle.flight_core.specs.Run.{IsOfProfile};
 ghost use Rattle.flight_profile.specs.Members.{meaning_of};
+ghost use Rattle.flight_profile.specs.Stock.{names_of, own_names};
 ghost use Rattle.c_interface.specs.Lasting.{lasting_meaning};
 
 use app_host::{App, Services};
-use flight_profile::{HasEngine, Member};
+use flight_profile::{HasEngine, Member, own_stock};
 use lc_model::Seat;
 use limit_engine::Engine;
+use schedules::Schedule;
 use std::alloc::{AllocError, Global};
 use std::cell::Cell;
 use std::rc::Rc;
@@ -70,7 +74,7 @@ impl HasEngine for LastingBox {
 }
 
 /// Lets the memory of each box of a stock last as long as the places that are returned. Out of memory is the only error.
-pub(crate) fn lasting_stock(
+fn lasting_stock(
     alloc: Global,
     stock: Vec<Box<Member>>,
 ) -> Result<(Vec<LastingBox>, Vec<BoxPlace>), AllocError>
@@ -85,4 +89,21 @@ pub(crate) fn lasting_stock(
         boxes.push(LastingBox { app, place })?;
     }
     Ok((boxes, places))
+}
+
+/// The stock of this profile, in boxes whose memory lasts as long as the places that are returned. Out of memory is the only error.
+pub(crate) fn own_lasting_stock(
+    alloc: Global,
+    schedule: &Schedule,
+) -> Result<(Vec<LastingBox>, Vec<BoxPlace>), AllocError>
+    ensures spares { IfOk result
+        (λ both. AreSpares (objects_in lasting_meaning both.0.items)) }
+    ensures profile { IfOk result
+        (λ both. IsOfProfile schedule.now (objects_in lasting_meaning both.0.items)) }
+    ensures names { IfOk result
+        (λ both. names_of (objects_in lasting_meaning both.0.items) ≡ own_names) }
+{
+    let stock = own_stock(alloc, schedule)?;
+    let both = lasting_stock(alloc, stock)?;
+    Ok(both)
 }
