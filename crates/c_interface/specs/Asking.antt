@@ -1,5 +1,5 @@
 -- What a program in C is told of a host. This project's own.
-use Rattle.std.specs.Prelude.{◌≡◌, ℕ, List, length, slice_get, Option, Some, None, Result, Ok, Err}
+use Rattle.std.specs.Prelude.{◌≡◌, ℕ, length, slice_get, Option, Some, None, Result, Ok, Err}
 use Rattle.lc_model.specs.Codes.{mode_code, result_code, state_code}
 use Rattle.lc_model.specs.Kept.Summary.{LcOwn, Tally}
 use Rattle.lc_model.specs.LimitChecker.Steps.{Point}

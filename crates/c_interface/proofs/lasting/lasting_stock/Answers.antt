@@ -1,6 +1,6 @@
 use Rattle.std.proofs.Common.{◌≡◌, rules, sym, ap, ◌∙◌, length, arith}
 use Rattle.std.specs.Vec.Iter.{into_iter_items, into_iter_len}
-use Rattle.c_interface.proofs.Lasting.{none_left, one_more}
+use Rattle.c_interface.proofs.Boxes.{none_left, one_more}
 use Rattle.c_interface.proofs.lasting.lasting_stock.Goals as goal
 
 pub loop-app-preserved : goal.loop-app-preserved
