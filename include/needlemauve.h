@@ -9,11 +9,12 @@
  * Processors. The archives for x86-64 run on every processor of that kind: they use SSE2 and nothing that came after it. Those for
  * aarch64 run on every ARMv8-A. There is none for a processor of 32 bits.
  *
- * Who owns what. All memory that a call is given stays the caller's. A call reads and writes it while it runs and keeps no
- * pointer to it afterwards; it gives back what it took by memory.c before it returns. There is one exception: a host that was
- * made holds memory of its own, all of which needlemauve_host_new takes and needlemauve_host_close gives back; feeding takes
- * none and gives none back, whichever applications stop. There is no other state between calls: calls may run in several threads at the same time, each with arguments of its own
- * (where memory.c's functions may), and one host in one thread at a time. None may be made from a signal handler.
+ * Who owns what. All memory that a call is given stays the caller's. A call reads and writes it while it runs and keeps no pointer
+ * to it afterwards; it gives back what it took by memory.c before it returns. There is one exception: a host that was made holds
+ * memory of its own, all of which needlemauve_host_new takes and needlemauve_host_close gives back; feeding takes none and gives
+ * none back, whichever applications stop. There is no other state between calls: calls may run in several threads at the same time,
+ * each with arguments of its own (where memory.c's functions may), and one host in one thread at a time. None may be made from a
+ * signal handler.
  *
  * What a call needs. Bytes may lie anywhere; lengths and the structures below lie as their types are aligned. What a call
  * writes to (`told`, `wdt`, `adt`, `output`) overlaps nothing else that the call is given. Bytes of length 0 may be NULL.
