@@ -9,11 +9,12 @@
  * Processors. The archives for x86-64 run on every processor of that kind: they use SSE2 and nothing that came after it. Those for
  * aarch64 run on every ARMv8-A. There is none for a processor of 32 bits.
  *
- * Who owns what. All memory that a call is given stays the caller's. A call reads and writes it while it runs and keeps no
- * pointer to it afterwards; it gives back what it took by memory.c before it returns. There is one exception: a host that was
- * made holds memory of its own, all of which needlemauve_host_new takes and needlemauve_host_close gives back; feeding takes
- * none. There is no other state between calls: calls may run in several threads at the same time, each with arguments of its own
- * (where memory.c's functions may), and one host in one thread at a time. None may be made from a signal handler.
+ * Who owns what. All memory that a call is given stays the caller's. A call reads and writes it while it runs and keeps no pointer
+ * to it afterwards; it gives back what it took by memory.c before it returns. There is one exception: a host that was made holds
+ * memory of its own, all of which needlemauve_host_new takes and needlemauve_host_close gives back; feeding takes none and gives
+ * none back, whichever applications stop. There is no other state between calls: calls may run in several threads at the same time,
+ * each with arguments of its own (where memory.c's functions may), and one host in one thread at a time. None may be made from a
+ * signal handler.
  *
  * What a call needs. Bytes may lie anywhere; lengths and the structures below lie as their types are aligned. What a call
  * writes to (`told`, `wdt`, `adt`, `output`) overlaps nothing else that the call is given. Bytes of length 0 may be NULL.
@@ -51,9 +52,11 @@ extern "C" {
 #define NEEDLEMAUVE_WATCHPOINTS 1u
 #define NEEDLEMAUVE_ACTIONPOINTS 2u
 
-/* The codes that calls return. 0: done. Below 247: the refusals of docs/RULES.md and docs/FORMATS.md, by their
+/* The codes that calls return. 0: done. Below 245: the refusals of docs/RULES.md and docs/FORMATS.md, by their
  * numbers. */
 #define NEEDLEMAUVE_DONE 0u
+#define NEEDLEMAUVE_NO_CHECKER 245u /* no Limit Checker runs */
+#define NEEDLEMAUVE_NO_RULE 246u   /* the tables in force have no rule of that number */
 #define NEEDLEMAUVE_HAS_HOST 247u  /* the handle holds a host already */
 #define NEEDLEMAUVE_NO_HOST 248u   /* the handle holds no host */
 #define NEEDLEMAUVE_SMALL 249u     /* the output is smaller than the host's room */
@@ -127,6 +130,26 @@ struct needlemauve_handled {
   uint64_t written;
 };
 
+/* How a rule stands. state: active (1), passive (2), disabled (3), off for good (4). result: the last one, pass (1), fail (2),
+ * stale (3), error (4), or none yet (0). fails: failures in a row. quiet: samples while the rule was passive with enough failures in
+ * a row to request its sequence. Both count up to 65,535. */
+struct needlemauve_rule {
+  uint8_t state, result;
+  uint16_t fails, quiet;
+};
+
+/* The figures of a host: the records that were handled and the bytes that were written; the number of the rule text in force, from
+ * 0, or NEEDLEMAUVE_NO_TEXT; the mode of its Limit Checker, active (1), passive (2), disabled (3), or 0 if none runs; and how many
+ * rules are in force. */
+#define NEEDLEMAUVE_NO_TEXT UINT64_MAX
+struct needlemauve_figures {
+  uint64_t records, written, text;
+  uint32_t mode, rules;
+};
+
+/* The version of the archive, as NEEDLEMAUVE_VERSION_NUMBER is that of this header. */
+uint32_t needlemauve_version(void);
+
 /* Judges a table file as the host does on board, and returns told->code. */
 uint32_t needlemauve_validate(uint32_t kind, const uint8_t *file, size_t length, struct needlemauve_verdict *told);
 
@@ -160,6 +183,13 @@ uint32_t needlemauve_host_new(const uint8_t *texts, size_t size, const size_t *l
  * no record any more. */
 uint32_t needlemauve_host_feed(struct needlemauve_host *host, const uint8_t *bytes, size_t length, uint8_t *output, size_t size,
                                struct needlemauve_handled *told);
+
+/* How the rule with this number, from 0, stands at the Limit Checker that runs (of several the one on the lowest seat). Returns 0;
+ * or NEEDLEMAUVE_NO_CHECKER or NEEDLEMAUVE_NO_RULE, and writes nothing. */
+uint32_t needlemauve_host_rule(const struct needlemauve_host *host, uint16_t rule, struct needlemauve_rule *told);
+
+/* The figures of a host, after the records so far. Returns 0. */
+uint32_t needlemauve_host_figures(const struct needlemauve_host *host, struct needlemauve_figures *told);
 
 /* Closes a host: all applications retire, and all its memory is given back. The handle holds nothing afterwards. */
 void needlemauve_host_close(struct needlemauve_host *host);
@@ -321,6 +351,25 @@ static inline uint32_t needlemauve_host_feed_tested(struct needlemauve_host *hos
   return code;
 }
 
+static inline uint32_t needlemauve_unfit_to_ask(const struct needlemauve_host *host, const void *told)
+{
+  if (host == NULL || told == NULL) return NEEDLEMAUVE_NULL;
+  return host->at == NULL ? NEEDLEMAUVE_NO_HOST : NEEDLEMAUVE_DONE;
+}
+
+static inline uint32_t needlemauve_host_rule_tested(const struct needlemauve_host *host, uint16_t rule,
+                                                    struct needlemauve_rule *told)
+{
+  uint32_t code = needlemauve_unfit_to_ask(host, told);
+  return code == NEEDLEMAUVE_DONE ? needlemauve_host_rule(host, rule, told) : code;
+}
+
+static inline uint32_t needlemauve_host_figures_tested(const struct needlemauve_host *host, struct needlemauve_figures *told)
+{
+  uint32_t code = needlemauve_unfit_to_ask(host, told);
+  return code == NEEDLEMAUVE_DONE ? needlemauve_host_figures(host, told) : code;
+}
+
 static inline void needlemauve_host_close_tested(struct needlemauve_host *host)
 {
   if (host != NULL && host->at != NULL) needlemauve_host_close(host);
@@ -332,6 +381,8 @@ static inline void needlemauve_host_close_tested(struct needlemauve_host *host)
 #define needlemauve_run needlemauve_run_tested
 #define needlemauve_host_new needlemauve_host_new_tested
 #define needlemauve_host_feed needlemauve_host_feed_tested
+#define needlemauve_host_rule needlemauve_host_rule_tested
+#define needlemauve_host_figures needlemauve_host_figures_tested
 #define needlemauve_host_close needlemauve_host_close_tested
 
 #ifdef __cplusplus

@@ -1,5 +1,6 @@
-/* Feeds a stream of records to hosts, in pieces of several lengths, and counts the requests for memory of the calls that feed:
- * there are none. Then all that a host took is given back as it is closed. Prints what came of it.
+/* Feeds a stream of records to hosts, in pieces of several lengths, and counts the requests for memory of the calls that feed, and
+ * the blocks that they give back: there are none, whichever applications leave. Then all that a host took is given back as it is
+ * closed. Prints what came of it.
  *
  *     fed SCHEDULE STREAM RULES..
  *
@@ -57,18 +58,19 @@ static int is_read(const char *name, struct file *to)
 }
 
 /* A host is fed the whole stream in pieces of this length, and closed: how many records it handled, or -1 where a call asked for
- * memory, or where something is left. (A reload gives back what the application had that leaves.) */
+ * memory or gave some back, or where something is left. */
 static long fed_in_pieces(size_t piece, size_t *written)
 {
   struct needlemauve_host host = NEEDLEMAUVE_NOTHING_YET;
   struct needlemauve_made made;
   struct needlemauve_handled told;
-  unsigned long before;
+  unsigned long before, out;
   size_t at = 0;
   long records = 0;
   if (needlemauve_host_new(texts.bytes, texts.length, lengths, count, schedule.bytes, schedule.length, MOST, &host, &made) != 0)
     return -1;
   before = requests;
+  out = blocks;
   *written = 0;
   do {
     size_t left = stream.length - at;
@@ -77,7 +79,7 @@ static long fed_in_pieces(size_t piece, size_t *written)
     at += (size_t)told.taken;
     *written += (size_t)told.written;
   } while (told.code == 0 || (told.code == NEEDLEMAUVE_MORE && at < stream.length));
-  if (requests != before || told.code != NEEDLEMAUVE_MORE) return -1;
+  if (requests != before || blocks != out || told.code != NEEDLEMAUVE_MORE) return -1;
   needlemauve_host_close(&host);
   return blocks == 0 ? records : -1;
 }

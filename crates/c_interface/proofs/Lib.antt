@@ -6,3 +6,4 @@ pub mod Sentences
 pub mod Parted
 pub mod Values
 pub mod Silent
+pub mod Boxes

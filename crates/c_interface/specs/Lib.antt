@@ -7,4 +7,6 @@ pub mod Running
 pub mod Texts
 pub mod Held
 pub mod Lent
+pub mod Lasting
 pub mod Feeding
+pub mod Asking

@@ -5,7 +5,7 @@ ghost use Rattle.flight_core.specs.Compiled.{IsNotCompiled, sources_of};
 ghost use Rattle.flight_core.specs.Feeding.{IsReady, boxes_on, feeding_of};
 ghost use Rattle.flight_core.specs.Leaving.{LeavesForFront};
 ghost use Rattle.flight_core.specs.Records.{front_of};
-ghost use Rattle.flight_profile.specs.Members.{meaning_of};
+ghost use Rattle.c_interface.specs.Lasting.{lasting_meaning};
 ghost use Rattle.c_interface.specs.Feeding.{AreFed, Feeds, HandlesInto, IsFed, IsMade, IsStocked, IsUnmade, code_of, too_small};
 ghost use Rattle.c_interface.specs.Refusing.{unfit};
 ghost use Rattle.c_interface.specs.Running.{IsNotRun, IsUnfit, IsUnscheduled};
@@ -16,12 +16,12 @@ ghost use Rattle.c_interface.specs.Texts.{texts_in};
 use crate::ending::{UNFIT, ending_in_numbers, no_schedule, not_run};
 use crate::error_sentences::{of_lengths, of_no_memory, of_run, of_schedule};
 use crate::handle::{Fed, Handle, handle_of, take_fed};
+use crate::lasting::{LastingBox, own_lasting_stock};
 use crate::refusal::{NO_MEMORY, Refusal, none};
 use crate::room::{Room, Size};
 use crate::sentence::Sentence;
 use crate::texts::{are_lengths, texts_in};
 use flight_core::{FedHost, Halt, RunError};
-use flight_profile::{Member, own_stock};
 use schedules::{Schedule, parse_schedule};
 use std::alloc::Global;
 use std::marker::Brand;
@@ -69,12 +69,18 @@ fn fed_of(
     ensures ready { IfOk result (λ fed. IsFed fed.value) }
     ensures refused { IfErr result (IsNotCompiled (sources_of texts.now)) }
 {
-    let stock = own_stock(alloc, schedule)?;
+    let (stock, places) = own_lasting_stock(alloc, schedule)?;
     let host = FedHost::new(alloc, texts, stock)?;
     let Ok(room) = Vec::from_elem(alloc, 0u8, size) else {
         return Err(RunError::Memory);
     };
-    match Box::new(alloc, Fed { host, room }) {
+    let fed = Fed {
+        host,
+        room,
+        places,
+        written: 0,
+    };
+    match Box::new(alloc, fed) {
         Ok(fed) => Ok(fed),
         Err(_) => Err(RunError::Memory),
     }
@@ -184,19 +190,19 @@ pub fn make_host(
 /// Handles the record in front; its output goes through the room to the front of `output`. Returns what came of the record,
 /// and how many bytes were written.
 fn handle_into<S: Size>(
-    host: &mut FedHost<Box<Member>>,
+    host: &mut FedHost<LastingBox>,
     room: &mut [u8],
     output: &mut [u8],
 ) -> (Result<Option<u64>, Halt>, usize)
-    requires ready { IsReady (feeding_of meaning_of host.old) }
+    requires ready { IsReady (feeding_of lasting_meaning host.old) }
     requires room { length room.old ≡ S.size }
     requires output { S.size ≤ length output.old }
-    ensures ready { IsReady (feeding_of meaning_of host.new) }
-    ensures one { HandlesInto (feeding_of meaning_of host.old) (feeding_of meaning_of host.new)
+    ensures ready { IsReady (feeding_of lasting_meaning host.new) }
+    ensures one { HandlesInto (feeding_of lasting_meaning host.old) (feeding_of lasting_meaning host.new)
         output.new S.size result.1 result.0 }
-    ensures gone { (feeding_of meaning_of host.old).host.is_closed ≡ false →
-        LeavesForFront meaning_of (boxes_on host.old) (feeding_of meaning_of host.old).host
-        (front_of (feeding_of meaning_of host.old).held) }
+    ensures gone { (feeding_of lasting_meaning host.old).host.is_closed ≡ false →
+        LeavesForFront lasting_meaning (boxes_on host.old) (feeding_of lasting_meaning host.old).host
+        (front_of (feeding_of lasting_meaning host.old).held) }
 {
     let mut writer = Room::<S>::new(room);
     let answer = host.handle(&mut writer);
@@ -227,6 +233,7 @@ fn feed_fed(fed: &mut Fed, bytes: &[u8], output: &mut [u8]) -> Handled
     let taken = fed.host.feed(bytes) as u64;
     let room = fed.room.as_mut_slice();
     let (answer, written) = handle_into::<Brand>(&mut fed.host, room, output);
+    fed.written = fed.written.saturating_add(written as u64);
     Handled {
         code: in_number(answer),
         taken,
@@ -277,6 +284,11 @@ pub fn close_host(alloc: Global, handle: &mut Handle)
 fn close_all(fed: Box<Fed>)
     requires { IsFed fed.value }
 {
-    let Fed { host, room: _ } = Box::into_inner(fed);
+    let Fed {
+        host,
+        room: _,
+        places: _,
+        written: _,
+    } = Box::into_inner(fed);
     host.close();
 }

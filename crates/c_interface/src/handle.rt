@@ -5,21 +5,25 @@ ghost use Rattle.std.specs.Borrow.{sem};
 ghost use Rattle.std.specs.Coded.{coded_option};
 ghost use Rattle.std.specs.declared.alloc.Global.{Global as Heap};
 ghost use Rattle.c_interface.specs.declared.handle.Fed.{Fed as FedValue};
-ghost use Rattle.c_interface.specs.Held.{held, fed_row};
+ghost use Rattle.c_interface.specs.Held.{held, lent, fed_row};
 
+use crate::lasting::{BoxPlace, LastingBox};
 use crate::loose::Loose;
 use flight_core::FedHost;
-use flight_profile::Member;
 use std::alloc::Global;
 use std::marker::Model;
 use std::mem::replace;
 use std::ptr::null_mut;
 
-/// What a handle holds: a host, and room for what one record leads to.
+/// What a handle holds: a host, room for what one record leads to, and how many bytes were written.
 #[derive(Drop)]
 pub struct Fed {
-    pub(crate) host: FedHost<Box<Member>>,
+    pub(crate) host: FedHost<LastingBox>,
     pub(crate) room: Vec<u8>,
+    /// The boxes of the applications that the host has dropped.
+    pub(crate) places: Vec<BoxPlace>,
+    /// Up to 2^64 - 1.
+    pub(crate) written: u64,
 }
 
 /// A pointer to a host that a program in C was given, or null. The handle owns what it points to.
@@ -33,6 +37,8 @@ pub struct Handle {
 
 impl Model for Handle {
     ghost also_owns = { λ h. held h.alloc h.at h.value };
+
+    ghost also_shares = { λ h _ κ. lent h.at h.value κ };
 }
 
 fn nothing() -> Handle
@@ -86,5 +92,13 @@ impl Handle {
         ensures value { self.old.value ≡ Some result.now }
     {
         unsafe { &mut *(self.at as *mut Fed) }
+    }
+
+    /// Lends what the handle holds, to be read. Condition: it holds something.
+    pub(crate) fn look(&self) -> &Fed
+        requires { IsSome self.now.value }
+        ensures { self.now.value ≡ Some result.now }
+    {
+        unsafe { &*(self.at as *const Fed) }
     }
 }

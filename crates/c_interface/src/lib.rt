@@ -3,11 +3,13 @@
 //! back before it returns; only a host that is fed keeps memory, until it is closed.
 #![tactic(auto)]
 
+mod asking;
 mod compiling;
 mod ending;
 mod error_sentences;
 mod feeding;
 mod handle;
+mod lasting;
 mod loose;
 mod refusal;
 mod room;
@@ -16,6 +18,7 @@ mod sentence;
 mod stream;
 mod texts;
 
+pub use asking::{Figures, RuleReading, tell_figures, tell_rule};
 pub use compiling::{ADT, Compiled, WDT, compile_files};
 pub use feeding::{Handled, Made, close_host, feed_host, make_host};
 pub use handle::Handle;

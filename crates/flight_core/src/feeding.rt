@@ -99,6 +99,20 @@ impl<B: App> FedHost<B> {
         self.records.held()
     }
 
+    /// How many records were handled, up to 2^64 - 1; the one in which a write failed is among them.
+    pub fn records(&self) -> u64
+        ensures { result ≡ (feeding_of B.meaning self.now).held.count }
+    {
+        self.records.count()
+    }
+
+    /// The table files of the rule texts, in order.
+    pub fn files(&self) -> &[TablePair]
+        ensures { result.now ≡ (feeding_of B.meaning self.now).files }
+    {
+        &self.pairs[..]
+    }
+
     /// The host, as it is after the records so far.
     pub fn host(&self) -> &Host<B>
         ensures { shown B.meaning result.now ≡ (feeding_of B.meaning self.now).host }

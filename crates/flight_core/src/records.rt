@@ -114,6 +114,13 @@ impl Records {
         self.window.last()
     }
 
+    /// How many records were handed out, up to 2^64 - 1.
+    pub(crate) fn count(&self) -> u64
+        ensures { result ≡ self.now.count }
+    {
+        self.count
+    }
+
     /// How many bytes are held.
     pub fn held(&self) -> usize
         ensures held { result ≡ length self.now.bytes }

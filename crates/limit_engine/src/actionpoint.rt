@@ -115,6 +115,13 @@ impl Point {
         self.run
     }
 
+    /// The samples of the passive rule with enough failures in a row.
+    pub(crate) fn quiet(&self) -> u16
+        ensures { result ≡ self.now.past.quiet }
+    {
+        self.quiet
+    }
+
     pub(crate) fn set(&mut self, state: ApMode)
         ensures { self.new ≡ record self.old { state = state } }
     {

@@ -238,6 +238,16 @@ impl Engine {
         self.points[index].run()
     }
 
+    /// The samples of the rule with this number, while it was passive, that had enough failures in a row to request its sequence:
+    /// at most 65,535.
+    pub fn quiet_samples(&self, index: usize) -> u16
+        requires { index < length self.now.points }
+        ensures { option_map (λ point. point.past.quiet) (slice_get self.now.points index) ≡
+            Some result }
+    {
+        self.points[index].quiet()
+    }
+
     /// Compares all watchpoints of the packet's message id. Returns whether the packet is too short for one of their fields. A
     /// disabled Limit Checker compares nothing and returns false.
     pub fn telemetry(&mut self, packet: &[u8]) -> bool

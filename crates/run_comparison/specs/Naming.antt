@@ -6,7 +6,7 @@ use Rattle.app_host.specs.Delivered.{executive_in}
 use Rattle.flight_core.specs.Compiled.{AreAllCompiled}
 use Rattle.rpn_compiler.specs.declared.files.TablePair.{TablePair}
 use Rattle.scenarios.specs.Declarations.{AreDeclared, nothing_declared}
-use Rattle.run_stepper.specs.Force.{text_in_force}
+use Rattle.flight_profile.specs.Force.{text_in_force}
 use Rattle.run_comparison.specs.Coming.{Pair}
 use Rattle.run_comparison.specs.declared.forces.Forces.{Forces}
 use Rattle.run_comparison.specs.declared.given.GivenTexts.{GivenTexts}

@@ -16,8 +16,8 @@ use Rattle.run_summary.specs.declared.texts.Field.{Field}
 use Rattle.app_host.specs.Delivered.{executive_in}
 use Rattle.flight_core.specs.Feeding.{Feeding}
 use Rattle.rpn_compiler.specs.declared.files.TablePair.{TablePair}
-use Rattle.run_stepper.specs.Force.{text_in_force}
-use Rattle.run_stepper.specs.Stepping.{engine_among}
+use Rattle.flight_profile.specs.Force.{text_in_force}
+use Rattle.flight_profile.specs.Checkers.{engine_among}
 use Rattle.run_page.specs.declared.behind.Behind.{Behind}
 use Rattle.run_stepper.specs.Steps.{Step}
 use Rattle.run_page.specs.Model.{HasTaken, OfRun, account_by, led_to, mode_of, place_of, stands_of, taken_from, taken_of, types_of}

@@ -5,7 +5,7 @@ use Rattle.std.proofs.lemmas.Bool.{false≢true}
 use Rattle.std.proofs.lemmas.List.{append_assoc, append-nil}
 use Rattle.bounded_history.specs.declared.entry.Entry.{Entry}
 use Rattle.flight_core.specs.Feeding.{Feeding}
-use Rattle.run_stepper.specs.Stepping.{engine_among}
+use Rattle.flight_profile.specs.Checkers.{engine_among}
 use Rattle.run_stepper.specs.Steps.{Step}
 use Rattle.run_summary.specs.declared.texts.Field.{Field}
 use Rattle.run_summary.specs.Account.{Account, account_behind}

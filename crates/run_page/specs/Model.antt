@@ -13,8 +13,9 @@ use Rattle.flight_core.specs.Compiled.{AreAllCompiled}
 use Rattle.flight_core.specs.Feeding.{Feeding}
 use Rattle.flight_core.specs.Records.{Held, nothing_held}
 use Rattle.run_stepper.specs.Events.{is_type_of_checker_on}
-use Rattle.run_stepper.specs.Force.{text_in_force}
-use Rattle.run_stepper.specs.Stepping.{BeginsWith, HasStepped, engine_among}
+use Rattle.flight_profile.specs.Force.{text_in_force}
+use Rattle.flight_profile.specs.Checkers.{engine_among}
+use Rattle.run_stepper.specs.Stepping.{BeginsWith, HasStepped}
 use Rattle.run_stepper.specs.Steps.{AreItsRecords, HaveRun, Step, Went, bytes_of}
 use Rattle.run_stepper.specs.declared.handled.Handled.{Handled}
 use Rattle.run_stepper.specs.declared.handled.Handled.TheVariants as handled

@@ -1,7 +1,8 @@
 //! The Limit Checker's mode and rules after a record.
 
 ghost use Rattle.std.specs.Prelude.{◌≡◌, ◌<◌, true, false, [], None, Some, IsTrue, IfOk, OnOk, length, map, slice_get};
-ghost use Rattle.run_stepper.specs.Stepping.{IsAtRest, engine_among, host_in};
+ghost use Rattle.flight_profile.specs.Checkers.{engine_among};
+ghost use Rattle.run_stepper.specs.Stepping.{IsAtRest, host_in};
 ghost use Rattle.run_page.specs.Model.{mode_of, stand_of, stands_of};
 
 use lc_model::LcMode;

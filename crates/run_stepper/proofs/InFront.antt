@@ -1,7 +1,7 @@
 -- The record in front of a stream, where only a piece of the stream is there.
 use Rattle.std.proofs.Common.{◌≡◌, refl, sym, ◌∙◌, ap, subst, ℕ, ◌+◌, ◌<◌, ◌≤◌, ◌⊎◌, inl, inr, min, Bool, true, false, not, cond, nat_lt, List, [], ◌∷◌, ◌++◌, length, take, drop, length-drop, length-take, Option, Some, None, arith}
 use Rattle.std.specs.Int.{w32, from_be_bytes}
-use Rattle.std.proofs.lemmas.List.{drop-append-le, drop_all, take_all, take-append-drop}
+use Rattle.std.proofs.lemmas.List.{drop-append-le, drop_all, drop_min, take_all, take-append-drop}
 use Rattle.std.proofs.Math.Seq.{take-length}
 use Rattle.lc_model.specs.Host.Stream.{StreamEntry, Contents, Front, EndOfStream, Record, CutRecord, NoRecord, all_kinds, body_size, contents_of, fits_body, front, header_size, moment_of, record_of}
 use Rattle.lc_model.proofs.Facts.{tested_less, tested_not_less, test_less, test_not_less}
@@ -98,16 +98,6 @@ long_size bytes long = rw (test_not_less (length bytes) 11 long) refl
 pub short_size : (bytes : List ℕ) → length bytes < 11 → size_in_front bytes ≡ length bytes
 short_size bytes short = rw (test_less (length bytes) 11 short) refl
 
-pub drop_least : (n : ℕ) (xs : List ℕ) → drop (min n (length xs)) xs ≡ drop n xs
-drop_least n xs = by_test (nat_lt n (length xs)) refl
-  where
-    by_test : (b : Bool) → nat_lt n (length xs) ≡ b → drop (min n (length xs)) xs ≡ drop n xs
-    by_test true less = let same : min n (length xs) ≡ n = grind (arith, less) in ap (λ k. drop k xs) same
-    by_test false more =
-        let past : length xs ≤ n = tested_not_less n (length xs) more in
-        let same : min n (length xs) ≡ length xs = omega (arith, past) in
-        ap (λ k. drop k xs) same ∙ drop_all (length xs) xs (omega arith) ∙ sym (drop_all n xs past)
-
 -- ---- a piece of the record in front
 
 -- what is taken of the record in front, and what there is behind it
@@ -130,7 +120,7 @@ module _ (n : ℕ) (stream piece more : List ℕ) (is : stream ≡ piece ++ more
       record {
         none_left = own.behind ∙ drop_all (11 + body_size piece) piece (omega (arith, few, least, size));
         moment = whole.moment ∙ sym (long_moment stream whole.long);
-        there = whole_stays entry rest there ∙ ap (Record entry) (whole.behind ∙ sym (drop_least (11 + body_size stream) stream) ∙ ap (λ k. drop k stream) (sym least));
+        there = whole_stays entry rest there ∙ ap (Record entry) (whole.behind ∙ sym (drop_min (11 + body_size stream) stream) ∙ ap (λ k. drop k stream) (sym least));
       }
 
   pub none_of : front all_kinds n piece ≡ NoRecord → front all_kinds n stream ≡ NoRecord

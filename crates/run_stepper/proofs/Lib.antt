@@ -1,4 +1,3 @@
-pub mod Engines
 pub mod InFront
 pub mod Alone
 pub mod Tracing

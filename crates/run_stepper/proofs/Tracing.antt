@@ -36,7 +36,8 @@ use Rattle.run_stepper.specs.declared.ending.Ending.TheVariants as ended
 use Rattle.run_stepper.specs.declared.error.CourseError.{CourseError}
 use Rattle.run_stepper.specs.declared.handled.Handled.{Handled}
 use Rattle.run_stepper.specs.declared.handled.Handled.TheVariants as handled
-use Rattle.run_stepper.specs.Stepping.{HasStepped, BeginsWith, engine_among, engine_of, one_record, told_of}
+use Rattle.flight_profile.specs.Checkers.{engine_among, engine_of}
+use Rattle.run_stepper.specs.Stepping.{HasStepped, BeginsWith, one_record, told_of}
 use Rattle.run_stepper.specs.declared.standing.RuleStanding.{RuleStanding}
 use Rattle.run_stepper.specs.Trace.{HasRun, Part, Traced, ending_by, engine_in, moment_in, parts_from, size_in_front}
 use Rattle.run_stepper.proofs.InFront.{IsAllOf, a_record, all_of, by_itself, long_size, none_of, part_of_all, short_size}

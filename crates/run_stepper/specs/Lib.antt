@@ -2,5 +2,4 @@ pub mod Events
 pub mod Stepping
 pub mod Trace
 pub mod Steps
-pub mod Force
 pub mod Walk

@@ -1,7 +1,5 @@
 -- A run record by record. This project's own.
 use Rattle.std.specs.Prelude.{◌≡◌, ℕ, ◌<◌, ◌≤◌, Bool, false, List, [], ◌∷◌, ◌++◌, length, Option, Some, None, Result, Ok, Err, ⊤}
-use Rattle.std.specs.Option.{option_or}
-use Rattle.lc_model.specs.Kept.Summary.{LcOwn, AppState, LcState, SchState, CounterState, Other}
 use Rattle.app_host.specs.Hosted.{Object}
 use Rattle.flight_core.specs.declared.halt.Halt.{Halt}
 use Rattle.flight_core.specs.declared.halt.Halt.TheVariants as halt
@@ -120,21 +118,3 @@ abbrev pub HandlesAlone : Feeding → Feeding → List ℕ → Handled → Type 
 HandlesAlone old new written Whole = HandlesRecord old new written
 HandlesAlone old new written NoRecord = MeetsNoRecord old written
 HandlesAlone old new written Part = Waits old new written
-
--- ---- the Limit Checker that runs
-
--- the engine of an object, if it is a Limit Checker
-abbrev pub engine_by : AppState → Option LcOwn
-engine_by (LcState own) = Some own
-engine_by (SchState slots slot) = None
-engine_by (CounterState count) = None
-engine_by Other = None
-
-abbrev pub engine_of : Option Object → Option LcOwn
-engine_of None = None
-engine_of (Some object) = engine_by object.state
-
--- the engine of the lowest seat with a Limit Checker
-abbrev pub engine_among : List (Option Object) → Option LcOwn
-engine_among [] = None
-engine_among (place ∷ others) = option_or (engine_of place) (engine_among others)

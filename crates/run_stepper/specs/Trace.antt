@@ -21,7 +21,7 @@ use Rattle.app_host.specs.Shared.{on_board}
 use Rattle.flight_core.specs.Brought.{meanings_of}
 use Rattle.flight_core.specs.Compiled.{AreAllCompiled}
 use Rattle.flight_profile.specs.Stock.{own_names}
-use Rattle.run_stepper.specs.Stepping.{engine_by}
+use Rattle.flight_profile.specs.Checkers.{engine_by}
 use Rattle.run_stepper.specs.declared.standing.RuleStanding.{RuleStanding}
 use Rattle.run_stepper.specs.declared.standing.RuleStanding.TheVariants as standing
 use Rattle.run_stepper.specs.declared.ending.Ending.{Ending}

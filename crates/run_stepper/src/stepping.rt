@@ -1,27 +1,25 @@
 //! A run record by record: after each one the caller can inspect the Limit Checker.
 
-ghost use Rattle.std.specs.Prelude.{◌≡◌, ◌<◌, ◌≤◌, drop, length, option_map, IfErr, IfOk, Some};
+ghost use Rattle.std.specs.Prelude.{◌≡◌, ◌≤◌, length, option_map, IfErr, IfOk, Some};
 ghost use Rattle.app_host.specs.Delivered.{executive_in};
-ghost use Rattle.app_host.specs.Hosted.{object_at};
 ghost use Rattle.flight_core.specs.Compiled.{IsNotCompiled, sources_of};
 ghost use Rattle.flight_core.specs.Feeding.{fed_with};
 ghost use Rattle.flight_core.specs.Records.{most_held, taken_of};
 ghost use Rattle.run_stepper.specs.declared.error.CourseError.TheVariants.{Memory};
-ghost use Rattle.lc_model.specs.Tables.File.{headers_length};
 ghost use Rattle.run_stepper.specs.Events.{is_type_of_checker_on};
-ghost use Rattle.run_stepper.specs.Force.{is_of_file, is_of_pair, text_in_force};
-ghost use Rattle.run_stepper.specs.Stepping.{BeginsWith, GoesOn, HandlesAlone, HasHandled, HasStepped, IsAtRest, IsRefusal, engine_among, engine_of, host_in, refusal_of, written_by};
+ghost use Rattle.flight_profile.specs.Force.{text_in_force};
+ghost use Rattle.flight_profile.specs.Checkers.{engine_among};
+ghost use Rattle.run_stepper.specs.Stepping.{BeginsWith, GoesOn, HandlesAlone, HasHandled, HasStepped, IsAtRest, IsRefusal, host_in, refusal_of, written_by};
 
 use crate::error::CourseError;
 use crate::handled::Handled;
 use flight_core::{FedHost, Halt, RunError};
-use flight_profile::{Member, own_stock};
-use lc_model::{ByteSink, DeviceFault, EventKind, Kind, Seat};
+use flight_profile::{Member, engine_on, own_stock, text_in_force};
+use lc_model::{ByteSink, DeviceFault, EventKind};
 use limit_engine::Engine;
 use rpn_compiler::TablePair;
 use schedules::Schedule;
 use std::alloc::Global;
-use table_file::{HEADERS_LENGTH, table_name};
 
 /// Collects in memory the packets that one record leads to. A write fails only if memory runs out.
 #[derive(Drop)]
@@ -61,32 +59,6 @@ fn course_error(error: RunError) -> CourseError
         RunError::Compile { text, error } => CourseError::Rules { text, error },
         _other => CourseError::Memory,
     }
-}
-
-/// The image in a table file.
-fn image_of(file: &[u8]) -> &[u8]
-    ensures { result.now ≡ drop headers_length file.now }
-{
-    let (_, image) = file.split_at(HEADERS_LENGTH.min(file.len()));
-    image
-}
-
-/// Whether there is an image, and it is that of the table file.
-fn is_of_file(image: Option<&[u8]>, file: &[u8]) -> bool
-    ensures { result ≡ is_of_file (option_map (λ image. image.now) image.entry) file.now }
-{
-    match image {
-        None => false,
-        Some(image) => image == image_of(file),
-    }
-}
-
-/// Whether the active images of the two tables are those of a text's files.
-fn is_of_pair(wdt: Option<&[u8]>, adt: Option<&[u8]>, pair: &TablePair) -> bool
-    ensures { result ≡ is_of_pair (option_map (λ image. image.now) wdt.entry)
-        (option_map (λ image. image.now) adt.entry) pair.now }
-{
-    is_of_file(wdt, pair.wdt.as_slice()) && is_of_file(adt, pair.adt.as_slice())
 }
 
 impl Stepping {
@@ -183,27 +155,7 @@ impl Stepping {
         ensures { option_map (λ engine. engine.now) result ≡
             engine_among (host_in self.now).host.seats }
     {
-        for number in 0..8u8 {
-            if let Some(engine) = self.engine_at(number) {
-                return Some(engine);
-            }
-        }
-        None
-    }
-
-    /// The engine of the Limit Checker on this seat, if there is one.
-    fn engine_at(&self, number: u8) -> Option<&Engine>
-        requires { number < 8 }
-        ensures { option_map (λ engine. engine.now) result ≡
-            engine_of (object_at number (host_in self.now).host.seats) }
-    {
-        match self.fed.host().application(Seat::new(number)) {
-            Some(app) => match &**app {
-                Member::Checker(checker) => Some(checker.engine()),
-                _ => None,
-            },
-            None => None,
-        }
+        engine_on(self.fed.host())
     }
 
     /// The number, from 0, of the rule text in force among those that these table files are of: the first whose images are the
@@ -211,9 +163,7 @@ impl Stepping {
     pub fn text_in_force(&self, pairs: &[TablePair]) -> Option<usize>
         ensures { result ≡ text_in_force pairs.now (executive_in (host_in self.now).host) }
     {
-        let wdt = self.fed.host().active_image(table_name(Kind::Wdt));
-        let adt = self.fed.host().active_image(table_name(Kind::Adt));
-        pairs.iter().position(|pair| is_of_pair(wdt, adt, pair))
+        text_in_force(self.fed.host(), pairs)
     }
 
     /// Whether events of this type are on for the Limit Checker; false if none is registered.

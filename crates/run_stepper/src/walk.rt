@@ -3,7 +3,7 @@
 ghost use Rattle.std.specs.Prelude.{◌≡◌, ◌<◌, ◌≤◌, false, length, true, IfErr, IfOk};
 ghost use Rattle.flight_core.specs.Compiled.{sources_of};
 ghost use Rattle.run_stepper.specs.declared.error.CourseError.TheVariants.{Memory};
-ghost use Rattle.run_stepper.specs.Force.{text_in_force};
+ghost use Rattle.flight_profile.specs.Force.{text_in_force};
 ghost use Rattle.run_stepper.specs.Stepping.{IsAtRest, IsRefusal};
 ghost use Rattle.run_stepper.specs.Trace.{engine_in, standing_in};
 ghost use Rattle.run_stepper.specs.Walk.{HasFinished, IsUnderWay, StandsAt, course_of, place_of, standing_of, traced_by};

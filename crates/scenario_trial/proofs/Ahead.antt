@@ -12,7 +12,7 @@ use Rattle.flight_core.specs.Compiled.{AreAllCompiled}
 use Rattle.scenarios.specs.Declarations.{Declarations}
 use Rattle.stream_script.specs.ByLines.{AreStarts}
 use Rattle.run_stepper.specs.declared.standing.RuleStanding.{RuleStanding}
-use Rattle.run_stepper.specs.Force.{text_in_force}
+use Rattle.flight_profile.specs.Force.{text_in_force}
 use Rattle.run_stepper.specs.Trace.{engine_in}
 use Rattle.run_stepper.specs.Walk.{Course, StandsBehind}
 use Rattle.scenario_trial.specs.declared.expectation_lines.Placed.{Placed}

@@ -11,7 +11,7 @@ use Rattle.rpn_compiler.specs.declared.files.TablePair.{TablePair}
 use Rattle.flight_core.specs.Compiled.{AreAllCompiled}
 use Rattle.scenarios.specs.declared.force.ForceChange.{ForceChange}
 use Rattle.stream_script.specs.ByLines.{AreStarts}
-use Rattle.run_stepper.specs.Force.{text_in_force}
+use Rattle.flight_profile.specs.Force.{text_in_force}
 use Rattle.run_stepper.specs.Walk.{Course, StandsBehind}
 use Rattle.scenario_trial.specs.Settled.{AreShown, IsShown, line_in, marked_from, sets_state}
 use Rattle.scenario_trial.proofs.Ahead.{all_more}

@@ -14,7 +14,7 @@ use Rattle.run_stepper.specs.declared.standing.RuleStanding.{RuleStanding}
 use Rattle.run_stepper.specs.declared.standing.RuleStanding.TheVariants.{NoRule}
 use Rattle.run_stepper.specs.declared.ending.Ending.{Ending}
 use Rattle.run_stepper.specs.declared.ending.Ending.TheVariants.{Whole}
-use Rattle.run_stepper.specs.Force.{IsInForce}
+use Rattle.flight_profile.specs.Force.{IsInForce}
 use Rattle.run_stepper.specs.Trace.{Arrived, Traced, arrived_from, engine_in, standing_in}
 use Rattle.run_stepper.specs.Walk.{StandsBehind}
 use Rattle.scenario_trial.specs.declared.expectation.Arrival.{Arrival}

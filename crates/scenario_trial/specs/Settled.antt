@@ -11,7 +11,7 @@ use Rattle.scenarios.specs.Plain.{PlainScript, plain_in}
 use Rattle.scenarios.specs.declared.force.ForceChange.{ForceChange}
 use Rattle.stream_script.specs.ByLines.{line_start}
 use Rattle.stream_script.specs.Script.{script_in}
-use Rattle.run_stepper.specs.Force.{IsInForce}
+use Rattle.flight_profile.specs.Force.{IsInForce}
 use Rattle.run_stepper.specs.Walk.{StandsBehind}
 use Rattle.scenario_trial.specs.Reading.{silenced_in}
 

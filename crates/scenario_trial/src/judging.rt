@@ -3,7 +3,7 @@
 ghost use Rattle.std.specs.Prelude.{◌≡◌, ◌-◌, ◌<◌, ◌≤◌, length, map, option_map, slice_index, IfErr, IfOk};
 ghost use Rattle.std.specs.List.{AllByRecursion};
 ghost use Rattle.flight_core.specs.Compiled.{AreAllCompiled, sources_of};
-ghost use Rattle.run_stepper.specs.Force.{text_in_force};
+ghost use Rattle.flight_profile.specs.Force.{text_in_force};
 ghost use Rattle.run_stepper.specs.Stepping.{IsAtRest};
 ghost use Rattle.run_stepper.specs.Trace.{engine_in};
 ghost use Rattle.run_stepper.specs.Walk.{IsUnderWay, course_of, place_of, standing_of};

@@ -1,5 +1,6 @@
 use Rattle.std.proofs.Common.{◌≡◌, ◌∙◌, refl, sym, subst, ap, pos, ◌-ℤ◌, List, map}
-use Rattle.run_stepper.specs.Stepping.{engine_among, host_in}
+use Rattle.flight_profile.specs.Checkers.{engine_among}
+use Rattle.run_stepper.specs.Stepping.{host_in}
 use Rattle.run_summary.specs.declared.place.Stand.{Stand}
 use Rattle.run_summary.specs.declared.seen.Seen.{Seen}
 use Rattle.std.proofs.lemmas.Result.{on_ok_weaker}

@@ -1,5 +1,5 @@
 use Rattle.app_host.specs.Delivered.{executive_in}
-use Rattle.run_stepper.specs.Force.{text_in_force}
+use Rattle.flight_profile.specs.Force.{text_in_force}
 use Rattle.run_stepper.specs.Stepping.{host_in, written_by}
 use Rattle.run_summary.specs.Account.{account_of, is_asked}
 use Rattle.run_page.specs.Model.{types_of}

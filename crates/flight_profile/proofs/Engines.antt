@@ -3,7 +3,7 @@ use Rattle.std.proofs.Common.{◌≡◌, refl, ap, ℕ, zero, suc, ◌<◌, ◌�
 use Rattle.std.specs.Option.{option_or}
 use Rattle.lc_model.specs.Kept.Summary.{LcOwn}
 use Rattle.app_host.specs.Hosted.{Object, object_at}
-use Rattle.run_stepper.specs.Stepping.{engine_of, engine_among}
+use Rattle.flight_profile.specs.Checkers.{engine_of, engine_among}
 
 pub none_here : (seats : List (Option Object)) (n : ℕ) → n < length seats → engine_of (object_at n seats) ≡ None → engine_among (drop n seats) ≡ engine_among (drop (suc n) seats)
 none_here [] n less is = absurd (omega (arith, less))
