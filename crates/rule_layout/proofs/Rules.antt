@@ -158,8 +158,10 @@ keeps_rules text other rules (parts, has, others) short (ts, items, splits, pars
   us,
   map (item_to f) items,
   found.1,
-  (subst (λ (xs : List model.Token). DerivesFile xs (map (item_to f) items)) there (derives_file_to f parses.0),
-  subst IsShallow there (shallow_to f ts parses.1)),
+  (
+    subst (λ (xs : List model.Token). DerivesFile xs (map (item_to f) items)) there (derives_file_to f parses.0),
+    subst IsShallow there (shallow_to f ts parses.1),
+  ),
   means_to f (ascends 0 ts us (in_order found.1.1)) items rules means,
 )
   where
