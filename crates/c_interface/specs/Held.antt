@@ -1,9 +1,8 @@
 -- What a handle owns.
 use Rattle.std.specs.Prelude.{Option, Some, None}
-use base.Fml.{Fml, Lft, ftrue}
+use base.Fml.{Fml, ftrue}
 use denote.RawPtr.{Ptr}
 use denote.RattleType.{RattleType}
-use denote.Struct.Lending.{lent_at}
 use Rattle.std_alloc.specs.Box.Ownership.{box_owns}
 use Rattle.std.specs.declared.alloc.Global.{Global}
 use Rattle.std.specs.contracts.impls.GlobalAllocator.TheImpl.{ghosts}
@@ -14,11 +13,6 @@ use Rattle.c_interface.specs.declared.handle.Fed.{Fed}
 abbrev pub held : Global → Ptr → Option Fed → Fml
 held alloc at None = ftrue
 held alloc at (Some fed) = box_owns (ghosts.dealloc_token alloc) the_row at fed
-
--- what a `&` to the handle has: a `&` to what is in the box
-abbrev pub lent : Ptr → Option Fed → Lft → Fml
-lent at None κ = ftrue
-lent at (Some fed) κ = lent_at the_row at fed κ
 
 abbrev pub fed_row : RattleType
 fed_row = the_row

@@ -81,12 +81,13 @@ fn rule_of(fed: &Fed, number: u16) -> Result<RuleReading, u32>
 
 /// Tells how the rule with this number stands, and returns 0; or returns `NO_CHECKER` or `NO_RULE`, and writes nothing.
 /// Condition: the handle holds a host.
-pub fn tell_rule(handle: &Handle, rule: u16, told: &mut RuleReading) -> u32
-    requires { IsSomeAnd handle.now.value IsFed }
-    ensures { IsSomeAnd handle.now.value (λ fed.
+pub fn tell_rule(handle: &mut Handle, rule: u16, told: &mut RuleReading) -> u32
+    requires there { IsSomeAnd handle.old.value IsFed }
+    ensures told { IsSomeAnd handle.old.value (λ fed.
         TellsRule (rule_in (engine_in fed) rule) told.old told.new result) }
+    ensures same { handle.new.value ≡ handle.old.value }
 {
-    match rule_of(handle.look(), rule) {
+    match rule_of(handle.lend(), rule) {
         Ok(found) => {
             *told = found;
             0
@@ -132,9 +133,10 @@ fn figures_in(fed: &Fed) -> Figures
 }
 
 /// Tells the figures of a host. Condition: the handle holds one.
-pub fn tell_figures(handle: &Handle, told: &mut Figures)
-    requires { IsSomeAnd handle.now.value IsFed }
-    ensures { IsSomeAnd handle.now.value (λ fed. told.new ≡ figures_of fed) }
+pub fn tell_figures(handle: &mut Handle, told: &mut Figures)
+    requires there { IsSomeAnd handle.old.value IsFed }
+    ensures told { IsSomeAnd handle.old.value (λ fed. told.new ≡ figures_of fed) }
+    ensures same { handle.new.value ≡ handle.old.value }
 {
-    *told = figures_in(handle.look());
+    *told = figures_in(handle.lend());
 }

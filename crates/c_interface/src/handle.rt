@@ -5,7 +5,7 @@ ghost use Rattle.std.specs.Borrow.{sem};
 ghost use Rattle.std.specs.Coded.{coded_option};
 ghost use Rattle.std.specs.declared.alloc.Global.{Global as Heap};
 ghost use Rattle.c_interface.specs.declared.handle.Fed.{Fed as FedValue};
-ghost use Rattle.c_interface.specs.Held.{held, lent, fed_row};
+ghost use Rattle.c_interface.specs.Held.{held, fed_row};
 
 use crate::lasting::{BoxPlace, LastingBox};
 use crate::loose::Loose;
@@ -37,8 +37,6 @@ pub struct Handle {
 
 impl Model for Handle {
     ghost also_owns = { λ h. held h.alloc h.at h.value };
-
-    ghost also_shares = { λ h _ κ. lent h.at h.value κ };
 }
 
 fn nothing() -> Handle
@@ -92,13 +90,5 @@ impl Handle {
         ensures value { self.old.value ≡ Some result.now }
     {
         unsafe { &mut *(self.at as *mut Fed) }
-    }
-
-    /// Lends what the handle holds, to be read. Condition: it holds something.
-    pub(crate) fn look(&self) -> &Fed
-        requires { IsSome self.now.value }
-        ensures { self.now.value ≡ Some result.now }
-    {
-        unsafe { &*(self.at as *const Fed) }
     }
 }
