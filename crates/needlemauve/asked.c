@@ -3,34 +3,11 @@
  * take no memory and give none back. Prints what came of it; the status is the line of what is wrong, up to 255.
  *
  * cc -std=c99 -Iinclude crates/needlemauve/asked.c libneedlemauve.a libneedlemauve_board.a */
-#include "memory.h"
+#include "counted.h"
 #include "needlemauve.h"
 
 #include <stdio.h>
-#include <stdlib.h>
 #include <string.h>
-
-/* How many requests for memory there were, and how many blocks were given back. */
-static unsigned long requests, returns;
-
-struct needlemauve_block rattle_alloc(size_t size, size_t alignment)
-{
-  requests += 1;
-  return needlemauve_block_at(malloc(size > 0 ? size : alignment));
-}
-
-struct needlemauve_block rattle_realloc(void *at, size_t kept, size_t size, size_t alignment)
-{
-  (void)kept;
-  requests += 1;
-  return needlemauve_block_at(realloc(at, size > 0 ? size : alignment));
-}
-
-void rattle_dealloc(void *at)
-{
-  returns += 1;
-  free(at);
-}
 
 /* Two texts, one after the other; the tables are those of the second one, which has two rules. */
 #define FIELD "packet P = mid 0x0883 length 16; field V = P u16be at 12 stale 2; "
@@ -170,18 +147,18 @@ static int stops(void)
 int main(void)
 {
   struct needlemauve_made made;
-  unsigned long taken, left;
+  unsigned long taken, out;
   int line;
   MUST(needlemauve_version() == NEEDLEMAUVE_VERSION_NUMBER);
   if ((line = misused()) != 0) return line;
   MUST(needlemauve_host_new((const uint8_t *)texts, sizeof texts - 1, lengths, 2, (const uint8_t *)schedule, sizeof schedule - 1,
                             sizeof output, &host, &made) == 0);
   taken = requests;
-  left = returns;
+  out = blocks;
   if ((line = checks()) != 0 || (line = stops()) != 0) return line;
-  MUST(requests == taken && returns == left);
+  MUST(requests == taken && blocks == out);
   needlemauve_host_close(&host);
-  MUST(returns > left);
+  MUST(blocks == 0);
   if ((line = misused()) != 0) return line;
   printf("a fed host tells its rules and figures after %u records; feeding gives no memory back\n", (unsigned)records);
   return 0;

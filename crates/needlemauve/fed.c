@@ -5,11 +5,10 @@
  *     fed SCHEDULE STREAM RULES..
  *
  * cc -std=c99 -Iinclude crates/needlemauve/fed.c libneedlemauve.a */
-#include "memory.h"
+#include "counted.h"
 #include "needlemauve.h"
 
 #include <stdio.h>
-#include <stdlib.h>
 #include <string.h>
 
 enum { MOST = 65536, TEXTS = 16 };
@@ -18,29 +17,6 @@ struct file {
   uint8_t bytes[MOST];
   size_t length;
 };
-
-/* How many requests there were, and how many blocks are out. */
-static unsigned long requests, blocks;
-
-struct needlemauve_block rattle_alloc(size_t size, size_t alignment)
-{
-  requests += 1;
-  blocks += 1;
-  return needlemauve_block_at(malloc(size > 0 ? size : alignment));
-}
-
-struct needlemauve_block rattle_realloc(void *at, size_t kept, size_t size, size_t alignment)
-{
-  (void)kept;
-  requests += 1;
-  return needlemauve_block_at(realloc(at, size > 0 ? size : alignment));
-}
-
-void rattle_dealloc(void *at)
-{
-  blocks -= 1;
-  free(at);
-}
 
 static struct file schedule, stream, texts;
 static size_t lengths[TEXTS], count;

@@ -3,37 +3,11 @@
  * it), and of a whole run. Then each call succeeds with all its requests granted. A host that was made asks for none.
  *
  * cc -std=c99 -Iinclude crates/needlemauve/refused.c libneedlemauve.a libneedlemauve_board.a */
-#include "memory.h"
+#include "counted.h"
 #include "needlemauve.h"
 
 #include <stdio.h>
-#include <stdlib.h>
 #include <string.h>
-
-/* How many requests there were, which one is refused (0: none), and how many blocks are out. */
-static unsigned long requests, refused, blocks;
-
-struct needlemauve_block rattle_alloc(size_t size, size_t alignment)
-{
-  requests += 1;
-  if (requests == refused) return needlemauve_block_at(NULL);
-  blocks += 1;
-  return needlemauve_block_at(malloc(size > 0 ? size : alignment));
-}
-
-struct needlemauve_block rattle_realloc(void *at, size_t kept, size_t size, size_t alignment)
-{
-  (void)kept;
-  requests += 1;
-  if (requests == refused) return needlemauve_block_at(NULL);
-  return needlemauve_block_at(realloc(at, size > 0 ? size : alignment));
-}
-
-void rattle_dealloc(void *at)
-{
-  blocks -= 1;
-  free(at);
-}
 
 static const char rules[] =
     "packet P = mid 0x0883 length 16; "
