@@ -144,9 +144,10 @@ class Recording:
     def run(self, run):
         """Runs a text over the recording, and writes a row for each request and each event."""
         words = ["run", "--schedule", "schedule", "--stream", "recording", "--out", "packets", run, *self.texts]
-        for line in self.calls.lines(run, "flight_run", *words):
-            if found := RECORDS.fullmatch(text_of(line)):
-                self.found["records"] = int(found[1])
+        records = [int(found[1]) for line in self.calls.lines(run, "flight_run", *words) if (found := RECORDS.fullmatch(text_of(line)))]
+        if len(records) != 1 and run not in self.calls.early:
+            raise Failure("check", f"flight_run told {len(records)} times how many records there are")
+        self.found["records"] = records[-1] if records else None
         rules = [word for text in (run, *self.texts) for word in ("--rules", text)]
         waiting, last = [], None
         for line in self.calls.lines(run, "flight_tools", "packets", "--json", *rules, "packets", may_end_early=False):
