@@ -26,3 +26,5 @@ mod tokens;
 mod wanted;
 
 pub use faults::messages;
+pub use source::{Declaration, NameKind, Source, TokenRange};
+pub use tokens::{Mended, mend};

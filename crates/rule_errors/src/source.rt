@@ -6,7 +6,7 @@ use rule_lexer::{Token, TokenKind};
 use std::alloc::{AllocError, Global};
 
 /// The kind of a declared name.
-#[derive(Clone, Copy, PartialEq, Eq)]
+#[derive(Clone, Copy, Debug, PartialEq, Eq)]
 pub enum NameKind {
     /// A packet.
     Packet,
