@@ -49,6 +49,18 @@ fn unsettled_words(alloc: Global, told: &Warnings) -> Result<Option<String>, All
     }
 }
 
+/// The line about what was not looked at to the end; `None` if there is nothing.
+pub fn undecided_line(alloc: Global, told: &Warnings) -> Result<Option<String>, AllocError> {
+    let Some(parts) = unsettled_words(alloc, told)? else {
+        return Ok(None);
+    };
+    let count = told
+        .unsettled_pairs
+        .saturating_add(told.unsettled_comparisons);
+    let verb = if count == 1 { "was" } else { "were" };
+    Ok(Some(format!(in alloc; "{parts} {verb} not looked at to the end")?))
+}
+
 /// Writes what was not looked at to the end, if there is any.
 fn write_unsettled<'a, W: Write>(
     alloc: Global,
@@ -57,15 +69,10 @@ fn write_unsettled<'a, W: Write>(
     is_json: bool,
     out: &mut W,
 ) -> Result<(), Fault<'a>> {
-    let Some(parts) = unsettled_words(alloc, told)? else {
-        return Ok(());
-    };
-    let count = told
-        .unsettled_pairs
-        .saturating_add(told.unsettled_comparisons);
-    let verb = if count == 1 { "was" } else { "were" };
-    let line = format!(in alloc; "{parts} {verb} not looked at to the end")?;
-    write_line(alloc, name, line.as_bytes(), is_json, out)
+    match undecided_line(alloc, told)? {
+        Some(line) => write_line(alloc, name, line.as_bytes(), is_json, out),
+        None => Ok(()),
+    }
 }
 
 /// Writes the warnings of a valid rule text, and returns their number.

@@ -10,7 +10,7 @@ use Rattle.flight_tools_args.specs.declared.error.WordsError.TheVariants as word
 use Rattle.flight_tools_args.specs.declared.kind.CommandKind.{CommandKind}
 use Rattle.flight_tools_args.specs.declared.kind.CommandKind.TheVariants as command
 use Rattle.flight_tools_args.specs.declared.plan.CommandPlan.{CommandPlan}
-use Rattle.flight_tools_args.specs.declared.plan.CommandPlan.TheVariants.{Said, Table, Stream, Packets, Scenario, Import, Export, Report, Check, Explain, Compare, Try, Live, Format}
+use Rattle.flight_tools_args.specs.declared.plan.CommandPlan.TheVariants.{Said, Table, Stream, Packets, Scenario, Import, Export, Report, Check, Explain, Compare, Try, Live, Format, LanguageServer}
 use Rattle.flight_tools_args.specs.declared.plan.ImportWords.{ImportWords}
 use Rattle.flight_tools_args.specs.declared.plan.PageWords.{PageWords}
 use Rattle.flight_tools_args.specs.declared.plan.RowWords.{RowWords}
@@ -36,6 +36,7 @@ word_of command.Compare = codes "compare"
 word_of command.Try = codes "try"
 word_of command.Live = codes "live"
 word_of command.Format = codes "format"
+word_of command.LanguageServer = codes "lsp"
 
 -- whether a flag is given, which is what its row says
 abbrev pub IsFlag : Text → List Row → Bool → Type 0
@@ -107,3 +108,4 @@ HoldsRows found (Live schedule rules) = (found.0 ≡ codes "live")
     × (first_of (codes "SCHEDULE") found.1 ≡ Some schedule.now) × (all_of (codes "RULES") found.1 ≡ Some (map (λ rule. rule.now) rules.items))
 HoldsRows found (Format rules check) = (found.0 ≡ codes "format")
     × (all_of (codes "RULES") found.1 ≡ Some (map (λ rule. rule.now) rules.items)) × IsFlag (codes "check") found.1 check
+HoldsRows found LanguageServer = found.0 ≡ codes "lsp"

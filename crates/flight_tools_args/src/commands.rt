@@ -30,6 +30,8 @@ enum More {
     Further,
     /// Rule texts, and whether they stay as they are.
     Formatted,
+    /// The way to an editor, of which there is one.
+    Served,
 }
 
 /// A command: its word, its help, its required files with the help of each, and its other words.
@@ -41,7 +43,7 @@ struct CommandEntry {
 }
 
 /// All commands, as the help lists them.
-const ROWS: [CommandEntry; 12] = [
+const ROWS: [CommandEntry; 13] = [
     CommandEntry {
         word: "table",
         about: "Says what a table file holds",
@@ -131,6 +133,12 @@ const ROWS: [CommandEntry; 12] = [
         about: "Gives rule texts the one layout, in place",
         files: &[],
         more: More::Formatted,
+    },
+    CommandEntry {
+        word: "lsp",
+        about: "Serves an editor over standard input and output (Language Server Protocol)",
+        files: &[],
+        more: More::Served,
     },
 ];
 
@@ -356,6 +364,11 @@ fn with_more<'a>(
                 "Writes nothing, and lists the files that differ",
             ))?
             .arg(rule_words(alloc)),
+        More::Served => command.arg(flag_word(
+            alloc,
+            "stdio",
+            "Standard input and output, which is the only way",
+        )),
     }
 }
 

@@ -48,6 +48,7 @@ fn plan_by<'a>(
         CommandKind::Try => try_plan(alloc, found),
         CommandKind::Live => live_plan(alloc, found),
         CommandKind::Format => format_plan(alloc, found),
+        CommandKind::LanguageServer => Ok(Some(CommandPlan::LanguageServer)),
     }
 }
 

@@ -30,9 +30,11 @@ pub enum CommandKind {
     Live,
     /// `format`.
     Format,
+    /// `lsp`.
+    LanguageServer,
 }
 
-/// The command over files with this word.
+/// The command with this word that lists files or serves an editor.
 fn of_files(word: &str) -> Option<CommandKind>
     ensures { IfSome result (λ kind. word_of kind ≡ word.now) }
 {
@@ -40,6 +42,7 @@ fn of_files(word: &str) -> Option<CommandKind>
         "table" => Some(CommandKind::Table),
         "stream" => Some(CommandKind::Stream),
         "packets" => Some(CommandKind::Packets),
+        "lsp" => Some(CommandKind::LanguageServer),
         _ => None,
     }
 }

@@ -83,6 +83,8 @@ pub enum CommandPlan<'a> {
         rules: Vec<&'a str>,
         strict: bool,
     },
+    /// `lsp [--stdio]`: serves an editor over standard input and output.
+    LanguageServer,
     /// `live SCHEDULE RULES..`: runs a stream as it comes, from standard input to standard output.
     Live {
         schedule: &'a str,

@@ -1,13 +1,24 @@
-// A library with one function.
+//! A language server for rule texts, schedules and scenarios (Language Server Protocol 3.17): it reads messages from a client, and writes
+//! responses and diagnostics. One message is handled after the other.
 #![tactic(auto)]
 
-ghost use Rattle.std.specs.Prelude.{◌≡◌};
-ghost use Rattle.language_server.specs.Echo.{echo_of};
+mod actions;
+mod capabilities;
+mod diagnostics_of;
+mod document;
+mod failure;
+mod formatting;
+mod framing;
+mod incoming;
+mod judging;
+mod names;
+mod naming;
+mod outlines;
+mod replies;
+mod serving;
+mod session;
+mod shapes;
+mod syncing;
+mod tokens;
 
-// The `ensures` clause is the contract: what `echo` returns is `echo_of` of its argument, a definition
-// in `specs/Echo.antt`, which a caller's clause can cite too.
-pub fn echo(x: usize) -> usize
-    ensures { result ≡ echo_of x }
-{
-    x
-}
+pub use serving::serve;

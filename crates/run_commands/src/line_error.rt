@@ -1,18 +1,20 @@
 //! Why a scenario is refused: its fault on the first faulty line.
 
-ghost use Rattle.std.specs.Prelude.{◌≡◌, IfOk};
+ghost use Rattle.std.specs.Prelude.{◌≡◌};
 ghost use Rattle.run_commands.specs.Cause.{IsOfLine, line_in};
 ghost use Rattle.run_commands.specs.declared.line_error.LineError.TheVariants as line;
 ghost use Rattle.scenarios.specs.declared.error.ScenarioError.TheVariants.{Memory};
-ghost use Rattle.tool_faults.specs.Cause.{IsToldFault};
 
+use diagnostics::Message;
 use rpn_compiler::RuleText;
 use scenario_trial::{ReadError, read_expectations, script_error_at, silence};
 use scenarios::{DeclaredItems, Reason, ScenarioError, declared_in, plain_script};
-use script_errors::DeclaredNames;
+use script_errors::{
+    DeclaredNames, Refusal, expectation_message, scenario_message, script_message,
+};
 use std::alloc::{AllocError, Global};
 use stream_script::{ScriptError, read_script};
-use tool_faults::{Fault, expectation_fault, scenario_fault, script_fault};
+use tool_faults::{Fault, refusal_fault};
 
 /// Why a scenario is refused, at one of its lines.
 #[derive(Clone, Copy)]
@@ -115,45 +117,51 @@ fn first_error(
     first
 }
 
-/// The fault for the scenario in a file with this name, refused with this error. The names are those that rule texts declare.
-fn fault_of(
+/// The message about a scenario that is refused with this error. The names are those that rule texts declare.
+fn message_of(
     alloc: Global,
-    name: &str,
     scenario: &[u8],
     names: &DeclaredNames<'_>,
     error: LineError,
-) -> Fault<'static>
-    ensures { IsToldFault result }
-{
+) -> Result<Message, AllocError> {
     match error {
         LineError::Words(ScenarioError::Line { n, reason }) => {
-            scenario_fault(alloc, name, scenario, n, reason, names)
+            scenario_message(alloc, scenario, n, reason, names)
         }
         LineError::Expectation(ReadError::Line { n, fault: _ }) => {
-            expectation_fault(alloc, name, scenario, n)
+            expectation_message(alloc, scenario, n)
         }
         LineError::Script(ScriptError::Line { n, reason }) => {
-            let error = ScriptError::Line { n, reason };
-            script_fault(alloc, name, scenario, error, names)
+            script_message(alloc, scenario, n, reason, names.packets.as_slice())
         }
-        _ => Fault::Memory,
+        _ => Err(AllocError),
     }
 }
 
-/// The fault with the message about the first faulty line. The scenario may use the names of these rule texts.
-fn told(
+/// The message about the first faulty line of a scenario, refused with this error. It may use the names of these rule texts.
+fn first_message(
     alloc: Global,
-    name: &str,
     scenario: &[u8],
     texts: &[RuleText<'_>],
     error: LineError,
-) -> Result<Fault<'static>, AllocError>
-    ensures { IfOk result IsToldFault }
-{
+) -> Result<Message, AllocError> {
     let declared = declared_in(alloc, texts)?;
     let names = DeclaredNames::of_texts(alloc, texts)?;
     let first = first_error(alloc, scenario, &declared, error);
-    Ok(fault_of(alloc, name, scenario, &names, first))
+    message_of(alloc, scenario, &names, first)
+}
+
+/// The message about the first faulty line of a scenario that may use the names of these rule texts; `None` if it has none.
+pub fn scenario_refusal(
+    alloc: Global,
+    scenario: &[u8],
+    texts: &[RuleText<'_>],
+) -> Result<Option<Message>, AllocError> {
+    let declared = declared_in(alloc, texts)?;
+    match read_scenario(alloc, scenario, &declared) {
+        Ok(_) => Ok(None),
+        Err(error) => Ok(Some(first_message(alloc, scenario, texts, error)?)),
+    }
 }
 
 /// The fault for the scenario in a file with this name, which is refused with the names of these rule texts: for this error, or for one on
@@ -170,8 +178,8 @@ pub fn line_error_fault(
     if error.line().is_none() {
         return Fault::Memory;
     }
-    match told(alloc, name, scenario, texts, error) {
-        Ok(fault) => fault,
+    match first_message(alloc, scenario, texts, error) {
+        Ok(message) => refusal_fault(alloc, name, scenario, Refusal::Told(message)),
         Err(_) => Fault::Memory,
     }
 }

@@ -42,7 +42,7 @@ fn words_fault(error: WordsError) -> Fault<'static>
     }
 }
 
-/// Does what the words ask for. A live run reads `input` in place of standard input; listings and packets go to
+/// Does what the words ask for. What reads standard input reads `input` in its place; listings and packets go to
 /// `out` in place of standard output. The error is the command's fault, which `tell` prints.
 pub fn obey<'a, R: Files + Eprint + AllocGlobal, I: Read + Drop, W: Write>(
     rt: &R,
@@ -109,6 +109,7 @@ pub fn obey<'a, R: Files + Eprint + AllocGlobal, I: Read + Drop, W: Write>(
         CommandPlan::Format { rules, check } => {
             file_commands::format(rt, rules.as_slice(), check, input, out)
         }
+        CommandPlan::LanguageServer => language_server::serve(rt.alloc(), input, out),
         CommandPlan::Export { stream, raw } => file_commands::export(rt, stream, raw),
         CommandPlan::Compare {
             schedule,

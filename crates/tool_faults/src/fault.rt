@@ -45,6 +45,8 @@ pub enum Fault<'a> {
     Judgement(&'a str, analysis_listing::ListingError),
     /// There are warnings, and the command is strict. They are already reported.
     Warned,
+    /// The client of a language server left without a request to shut down.
+    NoShutdown,
     /// A run was stopped.
     Run(RunError),
     /// A file, standard input or standard output can't be opened, read or written, with its name and the reason.
@@ -108,8 +110,8 @@ fn status_of_run(error: RunError) -> u8
 
 impl Fault<'_> {
     /// The exit status: 0 the reader of the output closed it; 1 a table file has a fault, a script, a schedule or a rule text is
-    /// refused, rules or tables can't be judged, a strict command has warnings, runs differ, or expectations aren't met; 2 the
-    /// words are not a command; 3 a file or a device; 4 a stream or packets end early, or a stream brings a text that isn't given;
+    /// refused, rules or tables can't be judged, a strict command has warnings, runs differ, expectations aren't met, or a client
+    /// left without a request to shut down; 2 the words are not a command; 3 a file or a device; 4 a stream or packets end early, or a stream brings a text that isn't given;
     /// 5 out of memory.
     pub fn status(&self) -> u8
         ensures { result ≡ status_of self.now }
@@ -118,6 +120,7 @@ impl Fault<'_> {
             Fault::Gone => 0,
             Fault::Table | Fault::Lines(_) => 1,
             Fault::Refused | Fault::Judgement(..) | Fault::Warned => 1,
+            Fault::NoShutdown => 1,
             Fault::Rules(..) | Fault::Differs | Fault::Unmet => 1,
             Fault::Words(_) | Fault::NoText | Fault::Value(..) => 2,
             Fault::File(..) => 3,
@@ -136,7 +139,7 @@ impl Display for Fault<'_> {
             Fault::NoText => writeln!(f, "a word of the command line is no text (UTF-8)"),
             Fault::Value(option, word, advice) => writeln!(f, "{option} {word}: {advice}"),
             Fault::Table | Fault::Early | Fault::Gone | Fault::Refused | Fault::Warned => Ok(()),
-            Fault::Differs | Fault::Unmet => Ok(()),
+            Fault::Differs | Fault::Unmet | Fault::NoShutdown => Ok(()),
             Fault::Lines(page) => write!(f, "{page}"),
             Fault::Rules(name, error) => writeln!(f, "{name}: {error}"),
             Fault::Judgement(name, error) => writeln!(f, "{name}: {error}"),

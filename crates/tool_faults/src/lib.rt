@@ -19,6 +19,6 @@ pub use crate::given::{schedule_in, schedule_of, texts_in};
 pub use crate::output::{input_fault, listing_result, output_fault, written_fault};
 pub use crate::rule_texts::{rule_text_of, rule_texts_of};
 pub use crate::telling::{
-    MOST_WARNINGS, alone, expectation_fault, judgement_fault, line_fault, line_mark, refusal_fault,
-    scenario_fault, script_fault, write_messages, write_warnings,
+    MOST_WARNINGS, alone, judgement_fault, line_fault, line_mark, refusal_fault, write_messages,
+    write_warnings,
 };

@@ -1,20 +1,16 @@
 //! Messages and warnings about texts, and the faults of refused texts.
 
 ghost use Rattle.std.specs.Prelude.{◌≡◌};
-ghost use Rattle.tool_faults.specs.Cause.{IsOfRefusal, IsOfScript, IsToldFault, fault_of_judgement};
+ghost use Rattle.tool_faults.specs.Cause.{IsOfRefusal, IsToldFault, fault_of_judgement};
 
 use crate::fault::Fault;
 use crate::output::listing_result;
 use analysis_listing::ListingError;
 use diagnostics::{Mark, Message, message_line, page_of, warnings_page_of};
-use scenarios::Reason;
-use script_errors::{
-    DeclaredNames, Refusal, expectation_message, scenario_message, script_message,
-};
+use script_errors::Refusal;
 use std::alloc::{AllocError, Global};
 use std::fmt::Display;
 use std::io::Write;
-use stream_script::ScriptError;
 
 /// A list of this message only. Error: out of memory.
 pub fn alone(alloc: Global, message: Message) -> Result<Vec<Message>, AllocError> {
@@ -81,69 +77,7 @@ pub fn line_fault<E: Display>(
     }
 }
 
-/// The fault for the text in a file with this name, with this message: `Lines`; `Memory` if there is none.
-fn message_fault(
-    alloc: Global,
-    name: &str,
-    text: &[u8],
-    message: Result<Message, AllocError>,
-) -> Fault<'static>
-    ensures { IsToldFault result }
-{
-    match message {
-        Ok(message) => told_fault(alloc, name, text, message),
-        Err(_) => Fault::Memory,
-    }
-}
-
-/// The fault for the script in a file with this name that is refused with this error. The names are those that rule texts declare.
-pub fn script_fault(
-    alloc: Global,
-    name: &str,
-    text: &[u8],
-    error: ScriptError,
-    names: &DeclaredNames<'_>,
-) -> Fault<'static>
-    ensures { IsOfScript error result }
-{
-    match error {
-        ScriptError::Memory => Fault::Memory,
-        ScriptError::Line { n, reason } => {
-            let packets = names.packets.as_slice();
-            let message = script_message(alloc, text, n, reason, packets);
-            message_fault(alloc, name, text, message)
-        }
-    }
-}
-
-/// The fault for a line, by its number from 1, of the scenario in a file with this name, refused for this reason. The names are
-/// those that rule texts declare.
-pub fn scenario_fault(
-    alloc: Global,
-    name: &str,
-    text: &[u8],
-    number: usize,
-    reason: Reason,
-    names: &DeclaredNames<'_>,
-) -> Fault<'static>
-    ensures { IsToldFault result }
-{
-    message_fault(
-        alloc,
-        name,
-        text,
-        scenario_message(alloc, text, number, reason, names),
-    )
-}
-
-/// The fault for a line, by its number from 1, of the scenario in a file with this name that has an invalid expectation.
-pub fn expectation_fault(alloc: Global, name: &str, text: &[u8], number: usize) -> Fault<'static>
-    ensures { IsToldFault result }
-{
-    message_fault(alloc, name, text, expectation_message(alloc, text, number))
-}
-
-/// The fault for the schedule in a file with this name, with this refusal.
+/// The fault for the schedule or the script in a file with this name, with this refusal.
 pub fn refusal_fault(alloc: Global, name: &str, text: &[u8], refusal: Refusal) -> Fault<'static>
     ensures { IsOfRefusal refusal result }
 {
