@@ -40,7 +40,8 @@ pub all_merged : (old : List ℕ) (at : ℕ) (changes : List Change) → are_apa
     → take at old ++ merged old at changes ≡ applied changes old
 all_merged old at [] apart = take-append-drop at old
 all_merged old at (change ∷ rest) apart =
-    let t = tested (nat_le at change.from) (nat_le change.from change.to) (nat_le change.to (length old)) (are_apart change.to (length old) rest) apart in
+    let t = tested (nat_le at change.from) (nat_le change.from change.to) (nat_le change.to (length old))
+    (are_apart change.to (length old) rest) apart in
     step old (merged old change.to rest) change.bytes at change.from change.to (leb-true at change.from t.0)
     (leb-true change.from change.to t.1) (leb-true change.to (length old) t.2)
     ∙ ap (λ text. replaced text change.from change.to change.bytes) (all_merged old change.to rest t.3)

@@ -5,8 +5,8 @@ ghost use Rattle.editor_text.specs.Place.{ends_line, is_after, line_feed, next_p
 
 use std::marker::Model;
 
-/// A place of a text: its line and the UTF-16 units before it on the line, both counted from 0. A line ends with a line feed, with a carriage
-/// return, or with both in this order (Language Server Protocol 3.17, "Position").
+/// A place of a text: its line and the UTF-16 units before it on the line, both counted from 0. A line ends with a line feed, with a
+/// carriage return, or with both in this order (Language Server Protocol 3.17, "Position").
 #[derive(Clone, Copy, Debug, PartialEq, Eq)]
 pub struct Place {
     /// Lines before it.
