@@ -1,5 +1,8 @@
 //! Changes of a text.
 
+ghost use Rattle.std.specs.Prelude.{◌≡◌, ◌≤◌, IfOk, IfSome, IsTrue, length};
+ghost use Rattle.editor_text.specs.Changes.{AreApart, applied, changes_of, replaced_within};
+
 use std::alloc::{AllocError, Global};
 
 /// A change of a text: its bytes from one place up to another become others.
@@ -20,7 +23,9 @@ pub fn replace(
     from: usize,
     to: usize,
     new: &[u8],
-) -> Result<Vec<u8>, AllocError> {
+) -> Result<Vec<u8>, AllocError>
+    ensures { IfOk result (λ whole. whole.items ≡ replaced_within text.now from to new.now) }
+{
     let from = from.min(text.len());
     let to = to.min(text.len()).max(from);
     let mut whole = Vec::from_slice(alloc, &text[..from])?;
@@ -29,12 +34,127 @@ pub fn replace(
     Ok(whole)
 }
 
+/// The text after changes that refer to it, made from the first to the last; `None` if they aren't in order, apart and within the text.
+fn apply(alloc: Global, old: &[u8], changes: &[Replacement]) -> Result<Option<Vec<u8>>, AllocError>
+    ensures applied { IfOk result (λ found.
+        IfSome found (λ new. new.items ≡ applied (changes_of changes.now) old.now)) }
+    ensures apart { IfOk result (λ found.
+        IfSome found (λ _. AreApart old.now (changes_of changes.now))) }
+{
+    let mut new = Vec::new(alloc);
+    let mut at = 0;
+    for change in changes {
+        if change.from < at || change.to < change.from || change.to > old.len() {
+            return Ok(None);
+        }
+        new.extend_from_slice(&old[at..change.from])?;
+        new.extend_from_slice(change.text.as_slice())?;
+        at = change.to;
+    }
+    new.extend_from_slice(&old[at..])?;
+    Ok(Some(new))
+}
+
+/// Whether these changes make one text the other.
+fn lead_to(
+    alloc: Global,
+    old: &[u8],
+    changes: &[Replacement],
+    new: &[u8],
+) -> Result<bool, AllocError>
+    ensures applied { IfOk result (λ lead.
+        IsTrue lead → applied (changes_of changes.now) old.now ≡ new.now) }
+    ensures apart { IfOk result (λ lead. IsTrue lead → AreApart old.now (changes_of changes.now)) }
+{
+    match apply(alloc, old, changes)? {
+        Some(text) => Ok(text.as_slice() == new),
+        None => Ok(false),
+    }
+}
+
+/// One change, of all that a text has.
+fn whole_change(alloc: Global, old: &[u8], new: &[u8]) -> Result<Vec<Replacement>, AllocError>
+    ensures applied { IfOk result (λ list. applied (changes_of list.items) old.now ≡ new.now) }
+    ensures apart { IfOk result (λ list. AreApart old.now (changes_of list.items)) }
+{
+    let mut changes = Vec::new(alloc);
+    changes.push(Replacement {
+        from: 0,
+        to: old.len(),
+        text: Vec::from_slice(alloc, new)?,
+    })?;
+    Ok(changes)
+}
+
+/// Whether a byte is a blank or ends a line.
+fn is_blank(byte: u8) -> bool {
+    matches!(byte, b' ' | b'\t' | b'\n' | b'\r')
+}
+
+/// How many blanks stand in front.
+fn blank_count(text: &[u8]) -> usize
+    ensures { result ≤ length text.now }
+{
+    text.iter().take_while(|byte| is_blank(**byte)).count()
+}
+
+/// How many other bytes stand in front.
+fn word_length(text: &[u8]) -> usize
+    ensures { result ≤ length text.now }
+{
+    text.iter().take_while(|byte| !is_blank(**byte)).count()
+}
+
+/// The blanks in front of a text, the other bytes after them, and the rest.
+fn first_word(text: &[u8]) -> (&[u8], &[u8], &[u8]) {
+    let (blanks, rest) = text.split_at(blank_count(text));
+    let (word, rest) = rest.split_at(word_length(rest));
+    (blanks, word, rest)
+}
+
+/// The changes of blanks that make one text the other, if all other bytes are the same; else some of them.
+fn changes_of_blanks(
+    alloc: Global,
+    old: &[u8],
+    new: &[u8],
+) -> Result<Vec<Replacement>, AllocError> {
+    let mut changes = Vec::new(alloc);
+    let mut old_rest = old;
+    let mut new_rest = new;
+    for _ in 0..old.len().max(new.len()) {
+        let from = old.len().saturating_sub(old_rest.len());
+        let (old_blanks, old_word, old_next) = first_word(old_rest);
+        let (new_blanks, new_word, new_next) = first_word(new_rest);
+        if old_blanks != new_blanks {
+            changes.push(Replacement {
+                from,
+                to: from.saturating_add(old_blanks.len()),
+                text: Vec::from_slice(alloc, new_blanks)?,
+            })?;
+        }
+        if old_word != new_word || old_next.is_empty() && new_next.is_empty() {
+            return Ok(changes);
+        }
+        old_rest = old_next;
+        new_rest = new_next;
+    }
+    Ok(changes)
+}
+
 /// The changes that make one text another, in the order of the first, apart from each other: of blanks and line ends alone where all other
 /// bytes are the same, else one of all.
 pub fn replacements_between(
     alloc: Global,
-    _old: &[u8],
-    _new: &[u8],
-) -> Result<Vec<Replacement>, AllocError> {
-    Ok(Vec::new(alloc))
+    old: &[u8],
+    new: &[u8],
+) -> Result<Vec<Replacement>, AllocError>
+    ensures applied { IfOk result (λ list. applied (changes_of list.items) old.now ≡ new.now) }
+    ensures apart { IfOk result (λ list. AreApart old.now (changes_of list.items)) }
+{
+    let changes = changes_of_blanks(alloc, old, new)?;
+    if lead_to(alloc, old, changes.as_slice(), new)? {
+        Ok(changes)
+    } else {
+        whole_change(alloc, old, new)
+    }
 }

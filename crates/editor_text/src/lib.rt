@@ -3,6 +3,7 @@
 #![tactic(auto)]
 
 mod change;
+pub mod laws;
 mod outline;
 mod position;
 
