@@ -98,18 +98,19 @@ fn blank_count(text: &[u8]) -> usize
     text.iter().take_while(|byte| is_blank(**byte)).count()
 }
 
-/// How many other bytes stand in front.
-fn word_length(text: &[u8]) -> usize
-    ensures { result ≤ length text.now }
+/// How many bytes in front are the same in both texts, and no blanks.
+fn common_length(old: &[u8], new: &[u8]) -> usize
+    ensures old { result ≤ length old.now }
+    ensures new { result ≤ length new.now }
 {
-    text.iter().take_while(|byte| !is_blank(**byte)).count()
-}
-
-/// The blanks in front of a text, the other bytes after them, and the rest.
-fn first_word(text: &[u8]) -> (&[u8], &[u8], &[u8]) {
-    let (blanks, rest) = text.split_at(blank_count(text));
-    let (word, rest) = rest.split_at(word_length(rest));
-    (blanks, word, rest)
+    let mut count = 0;
+    for (byte, other) in old.iter().zip(new.iter()) {
+        if is_blank(*byte) || *byte != *other {
+            break;
+        }
+        count += 1;
+    }
+    count
 }
 
 /// The changes of blanks that make one text the other, if all other bytes are the same; else some of them.
@@ -121,10 +122,10 @@ fn changes_of_blanks(
     let mut changes = Vec::new(alloc);
     let mut old_rest = old;
     let mut new_rest = new;
-    for _ in 0..old.len().max(new.len()) {
+    for _ in 0..=old.len() {
         let from = old.len().saturating_sub(old_rest.len());
-        let (old_blanks, old_word, old_next) = first_word(old_rest);
-        let (new_blanks, new_word, new_next) = first_word(new_rest);
+        let (old_blanks, old_next) = old_rest.split_at(blank_count(old_rest));
+        let (new_blanks, new_next) = new_rest.split_at(blank_count(new_rest));
         if old_blanks != new_blanks {
             changes.push(Replacement {
                 from,
@@ -132,11 +133,12 @@ fn changes_of_blanks(
                 text: Vec::from_slice(alloc, new_blanks)?,
             })?;
         }
-        if old_word != new_word || old_next.is_empty() && new_next.is_empty() {
-            return Ok(changes);
+        let common = common_length(old_next, new_next);
+        if common == 0 {
+            break;
         }
-        old_rest = old_next;
-        new_rest = new_next;
+        old_rest = old_next.split_at(common).1;
+        new_rest = new_next.split_at(common).1;
     }
     Ok(changes)
 }

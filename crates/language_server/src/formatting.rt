@@ -1,5 +1,9 @@
 //! Formatting as changes of blanks and line ends.
 
+ghost use Rattle.std.specs.Prelude.{IfOk};
+ghost use Rattle.editor_text.specs.Changes.{applied, changes_of};
+ghost use Rattle.rule_layout.specs.Formatting.{IsFormatted};
+
 use crate::document::{Document, Language};
 use crate::failure::{ErrorKind, Failure};
 use crate::shapes::{edit_object, range_in};
@@ -10,6 +14,7 @@ use std::alloc::Global;
 
 /// The changes that give a rule text the one layout.
 fn layout_changes(alloc: Global, text: &[u8]) -> Result<Vec<Replacement>, FormatError>
+    ensures { IfOk result (λ list. IsFormatted text.now (applied (changes_of list.items) text.now)) }
 {
     let new = format(alloc, text)?;
     Ok(replacements_between(alloc, text, new.as_slice())?)

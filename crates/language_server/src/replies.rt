@@ -1,7 +1,5 @@
 //! What the server sends, each message with its header.
 
-ghost use Rattle.std.specs.Prelude.{◌≡◌, IfOk};
-
 use crate::failure::ErrorKind;
 use serde_json::{Value, json};
 use std::alloc::{AllocError, Global};

@@ -1,7 +1,5 @@
 //! Notifications about documents: opened, changed, saved, closed.
 
-ghost use Rattle.std.specs.Prelude.{◌≡◌, IfOk};
-
 use crate::document::{Document, language_of};
 use crate::incoming::{member_of, uri_in};
 use crate::shapes::range_in;
