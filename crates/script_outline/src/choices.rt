@@ -9,6 +9,14 @@ use editor_text::{Choice, WordClass};
 use lc_model::TYPE_WORDS;
 use std::alloc::{AllocError, Global};
 
+/// The form of the statement that a step begins; empty if it begins none.
+fn form_of(step: &Step) -> &'static str {
+    match (step.1, explanation_of(step.2)) {
+        (Part::Keyword(_), Some(explanation)) => explanation.form,
+        _ => "",
+    }
+}
+
 /// Adds words of one class.
 fn add_words(
     alloc: Global,
@@ -70,7 +78,7 @@ impl<'a> ScriptOutline<'a> {
             Part::Keyword(words) | Part::Constant(words) | Part::Sign(words) | Part::Known(words) =>
                 {
                     let class = class_of(step.1).unwrap_or(WordClass::Keyword);
-                    let detail = explanation_of(step.2).map_or("", |explanation| explanation.form);
+                    let detail = form_of(step);
                     add_words(alloc, choices, class, words, detail)
                 }
             Part::Type => add_words(alloc, choices, WordClass::Type, TYPE_WORDS, ""),

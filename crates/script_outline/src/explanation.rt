@@ -83,7 +83,7 @@ const EXPLANATIONS: &[(Stage, &str, &str)] = &[
     (
         Stage::Record,
         "record S F KIND BYTES",
-        "A record of kind `packet`, `tick`, `file` or `half` at second S and F / 65,536, as the lines that follow.",
+        "A record of kind `packet`, `tick`, `file` or `half` at second S and F / 65,536; so are the lines that follow.",
     ),
     (
         Stage::Ramp,
