@@ -1,4 +1,4 @@
-//! The words of the rule language, as docs/RULES.md explains them. TokenBytes by tools/dev/write_explanations.
+//! The words of the rule language, as docs/RULES.md explains them. Written by tools/dev/write_explanations.
 
 /// Words of the language with one explanation.
 pub struct Keyword {
