@@ -60,6 +60,9 @@ fn add_comments(
 impl<'a> Outline<'a> {
     /// The name in a token of an item, if the item's form says what it names.
     pub(crate) fn name_in(&self, token: Token<'a>) -> Option<NameUse<'a>> {
+        if token.kind != TokenKind::Name {
+            return None;
+        }
         let found = self.names.binary_search_by_key(&token.at, |name| name.at);
         self.names.get(found.ok()?).copied()
     }
