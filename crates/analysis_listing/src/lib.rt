@@ -13,7 +13,7 @@ mod tables;
 pub use error::ListingError;
 pub use fields::{FieldNames, compares};
 pub use lines::{FieldName, NameSource, ShownTerm, Values};
-pub use listing::{LineChoice, goes_both_ways, list_outcomes, terms_in, why};
+pub use listing::{LineChoice, goes_both_ways, list_outcomes, terms_in, why, write_outcome_of};
 pub use marking::list_actionpoints;
 pub use said::{RuleFindings, said_of};
 pub use schedule::unsampled_rules;

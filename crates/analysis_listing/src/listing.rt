@@ -11,9 +11,9 @@ use lc_model::{Rule, Term};
 use rpn_compiler::RuleText;
 use rule_analysis::{
     ComparisonJudgement, Constancy, Finding, RuleJudgement, UnknownReason, bits_read, field_of,
-    judge,
+    judge_condition,
 };
-use rule_parser::Item;
+use rule_parser::{Item, RuleItem};
 use std::alloc::{AllocError, Global};
 use std::io::Write;
 
@@ -191,6 +191,49 @@ fn write_outcome<W: Write>(
     write_rule(subject, judged, LineChoice::All, out)
 }
 
+/// Judges the rule of an item, and writes its line if it is known to fail and to pass.
+fn write_item<W: Write>(
+    alloc: Global,
+    names: &FieldNames<'_>,
+    item: &RuleItem<'_>,
+    rule: &Rule,
+    out: &mut W,
+) -> Result<(), ListingError> {
+    let judged = judge_condition(alloc, &rule.cond)?;
+    let names = names.first_in(alloc, &item.condition)?;
+    write_outcome(alloc, &names, rule, &judged, out)
+}
+
+/// The rule with this number among items, counted from 0.
+fn rule_item<'s, 'a>(items: &'s [Item<'a>], number: usize) -> Option<&'s RuleItem<'a>> {
+    let mut left = number;
+    for item in items {
+        if let Item::Rule(rule) = item {
+            if left == 0 {
+                return Some(rule);
+            }
+            left -= 1;
+        }
+    }
+    None
+}
+
+/// Writes the line of `list_outcomes` about the rule with this number, counted from 0; nothing if the text has none. Errors as there.
+pub fn write_outcome_of<W: Write>(
+    alloc: Global,
+    text: &RuleText<'_>,
+    number: usize,
+    out: &mut W,
+) -> Result<(), ListingError> {
+    let item = rule_item(text.file.items.as_slice(), number);
+    let rule = text.rules.rules.as_slice().get(number);
+    let (Some(item), Some(rule)) = (item, rule) else {
+        return Ok(());
+    };
+    let names = FieldNames::of(alloc, text)?;
+    write_item(alloc, &names, item, rule, out)
+}
+
 /// Writes a line for each rule of a text that is known to fail and to pass, with values of its fields for both. Errors: `Memory`, or
 /// `Write` if the writer refuses bytes.
 pub fn list_outcomes<W: Write>(
@@ -199,16 +242,14 @@ pub fn list_outcomes<W: Write>(
     out: &mut W,
 ) -> Result<(), ListingError> {
     let names = FieldNames::of(alloc, text)?;
-    let judgement = judge(alloc, &text.rules.rules)?;
     let rules = text.rules.rules.as_slice();
     let mut number = 0usize;
     for item in &text.file.items {
         let Item::Rule(item) = item else {
             continue;
         };
-        if let (Some(rule), Some(judged)) = (rules.get(number), judgement.rules.get(number)) {
-            let names = names.first_in(alloc, &item.condition)?;
-            write_outcome(alloc, &names, rule, judged, out)?;
+        if let Some(rule) = rules.get(number) {
+            write_item(alloc, &names, item, rule, out)?;
         }
         number = number.saturating_add(1);
     }

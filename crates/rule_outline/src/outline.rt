@@ -1,99 +1,74 @@
 //! The outline of a rule text.
 
-use editor_text::{Choice, ClassedWord, Fold, Hover, Symbol};
-use rule_errors::{Mended, NameKind};
+use crate::names::{NameUse, names_in};
+use rule_errors::{Mended, NameKind, Source};
+use rule_lexer::{LexError, Token, lex};
 use std::alloc::{AllocError, Global};
-
-/// A name where it stands in a text.
-#[derive(Clone, Copy, Debug, PartialEq, Eq)]
-pub struct NameUse<'a> {
-    /// What it names.
-    pub kind: NameKind,
-    /// The place of its first byte.
-    pub at: usize,
-    /// The name.
-    pub text: &'a [u8],
-    /// Whether an item declares it here.
-    pub is_declaration: bool,
-}
-
-/// Why a name can't be given another.
-#[derive(Clone, Copy, Debug, PartialEq, Eq)]
-pub enum RenameFault {
-    /// The new name is no name.
-    NoName,
-    /// The new name is a reserved word.
-    Reserved,
-    /// The new name has over 32 bytes.
-    TooLong,
-    /// The text has the new name already.
-    Taken,
-}
 
 /// The outline of a rule text.
 #[derive(Drop)]
 pub struct Outline<'a> {
-    text: &'a [u8],
+    /// The text.
+    pub(crate) text: &'a [u8],
+    /// The text with blanks in the place of bad tokens, its tokens and its items.
+    pub(crate) source: Source<'a>,
+    /// The names in the items, in the order of the text.
+    pub(crate) names: Vec<NameUse<'a>>,
+}
+
+/// The tokens of a text without bad ones. A text that is too long has none.
+fn tokens_of<'a>(alloc: Global, text: &'a [u8]) -> Result<Vec<Token<'a>>, AllocError> {
+    match lex(alloc, text) {
+        Ok(tokens) => Ok(tokens),
+        Err(LexError::Memory) => Err(AllocError),
+        Err(_) => Ok(Vec::new(alloc)),
+    }
 }
 
 impl<'a> Outline<'a> {
-    /// The outline of a text, with what `mend` returned for it.
-    pub fn new(_alloc: Global, text: &'a [u8], _mended: &'a Mended) -> Result<Outline<'a>, AllocError> {
-        Ok(Outline { text })
+    /// The outline of a text, with what `mend` returned for it. The only error is a lack of memory.
+    pub fn new(
+        alloc: Global,
+        text: &'a [u8],
+        mended: &'a Mended,
+    ) -> Result<Outline<'a>, AllocError> {
+        let whole = mended.text.as_slice();
+        let tokens = tokens_of(alloc, whole)?;
+        let source = Source::new(alloc, whole, tokens)?;
+        let names = names_in(alloc, &source)?;
+        Ok(Outline {
+            text,
+            source,
+            names,
+        })
     }
 
     /// The name that has a byte, or its end, at this place.
-    pub fn name_at(&self, _at: usize) -> Option<NameUse<'a>> {
-        None
+    pub fn name_at(&self, at: usize) -> Option<NameUse<'a>> {
+        self.names.iter().find(|name| name.touches(at)).copied()
     }
 
     /// Where a name is declared: the first declaration of its kind.
-    pub fn declaration(&self, _name: NameUse<'a>) -> Option<NameUse<'a>> {
-        None
+    pub fn declaration(&self, name: NameUse<'a>) -> Option<NameUse<'a>> {
+        self.declaration_of(name.kind, name.text)
     }
 
     /// Where a packet, field or rule of this name is declared: the first declaration.
-    pub fn declaration_of(&self, _kind: NameKind, _name: &[u8]) -> Option<NameUse<'a>> {
-        None
+    pub fn declaration_of(&self, kind: NameKind, name: &[u8]) -> Option<NameUse<'a>> {
+        self.names
+            .iter()
+            .find(|other| other.is_declaration && other.is_of(kind, name))
+            .copied()
     }
 
     /// All uses of a name, declarations included, in the order of the text.
-    pub fn uses(&self, alloc: Global, _name: NameUse<'a>) -> Result<Vec<NameUse<'a>>, AllocError> {
-        Ok(Vec::new(alloc))
-    }
-
-    /// Why a name can't be given this new one; `None` if it can.
-    pub fn rename_fault(&self, _alloc: Global, _name: NameUse<'a>, _new: &[u8]) -> Result<Option<RenameFault>, AllocError> {
-        Ok(None)
-    }
-
-    /// The packets, fields and rules that the text declares, in its order.
-    pub fn symbols(&self, alloc: Global) -> Result<Vec<Symbol>, AllocError> {
-        Ok(Vec::new(alloc))
-    }
-
-    /// Items and comments of several lines, in the order of the text.
-    pub fn folds(&self, alloc: Global) -> Result<Vec<Fold>, AllocError> {
-        Ok(Vec::new(alloc))
-    }
-
-    /// The words and comments, in the order of the text.
-    pub fn classed_words(&self, alloc: Global) -> Result<Vec<ClassedWord>, AllocError> {
-        Ok(Vec::new(alloc))
-    }
-
-    /// What may stand at a place, after the tokens that end before it.
-    pub fn choices(&self, alloc: Global, _at: usize) -> Result<Vec<Choice>, AllocError> {
-        Ok(Vec::new(alloc))
-    }
-
-    /// What is said of the word at a place.
-    pub fn hover(&self, _alloc: Global, _at: usize) -> Result<Option<Hover>, AllocError> {
-        Ok(None)
-    }
-
-    /// What is said of a packet, field or rule, in Markdown.
-    pub fn hover_of(&self, _alloc: Global, _kind: NameKind, _name: &[u8]) -> Result<Option<String>, AllocError> {
-        Ok(None)
+    pub fn uses(&self, alloc: Global, name: NameUse<'a>) -> Result<Vec<NameUse<'a>>, AllocError> {
+        let mut uses = Vec::new(alloc);
+        for other in &self.names {
+            if other.is_of(name.kind, name.text) {
+                uses.push(*other)?;
+            }
+        }
+        Ok(uses)
     }
 }

@@ -1,7 +1,9 @@
 """What `flight_tools check --explain` prints: the rows of the tables of warnings and refusals in docs/RULES.md, as constants of
-crates/check_command."""
+crates/check_command. Beside it, what an editor shows of the language's words (documents/keywords.py)."""
 import os
 import re
+
+from documents import keywords
 
 SOURCE = "crates/check_command/src/explanations.rt"
 EXAMPLE = re.compile(r": \d+ at \d+$")
@@ -67,17 +69,22 @@ def source_of(text):
     return f"{HEAD}/// The warnings.\n{warnings}\n/// The refusals. One that has several examples has as many rows.\n{refusals}"
 
 
-def wanted(root):
-    """What stands in the source file."""
+def sources_of(root):
+    """What stands in each source file that docs/RULES.md makes, by its path."""
     with open(f"{root}/docs/RULES.md", encoding="utf-8") as file:
-        return source_of(file.read())
+        text = file.read()
+    return {SOURCE: source_of(text), keywords.SOURCE: keywords.source_of(text)}
+
+
+def is_written(path, wanted):
+    """Whether a file has this text."""
+    if not os.path.exists(path):
+        return False
+    with open(path, encoding="utf-8") as file:
+        return file.read() == wanted
 
 
 def faults_of(root):
-    """Whether the source file isn't what the tables make."""
-    path = f"{root}/{SOURCE}"
-    if os.path.exists(path):
-        with open(path, encoding="utf-8") as file:
-            if file.read() == wanted(root):
-                return []
-    return [f"{SOURCE} isn't what the tables of docs/RULES.md make: run tools/dev/write_explanations"]
+    """The source files that aren't what docs/RULES.md makes."""
+    wrong = [it for it, wanted in sources_of(root).items() if not is_written(f"{root}/{it}", wanted)]
+    return [f"{it} isn't what docs/RULES.md makes: run tools/dev/write_explanations" for it in wrong]
