@@ -2,22 +2,22 @@
 use Rattle.std.proofs.Common.{◌≡◌, ◌+◌, ◌*◌, ◌-◌, ◌<◌, ◌≤◌, ◌&&◌, ℕ, zero, suc, Bool, true, false, cond, if◌then◌else◌, nat_lt, List, length, slice_index, refl, sym, ap, ◌∙◌, subst, arith}
 use Rattle.std.proofs.lemmas.Bool.{ltb-false, ltb-true}
 use Rattle.std.proofs.lemmas.Bool.Decides.{nat_tests}
-use Rattle.editor_text.specs.declared.position.Place.{Place}
+use Rattle.editor_text.specs.declared.position.UnitPlace.{UnitPlace}
 use Rattle.editor_text.specs.Place.{before_pair, ends_line, is_after, is_continuation, is_pair, place_of, plus, reach, units_of}
 use Rattle.editor_text.proofs.Places.{at_end, at_start, goes_on, one_more, stops}
 
 -- later places have greater numbers
-abbrev pub code : Place → ℕ
+abbrev pub code : UnitPlace → ℕ
 code place = place.line * 8589934592 + place.unit
 
 -- the place of a byte that has so many before it
-abbrev IsBelow : ℕ → Place → Type 0
+abbrev IsBelow : ℕ → UnitPlace → Type 0
 IsBelow k place = (place.line ≤ k) × (place.unit ≤ 2 * k)
 
-after : (a b : Place) → a.unit < 8589934592 → b.unit < 8589934592 → code b < code a → is_after a b ≡ true
+after : (a b : UnitPlace) → a.unit < 8589934592 → b.unit < 8589934592 → code b < code a → is_after a b ≡ true
 after a b u v less = grind (arith, nat_tests)
 
-not_after : (a b : Place) → a.unit < 8589934592 → b.unit < 8589934592 → code a ≤ code b → is_after a b ≡ false
+not_after : (a b : UnitPlace) → a.unit < 8589934592 → b.unit < 8589934592 → code a ≤ code b → is_after a b ≡ false
 not_after a b u v less = grind (arith, nat_tests)
 
 units : (byte : ℕ) → units_of byte ≤ 2
@@ -27,21 +27,21 @@ some_units : (byte : ℕ) → is_continuation byte ≡ false → 0 < units_of by
 some_units byte first = grind (arith, nat_tests)
 
 -- a place one byte on, by whether a line ends and by the units
-on : Bool → Place → ℕ → Place
+on : Bool → UnitPlace → ℕ → UnitPlace
 on ends place u =
     if ends then record { line = plus place.line 1; unit = 0 } else record { line = place.line; unit = plus place.unit u }
 
-on_below : (ends : Bool) (k : ℕ) (place : Place) (u : ℕ) → u ≤ 2 → IsBelow k place → IsBelow (suc k) (on ends place u)
+on_below : (ends : Bool) (k : ℕ) (place : UnitPlace) (u : ℕ) → u ≤ 2 → IsBelow k place → IsBelow (suc k) (on ends place u)
 unfolding on
 on_below true k place u few below = (omega arith, omega arith)
 on_below false k place u few below = (omega arith, omega arith)
 
-on_weakly : (ends : Bool) (k : ℕ) (place : Place) (u : ℕ) → k < 2147483647 → u ≤ 2 → IsBelow k place → code place ≤ code (on ends place u)
+on_weakly : (ends : Bool) (k : ℕ) (place : UnitPlace) (u : ℕ) → k < 2147483647 → u ≤ 2 → IsBelow k place → code place ≤ code (on ends place u)
 unfolding on
 on_weakly true k place u short few below = omega arith
 on_weakly false k place u short few below = omega arith
 
-on_strictly : (ends : Bool) (k : ℕ) (place : Place) (u : ℕ) → k < 2147483647 → 0 < u → u ≤ 2 → IsBelow k place
+on_strictly : (ends : Bool) (k : ℕ) (place : UnitPlace) (u : ℕ) → k < 2147483647 → 0 < u → u ≤ 2 → IsBelow k place
     → code place < code (on ends place u)
 unfolding on
 on_strictly true k place u short some few below = omega arith
@@ -52,20 +52,20 @@ unfolding on
 next_is text k = one_more text k (suc k) (omega arith)
 
 pub below : (text : List ℕ) (k : ℕ) → IsBelow k (place_of text k)
-below text zero = subst (λ (place : Place). IsBelow 0 place) (sym (at_start text)) (omega arith, omega arith)
+below text zero = subst (λ (place : UnitPlace). IsBelow 0 place) (sym (at_start text)) (omega arith, omega arith)
 below text (suc k) =
-    subst (λ (place : Place). IsBelow (suc k) place) (sym (next_is text k))
+    subst (λ (place : UnitPlace). IsBelow (suc k) place) (sym (next_is text k))
     (on_below (ends_line text k) k (place_of text k) (units_of (slice_index text k)) (units (slice_index text k)) (below text k))
 
 weakly : (text : List ℕ) (k : ℕ) → k < 2147483647 → code (place_of text k) ≤ code (place_of text (suc k))
 weakly text k short =
-    subst (λ (place : Place). code (place_of text k) ≤ code place) (sym (next_is text k))
+    subst (λ (place : UnitPlace). code (place_of text k) ≤ code place) (sym (next_is text k))
     (on_weakly (ends_line text k) k (place_of text k) (units_of (slice_index text k)) short (units (slice_index text k)) (below text k))
 
 strictly : (text : List ℕ) (k : ℕ) → k < 2147483647 → is_continuation (slice_index text k) ≡ false
     → code (place_of text k) < code (place_of text (suc k))
 strictly text k short first =
-    subst (λ (place : Place). code (place_of text k) < code place) (sym (next_is text k))
+    subst (λ (place : UnitPlace). code (place_of text k) < code place) (sym (next_is text k))
     (on_strictly (ends_line text k) k (place_of text k) (units_of (slice_index text k)) short (some_units (slice_index text k) first)
     (units (slice_index text k)) (below text k))
 

@@ -1,6 +1,6 @@
 -- Places of a text: lines and UTF-16 units (Language Server Protocol 3.17, "Position").
 use Rattle.std.specs.Prelude.{ℕ, zero, suc, ◌+◌, ◌-◌, ◌^◌, min, Bool, not, ◌||◌, ◌&&◌, if◌then◌else◌, ◌==◌, nat_lt, nat_le, List, length, slice_index}
-use Rattle.editor_text.specs.declared.position.Place.{Place}
+use Rattle.editor_text.specs.declared.position.UnitPlace.{UnitPlace}
 
 -- ASCII
 abbrev pub line_feed : ℕ
@@ -31,22 +31,22 @@ ends_line text at =
     slice_index text at == line_feed || (slice_index text at == carriage_return && not (slice_index text (at + 1) == line_feed))
 
 -- the place after this byte, whose own place is given
-abbrev pub next_place : List ℕ → ℕ → Place → Place
+abbrev pub next_place : List ℕ → ℕ → UnitPlace → UnitPlace
 next_place text at place =
     if ends_line text at then record { line = plus place.line 1; unit = 0 } else
     record { line = place.line; unit = plus place.unit (units_of (slice_index text at)) }
 
 -- the place of the byte that has so many bytes before it
-unfoldable pub place_of : List ℕ → ℕ → Place
+unfoldable pub place_of : List ℕ → ℕ → UnitPlace
 place_of text zero = record { line = 0; unit = 0 }
 place_of text (suc at) = next_place text at (place_of text at)
 
 -- whether a place stands after another
-abbrev pub is_after : Place → Place → Bool
+abbrev pub is_after : UnitPlace → UnitPlace → Bool
 is_after a b = nat_lt b.line a.line || (a.line == b.line && nat_lt b.unit a.unit)
 
 -- on from a byte while the place of the next one, of so many, isn't after this place
-unfoldable pub reach : List ℕ → Place → ℕ → ℕ → ℕ
+unfoldable pub reach : List ℕ → UnitPlace → ℕ → ℕ → ℕ
 reach text place at zero = at
 reach text place at (suc left) =
     if is_after (place_of text (suc at)) place then at else reach text place (suc at) left
@@ -56,5 +56,5 @@ abbrev pub before_pair : List ℕ → ℕ → ℕ
 before_pair text at = if nat_lt 0 at && is_pair text (at - 1) then at - 1 else at
 
 -- how many bytes stand before a place: those of the last place that isn't after it
-abbrev pub offset_of : List ℕ → Place → ℕ
+abbrev pub offset_of : List ℕ → UnitPlace → ℕ
 offset_of text place = before_pair text (reach text place 0 (length text))

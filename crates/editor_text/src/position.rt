@@ -8,7 +8,7 @@ use std::marker::Model;
 /// A place of a text: its line and the UTF-16 units before it on the line, both counted from 0. A line ends with a line feed, with a
 /// carriage return, or with both in this order (Language Server Protocol 3.17, "Position").
 #[derive(Clone, Copy, Debug, PartialEq, Eq)]
-pub struct Place {
+pub struct UnitPlace {
     /// Lines before it.
     pub line: u32,
     /// UTF-16 units before it on its line.
@@ -16,7 +16,7 @@ pub struct Place {
 }
 
 /// The place of the first byte.
-const START: Place = Place { line: 0, unit: 0 };
+const START: UnitPlace = UnitPlace { line: 0, unit: 0 };
 
 /// The UTF-16 units of a character, by its first byte; 0 for its other bytes.
 fn units_of(byte: u8) -> u32
@@ -47,17 +47,17 @@ fn ends_line(text: &[u8], at: usize) -> bool
 }
 
 /// The place after this byte, whose own place is given.
-fn next_place(text: &[u8], at: usize, place: Place) -> Place
+fn next_place(text: &[u8], at: usize, place: UnitPlace) -> UnitPlace
     requires { at < length text.now }
     ensures { result ≡ next_place text.now at place }
 {
     if ends_line(text, at) {
-        Place {
+        UnitPlace {
             line: place.line.saturating_add(1),
             unit: 0,
         }
     } else {
-        Place {
+        UnitPlace {
             line: place.line,
             unit: place.unit.saturating_add(units_of(text[at])),
         }
@@ -65,14 +65,14 @@ fn next_place(text: &[u8], at: usize, place: Place) -> Place
 }
 
 /// Whether a place stands after another.
-fn is_after(a: Place, b: Place) -> bool
+fn is_after(a: UnitPlace, b: UnitPlace) -> bool
     ensures { result ≡ is_after a b }
 {
     a.line > b.line || a.line == b.line && a.unit > b.unit
 }
 
 /// The place of the byte that has `at` bytes before it; beyond the end, that of the end.
-pub fn place_at(text: &[u8], at: usize) -> Place
+pub fn place_at(text: &[u8], at: usize) -> UnitPlace
     ensures { result ≡ place_of text.now (min at (length text.now)) }
 {
     let mut walk = Walk::new(text);
@@ -80,7 +80,7 @@ pub fn place_at(text: &[u8], at: usize) -> Place
 }
 
 /// The last byte whose place isn't after this one, or the text's end.
-fn reach(text: &[u8], place: Place) -> usize
+fn reach(text: &[u8], place: UnitPlace) -> usize
     ensures reach { result ≡ reach text.now place 0 (length text.now) }
     ensures within { result ≤ length text.now }
 {
@@ -98,7 +98,7 @@ fn reach(text: &[u8], place: Place) -> usize
 
 /// How many bytes stand before a place. After a line's last unit, its end; after the last line, the text's end; inside a character, its
 /// first byte.
-pub fn offset_at(text: &[u8], place: Place) -> usize
+pub fn offset_at(text: &[u8], place: UnitPlace) -> usize
     ensures offset { result ≡ offset_of text.now place }
     ensures within { result ≤ length text.now }
 {
@@ -115,7 +115,7 @@ pub fn offset_at(text: &[u8], place: Place) -> usize
 pub struct Walk<'a> {
     text: &'a [u8],
     at: usize,
-    place: Place,
+    place: UnitPlace,
 }
 
 impl<'a> Model for Walk<'a> {
@@ -131,7 +131,7 @@ impl<'a> Model for Walk<'a> {
 
 impl<'a> Walk<'a> {
     /// A walk at the text's first byte.
-    #[tactic(auto, unfolding(crate::specs::Place::place_of))]
+    #[tactic(auto, unfolding(crate::specs::UnitPlace::place_of))]
     pub fn new(text: &'a [u8]) -> Walk<'a>
         ensures { result ≡ text.now }
     {
@@ -143,8 +143,8 @@ impl<'a> Walk<'a> {
     }
 
     /// The place of the byte that has `at` bytes before it, as `place_at` gives it. A place before the last one starts anew.
-    #[tactic(auto, unfolding(crate::specs::Place::place_of))]
-    pub fn place_at(&mut self, at: usize) -> Place
+    #[tactic(auto, unfolding(crate::specs::UnitPlace::place_of))]
+    pub fn place_at(&mut self, at: usize) -> UnitPlace
         ensures place { result ≡ place_of self.old (min at (length self.old)) }
         ensures same { self.new ≡ self.old }
     {
@@ -161,7 +161,7 @@ impl<'a> Walk<'a> {
 }
 
 /// The place of a byte, from that of a byte before it.
-fn walk_on(text: &[u8], from: usize, at: usize, start: Place) -> Place
+fn walk_on(text: &[u8], from: usize, at: usize, start: UnitPlace) -> UnitPlace
     requires order { from ≤ at }
     requires within { at ≤ length text.now }
     requires start { start ≡ place_of text.now from }

@@ -17,7 +17,7 @@ const END: &[u8] = b"\r\n\r\n";
 
 /// What stands in front of bytes that were read.
 #[derive(Clone, Copy, Debug, PartialEq, Eq)]
-pub enum Front {
+pub enum Frame {
     /// A part of a message.
     Part,
     /// This many bytes that are no message.
@@ -70,37 +70,37 @@ fn body_size(headers: &[u8]) -> Option<usize> {
 }
 
 /// What stands in front of bytes that have no end of header lines: a part of a message, unless they are too many.
-fn open_front(held: &[u8]) -> Front {
+fn open_frame(held: &[u8]) -> Frame {
     if held.len() < LONGEST_HEADERS {
-        return Front::Part;
+        return Frame::Part;
     }
     match last_place(front(held, LONGEST_HEADERS), LENGTH) {
-        Some(at) if at > 0 => Front::Junk(at),
-        Some(_) => Front::Junk(LENGTH.len()),
-        None => Front::Junk(LONGEST_HEADERS - LENGTH.len()),
+        Some(at) if at > 0 => Frame::Junk(at),
+        Some(_) => Frame::Junk(LENGTH.len()),
+        None => Frame::Junk(LONGEST_HEADERS - LENGTH.len()),
     }
 }
 
 /// What stands in front of bytes with a body of this size from this place on.
-fn body_front(held: &[u8], from: usize, size: usize) -> Front {
+fn body_frame(held: &[u8], from: usize, size: usize) -> Frame {
     let to = from.saturating_add(size);
     if size > LONGEST_BODY {
-        Front::TooLong(from)
+        Frame::TooLong(from)
     } else if to <= held.len() {
-        Front::Whole { from, to }
+        Frame::Whole { from, to }
     } else {
-        Front::Part
+        Frame::Part
     }
 }
 
 /// What stands in front of bytes that were read. Bytes before the last `Content-Length:` of header lines don't count.
-pub fn front_of(held: &[u8]) -> Front {
+pub fn first_frame(held: &[u8]) -> Frame {
     let Some(end) = first_place(front(held, LONGEST_HEADERS), END) else {
-        return open_front(held);
+        return open_frame(held);
     };
     let from = end.saturating_add(END.len());
     match body_size(front(held, end)) {
-        Some(size) => body_front(held, from, size),
-        None => Front::Junk(from),
+        Some(size) => body_frame(held, from, size),
+        None => Frame::Junk(from),
     }
 }

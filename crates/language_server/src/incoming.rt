@@ -38,10 +38,10 @@ fn is_id(value: &Value) -> bool {
 
 /// The message that a value is.
 pub fn incoming_of(alloc: Global, mut value: Value) -> Result<Incoming, AllocError> {
-    let method = match value.get("method").and_then(Value::as_str) {
-        Some(method) => String::from_str(alloc, method)?,
+    let method = match value.get("method") {
+        Some(Value::String(method)) => String::from_str(alloc, method.as_str())?,
         None if value.get("id").is_some() => return Ok(Incoming::Response),
-        None => return Ok(Incoming::NoMessage),
+        _ => return Ok(Incoming::NoMessage),
     };
     let params = taken(&mut value, "params");
     let id = taken(&mut value, "id");

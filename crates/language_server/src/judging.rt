@@ -1,12 +1,5 @@
 //! What `check` and `scenario` report of a document's text.
 
-ghost use Rattle.std.specs.Prelude.{◌≡◌, List, [], IfOk};
-ghost use Rattle.lc_model.specs.Rule.{NamedRule};
-ghost use Rattle.lc_model.specs.Text.Reading.{TextRefusal};
-ghost use Rattle.lc_model.specs.Tables.Compiling.{Compiles, IsRefused};
-ghost use Rattle.lc_model.specs.Tables.InForce.{limits};
-ghost use Rattle.rule_errors.specs.Telling.{AreInside, BeginsWith};
-
 use crate::document::{Document, Language};
 use check_command::undecided_line;
 use diagnostics::Message;
@@ -36,17 +29,6 @@ impl Judgement {
     }
 }
 
-/// The refusals of a rule text, the compiler's first; none if it compiles.
-pub fn refusals(alloc: Global, text: &[u8]) -> Result<Vec<Message>, AllocError>
-    ensures quiet { (rules : List NamedRule) → Compiles limits text.now rules →
-        IfOk result (λ told. told.items ≡ []) }
-    ensures first { (refusal : TextRefusal) → IsRefused limits text.now refusal →
-        IfOk result (λ told. BeginsWith text.now refusal told.items) }
-    ensures inside { IfOk result (λ told. AreInside text.now told.items) }
-{
-    messages(alloc, text)
-}
-
 /// The warnings of a rule text that compiles; none if it doesn't.
 fn warned(alloc: Global, text: &[u8]) -> Result<Judgement, AllocError> {
     match RuleText::read_valid(alloc, text) {
@@ -65,7 +47,7 @@ fn warned(alloc: Global, text: &[u8]) -> Result<Judgement, AllocError> {
 
 /// The refusals of a rule text, or, if they are asked for, the warnings of one that compiles.
 fn judge_rules(alloc: Global, text: &[u8], has_warnings: bool) -> Result<Judgement, AllocError> {
-    let refusals = refusals(alloc, text)?;
+    let refusals = messages(alloc, text)?;
     if has_warnings && refusals.is_empty() {
         warned(alloc, text)
     } else {

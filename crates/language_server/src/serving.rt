@@ -1,7 +1,7 @@
 //! The loop over a client's messages.
 
 use crate::failure::ErrorKind;
-use crate::framing::{Front, front_of};
+use crate::framing::{Frame, first_frame};
 use crate::replies::Outbox;
 use crate::session::Session;
 use program_io::{Feed, STANDARD_INPUT, feed_over};
@@ -18,22 +18,22 @@ fn write_out<W: Write>(outbox: &Outbox, out: &mut W) -> Result<(), Fault<'static
 
 /// Handles what stands in front of the bytes that were read, and writes what is to be sent. Returns how many bytes are done with; none if
 /// more have to be read.
-fn handle_front<W: Write>(
+fn handle_frame<W: Write>(
     alloc: Global,
     session: &mut Session,
     held: &[u8],
     out: &mut W,
 ) -> Result<usize, Fault<'static>> {
     let mut outbox = Outbox::new(alloc);
-    let size = match front_of(held) {
-        Front::Part => return Ok(0),
-        Front::Junk(size) => size,
-        Front::TooLong(size) => {
+    let size = match first_frame(held) {
+        Frame::Part => return Ok(0),
+        Frame::Junk(size) => size,
+        Frame::TooLong(size) => {
             let sentence = "a message has over 67,108,864 bytes";
             outbox.refuse(Value::Null, ErrorKind::NoJson, sentence)?;
             size
         }
-        Front::Whole { from, to } => {
+        Frame::Whole { from, to } => {
             let to = to.min(held.len());
             session.handle(&held[from.min(to)..to], &mut outbox)?;
             to
@@ -50,7 +50,7 @@ fn go_on<I: Read + Drop, W: Write>(
     feed: &mut Feed<'static, I>,
     out: &mut W,
 ) -> Result<bool, Fault<'static>> {
-    match handle_front(alloc, session, feed.contents(), out)? {
+    match handle_frame(alloc, session, feed.contents(), out)? {
         0 => Ok(!feed.read_on()?),
         size => {
             feed.let_go(size);

@@ -1,11 +1,11 @@
 //! Places and ranges of texts as JSON.
 
-use editor_text::{Place, Walk, offset_at};
+use editor_text::{UnitPlace, Walk, offset_at};
 use serde_json::{Map, Value, json, put};
 use std::alloc::{AllocError, Global};
 
 /// A place.
-fn place_object(alloc: Global, place: Place) -> Result<Value, AllocError> {
+fn place_object(alloc: Global, place: UnitPlace) -> Result<Value, AllocError> {
     json!(in alloc; {"character": place.unit, "line": place.line})
 }
 
@@ -48,8 +48,8 @@ fn number_in(value: &Value, name: &str) -> Option<u32> {
 }
 
 /// The place that a value is.
-fn place_in(value: &Value) -> Option<Place> {
-    Some(Place {
+fn place_in(value: &Value) -> Option<UnitPlace> {
+    Some(UnitPlace {
         line: number_in(value, "line")?,
         unit: number_in(value, "character")?,
     })

@@ -6,7 +6,7 @@ use rule_errors::NameKind;
 use rule_lexer::{Token, TokenKind};
 
 /// Words and signs that may stand at a place.
-type Words = &'static [&'static [u8]];
+type WordList = &'static [&'static [u8]];
 
 /// The tokens of the last item, which has no `;` yet; none after a `;`.
 pub fn open_item<'s, 'a>(tokens: &'s [Token<'a>]) -> &'s [Token<'a>] {
@@ -27,7 +27,7 @@ fn count_of(item: &[Token<'_>], kind: TokenKind) -> usize {
 }
 
 /// The words after a comparison or a closed parenthesis.
-fn after_operand(item: &[Token<'_>]) -> Words {
+fn after_operand(item: &[Token<'_>]) -> WordList {
     if count_of(item, TokenKind::Open) > count_of(item, TokenKind::Close) {
         &[b"and", b"or", b"xor", b")"]
     } else {
@@ -36,7 +36,7 @@ fn after_operand(item: &[Token<'_>]) -> Words {
 }
 
 /// The words after a name: the one that an item declares, the packet of a field, or a field in a condition.
-fn after_name(item: &[Token<'_>]) -> Words {
+fn after_name(item: &[Token<'_>]) -> WordList {
     match item {
         [first, _] if first.kind == TokenKind::Rule => STATE_WORDS,
         [_, _] => &[b"="],
@@ -50,7 +50,7 @@ fn after_name(item: &[Token<'_>]) -> Words {
 }
 
 /// The words after one number behind a word or sign of this kind.
-fn after_value(item: &[Token<'_>], before: TokenKind) -> Words {
+fn after_value(item: &[Token<'_>], before: TokenKind) -> WordList {
     match before {
         TokenKind::Mid => &[b"length"],
         TokenKind::Length | TokenKind::Stale => &[b";"],
@@ -64,7 +64,7 @@ fn after_value(item: &[Token<'_>], before: TokenKind) -> Words {
 }
 
 /// The words after a number: one number stands after most words, three after `report`.
-fn after_number(item: &[Token<'_>]) -> Words {
+fn after_number(item: &[Token<'_>]) -> WordList {
     let count = item
         .iter()
         .rev()
@@ -78,7 +78,7 @@ fn after_number(item: &[Token<'_>]) -> Words {
 }
 
 /// The words that may stand after these tokens of an item; none where a new name, a number or a text has to stand.
-pub fn words_after(item: &[Token<'_>]) -> Words {
+pub fn words_after(item: &[Token<'_>]) -> WordList {
     let Some(last) = item.last() else {
         return &[b"packet", b"field", b"rule"];
     };

@@ -3,8 +3,8 @@
 use crate::explanation::explanation_of;
 use crate::outline::ScriptOutline;
 use crate::part::class_of;
-use crate::statement::{Part, STEPS, Step};
-use crate::word::Word;
+use crate::statement::{STEPS, Step, WordPart};
+use crate::word::LineWord;
 use editor_text::{Choice, WordClass};
 use lc_model::TYPE_WORDS;
 use std::alloc::{AllocError, Global};
@@ -12,7 +12,7 @@ use std::alloc::{AllocError, Global};
 /// The form of the statement that a step begins; empty if it begins none.
 fn form_of(step: &Step) -> &'static str {
     match (step.1, explanation_of(step.2)) {
-        (Part::Keyword(_), Some(explanation)) => explanation.form,
+        (WordPart::Keyword(_), Some(explanation)) => explanation.form,
         _ => "",
     }
 }
@@ -71,25 +71,33 @@ impl<'a> ScriptOutline<'a> {
         &self,
         alloc: Global,
         choices: &mut Vec<Choice>,
-        word: &Word<'_>,
+        word: &LineWord<'_>,
         step: &Step,
     ) -> Result<(), AllocError> {
         match step.1 {
-            Part::Keyword(words) | Part::Constant(words) | Part::Sign(words) | Part::Known(words) =>
-                {
-                    let class = class_of(step.1).unwrap_or(WordClass::Keyword);
-                    let detail = form_of(step);
-                    add_words(alloc, choices, class, words, detail)
-                }
-            Part::Type => add_words(alloc, choices, WordClass::Type, TYPE_WORDS, ""),
-            Part::Packet => add_words(alloc, choices, WordClass::Packet, self.names.packets, ""),
-            Part::Rule => add_words(alloc, choices, WordClass::Rule, self.names.rules, ""),
-            Part::Field => self.add_fields(alloc, choices),
-            Part::Value => match self.packet_number(word.first) {
+            WordPart::Keyword(words)
+            | WordPart::Constant(words)
+            | WordPart::Sign(words)
+            | WordPart::Known(words) => {
+                let class = class_of(step.1).unwrap_or(WordClass::Keyword);
+                let detail = form_of(step);
+                add_words(alloc, choices, class, words, detail)
+            }
+            WordPart::Type => add_words(alloc, choices, WordClass::Type, TYPE_WORDS, ""),
+            WordPart::Packet => add_words(
+                alloc,
+                choices,
+                WordClass::Packet,
+                self.names.packets,
+                "",
+            ),
+            WordPart::Rule => add_words(alloc, choices, WordClass::Rule, self.names.rules, ""),
+            WordPart::Field => self.add_fields(alloc, choices),
+            WordPart::Value => match self.packet_number(word.first) {
                 Some(packet) => self.add_values(alloc, choices, packet),
                 None => Ok(()),
             },
-            Part::Name | Part::Number | Part::Bytes => Ok(()),
+            WordPart::Name | WordPart::Number | WordPart::Bytes => Ok(()),
         }
     }
 

@@ -2,7 +2,7 @@
 
 use crate::outline::{ScriptNames, ScriptOutline};
 use crate::part::{behind, class_of, is_field, is_number, rule_start};
-use crate::statement::{Part, first_stage};
+use crate::statement::{WordPart, first_stage};
 use crate::word::{is_blank, is_comment, read_word};
 use editor_text::{ClassedWord, WordClass};
 use std::alloc::{AllocError, Global};
@@ -89,11 +89,11 @@ impl<'a> ScriptOutline<'a> {
         words: &mut Vec<ClassedWord>,
         at: usize,
         word: &[u8],
-        part: Part,
+        part: WordPart,
     ) -> Result<(), AllocError> {
         match (part, class_of(part)) {
-            (Part::Value, _) => add_value(words, &self.names, at, word),
-            (Part::Rule, _) => add_rule(words, at, word),
+            (WordPart::Value, _) => add_value(words, &self.names, at, word),
+            (WordPart::Rule, _) => add_rule(words, at, word),
             (_, Some(class)) => add(words, at, word.len(), class),
             (_, None) => Ok(()),
         }

@@ -3,7 +3,7 @@
 use crate::classes::field_length;
 use crate::outline::{ScriptName, ScriptOutline};
 use crate::part::{behind, is_field, rule_start};
-use crate::statement::Part;
+use crate::statement::WordPart;
 use editor_text::{Hover, WordClass};
 use std::alloc::{AllocError, Global};
 
@@ -13,13 +13,13 @@ impl<'a> ScriptOutline<'a> {
         let word = self.word_at(at)?;
         let column = at.saturating_sub(word.at);
         let (start, text, class) = match word.reading(&self.names).part? {
-            Part::Packet => (0, word.text, WordClass::Packet),
-            Part::Field => (0, word.text, WordClass::Field),
-            Part::Rule => {
+            WordPart::Packet => (0, word.text, WordClass::Packet),
+            WordPart::Field => (0, word.text, WordClass::Field),
+            WordPart::Rule => {
                 let start = rule_start(word.text);
                 (start, behind(word.text, start), WordClass::Rule)
             }
-            Part::Value => {
+            WordPart::Value => {
                 let size = field_length(word.text).min(word.text.len());
                 (0, word.text.split_at(size).0, WordClass::Field)
             }
@@ -44,7 +44,7 @@ impl<'a> ScriptOutline<'a> {
             return Ok(None);
         };
         let part = word.reading(&self.names).part;
-        if !matches!(part, Some(Part::Keyword(_) | Part::Constant(_))) {
+        if !matches!(part, Some(WordPart::Keyword(_) | WordPart::Constant(_))) {
             return Ok(None);
         }
         let Some(explanation) = word.explanation(&self.names) else {

@@ -1,23 +1,23 @@
 //! What a word of a script may be.
 
 use crate::outline::ScriptNames;
-use crate::statement::Part;
+use crate::statement::WordPart;
 use editor_text::WordClass;
 use lc_model::TYPE_WORDS;
 use text_lines::split_digits;
 
 /// The class of a word that is this part; `None` for one that has parts of its own.
-pub(crate) fn class_of(part: Part) -> Option<WordClass> {
+pub(crate) fn class_of(part: WordPart) -> Option<WordClass> {
     match part {
-        Part::Keyword(_) => Some(WordClass::Keyword),
-        Part::Constant(_) => Some(WordClass::Constant),
-        Part::Sign(_) => Some(WordClass::Operator),
-        Part::Known(_) | Part::Name => Some(WordClass::Text),
-        Part::Number | Part::Bytes => Some(WordClass::Number),
-        Part::Type => Some(WordClass::Type),
-        Part::Packet => Some(WordClass::Packet),
-        Part::Field => Some(WordClass::Field),
-        Part::Rule | Part::Value => None,
+        WordPart::Keyword(_) => Some(WordClass::Keyword),
+        WordPart::Constant(_) => Some(WordClass::Constant),
+        WordPart::Sign(_) => Some(WordClass::Operator),
+        WordPart::Known(_) | WordPart::Name => Some(WordClass::Text),
+        WordPart::Number | WordPart::Bytes => Some(WordClass::Number),
+        WordPart::Type => Some(WordClass::Type),
+        WordPart::Packet => Some(WordClass::Packet),
+        WordPart::Field => Some(WordClass::Field),
+        WordPart::Rule | WordPart::Value => None,
     }
 }
 
@@ -61,17 +61,19 @@ pub(crate) fn is_field(names: &ScriptNames<'_>, word: &[u8]) -> bool {
 }
 
 /// Whether a word may be this part.
-pub(crate) fn fits(names: &ScriptNames<'_>, part: Part, word: &[u8]) -> bool {
+pub(crate) fn fits(names: &ScriptNames<'_>, part: WordPart, word: &[u8]) -> bool {
     match part {
-        Part::Keyword(words) | Part::Constant(words) | Part::Sign(words) | Part::Known(words) =>
-            is_among(words, word),
-        Part::Name => true,
-        Part::Number => is_number(word),
-        Part::Bytes => are_bytes(word),
-        Part::Type => is_among(TYPE_WORDS, word),
-        Part::Packet => is_among(names.packets, word),
-        Part::Field => is_field(names, word),
-        Part::Rule => is_among(names.rules, behind(word, rule_start(word))),
-        Part::Value => word.contains(&b'='),
+        WordPart::Keyword(words)
+        | WordPart::Constant(words)
+        | WordPart::Sign(words)
+        | WordPart::Known(words) => is_among(words, word),
+        WordPart::Name => true,
+        WordPart::Number => is_number(word),
+        WordPart::Bytes => are_bytes(word),
+        WordPart::Type => is_among(TYPE_WORDS, word),
+        WordPart::Packet => is_among(names.packets, word),
+        WordPart::Field => is_field(names, word),
+        WordPart::Rule => is_among(names.rules, behind(word, rule_start(word))),
+        WordPart::Value => word.contains(&b'='),
     }
 }

@@ -3,7 +3,7 @@
 use crate::explanation::{Explanation, explanation_of};
 use crate::outline::{ScriptKind, ScriptNames, ScriptOutline};
 use crate::part::fits;
-use crate::statement::{Part, STEPS, Stage, first_stage};
+use crate::statement::{STEPS, Stage, WordPart, first_stage};
 
 /// Whether a byte separates words.
 pub(crate) fn is_blank(byte: u8) -> bool {
@@ -17,7 +17,7 @@ pub(crate) fn is_comment(word: &[u8]) -> bool {
 
 /// A word of a line, maybe without bytes, and what came before it.
 #[derive(Clone, Copy)]
-pub(crate) struct Word<'a> {
+pub(crate) struct LineWord<'a> {
     /// The place of its first byte.
     pub at: usize,
     /// Its bytes.
@@ -34,7 +34,7 @@ pub(crate) struct Word<'a> {
 #[derive(Clone, Copy)]
 pub(crate) struct Reading {
     /// `None` for a word that may not stand there.
-    pub part: Option<Part>,
+    pub part: Option<WordPart>,
     /// The stage after it.
     pub stage: Stage,
 }
@@ -57,10 +57,10 @@ pub(crate) fn read_word(names: &ScriptNames<'_>, stage: Stage, word: &[u8]) -> R
     }
 }
 
-impl<'a> Word<'a> {
+impl<'a> LineWord<'a> {
     /// No word, at the beginning of a line.
-    fn start(kind: ScriptKind, at: usize) -> Word<'a> {
-        Word {
+    fn start(kind: ScriptKind, at: usize) -> LineWord<'a> {
+        LineWord {
             at,
             text: b"",
             stage: first_stage(kind),
@@ -77,7 +77,7 @@ impl<'a> Word<'a> {
     /// The stage after the word that begins its statement: this one, if it is a keyword of which something is said.
     fn statement_with(&self, reading: Reading) -> Stage {
         match reading.part {
-            Some(Part::Keyword(_)) if explanation_of(reading.stage).is_some() => reading.stage,
+            Some(WordPart::Keyword(_)) if explanation_of(reading.stage).is_some() => reading.stage,
             _ => self.statement,
         }
     }
@@ -93,8 +93,8 @@ impl<'a> Word<'a> {
     }
 
     /// The word with these bytes, in the place of this one.
-    fn with_text(self, text: &'a [u8]) -> Word<'a> {
-        Word {
+    fn with_text(self, text: &'a [u8]) -> LineWord<'a> {
+        LineWord {
             at: self.at,
             text,
             stage: self.stage,
@@ -104,13 +104,13 @@ impl<'a> Word<'a> {
     }
 
     /// No word, after this one and a blank.
-    fn after(self, names: &ScriptNames<'_>) -> Word<'a> {
+    fn after(self, names: &ScriptNames<'_>) -> LineWord<'a> {
         let at = self.end().saturating_add(1);
         if self.text.is_empty() {
-            return Word { at, ..self };
+            return LineWord { at, ..self };
         }
         let reading = self.reading(names);
-        Word {
+        LineWord {
             at,
             text: b"",
             stage: reading.stage,
@@ -142,10 +142,10 @@ fn line_at(text: &[u8], at: usize) -> (usize, &[u8]) {
 /// begins.
 fn word_in<'a>(
     names: &ScriptNames<'_>,
-    start: Word<'a>,
+    start: LineWord<'a>,
     line: &'a [u8],
     at: usize,
-) -> Option<Word<'a>> {
+) -> Option<LineWord<'a>> {
     let mut word = start;
     for text in line.split(|byte| is_blank(*byte)) {
         let here = word.with_text(text);
@@ -162,9 +162,9 @@ fn word_in<'a>(
 
 impl<'a> ScriptOutline<'a> {
     /// The word that has a byte, or its end, at a place, or no word there; `None` in a comment.
-    pub(crate) fn word_at(&self, at: usize) -> Option<Word<'a>> {
+    pub(crate) fn word_at(&self, at: usize) -> Option<LineWord<'a>> {
         let at = at.min(self.text.len());
         let (start, line) = line_at(self.text, at);
-        word_in(&self.names, Word::start(self.kind, start), line, at)
+        word_in(&self.names, LineWord::start(self.kind, start), line, at)
     }
 }
