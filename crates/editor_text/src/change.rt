@@ -98,19 +98,22 @@ fn blank_count(text: &[u8]) -> usize
     text.iter().take_while(|byte| is_blank(**byte)).count()
 }
 
+/// Whether two bytes are the same, and no blanks.
+fn is_common(byte: u8, other: u8) -> bool {
+    byte == other && !is_blank(byte)
+}
+
 /// How many bytes in front are the same in both texts, and no blanks.
 fn common_length(old: &[u8], new: &[u8]) -> usize
     ensures old { result ≤ length old.now }
     ensures new { result ≤ length new.now }
 {
-    let mut count = 0;
-    for (byte, other) in old.iter().zip(new.iter()) {
-        if is_blank(*byte) || *byte != *other {
-            break;
-        }
-        count += 1;
-    }
-    count
+    let count = old
+        .iter()
+        .zip(new.iter())
+        .take_while(|pair| is_common(*pair.0, *pair.1))
+        .count();
+    count.min(old.len()).min(new.len())
 }
 
 /// The changes of blanks that make one text the other, if all other bytes are the same; else some of them.

@@ -131,7 +131,7 @@ impl<'a> Model for Walk<'a> {
 
 impl<'a> Walk<'a> {
     /// A walk at the text's first byte.
-    #[tactic(auto, unfolding(crate::specs::UnitPlace::place_of))]
+    #[tactic(auto, unfolding(crate::specs::Place::place_of))]
     pub fn new(text: &'a [u8]) -> Walk<'a>
         ensures { result ≡ text.now }
     {
@@ -143,7 +143,7 @@ impl<'a> Walk<'a> {
     }
 
     /// The place of the byte that has `at` bytes before it, as `place_at` gives it. A place before the last one starts anew.
-    #[tactic(auto, unfolding(crate::specs::UnitPlace::place_of))]
+    #[tactic(auto, unfolding(crate::specs::Place::place_of))]
     pub fn place_at(&mut self, at: usize) -> UnitPlace
         ensures place { result ≡ place_of self.old (min at (length self.old)) }
         ensures same { self.new ≡ self.old }
