@@ -302,6 +302,7 @@ Commands:
   try       Runs a script, and says what of that which it expects doesn't come
   live      Runs a stream from standard input as it comes, to standard output
   format    Gives rule texts the one layout, in place
+  lsp       Serves an editor over standard input and output (Language Server Protocol)
   help      Print this message or the help of the given subcommand(s)
 
 Options:
@@ -318,9 +319,10 @@ WORDS = [
         error=b"a word of the command line is no text (UTF-8)\n",
     ),
     Row("help is no fault", ["flight_tools", "--help"], output=HELP),
+    Row("a server whose client leaves without a request to shut down", ["flight_tools", "lsp", "--stdio"], status=1),
     Row("no command", ["flight_tools"], status=2, error=b"""\
 error: 'flight_tools' requires a subcommand but one was not provided
-  [subcommands: table, stream, packets, scenario, import, export, report, check, compare, try, live, format, help]
+  [subcommands: table, stream, packets, scenario, import, export, report, check, compare, try, live, format, lsp, help]
 
 Usage: flight_tools <COMMAND>
 
