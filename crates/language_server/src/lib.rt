@@ -14,6 +14,7 @@ mod judging;
 mod names;
 mod naming;
 mod outlines;
+mod places;
 mod replies;
 mod serving;
 mod session;

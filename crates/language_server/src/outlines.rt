@@ -5,7 +5,8 @@ use crate::failure::{Failure, NO_PARAMETERS};
 use crate::judging::open_texts;
 use crate::names::Names;
 use crate::naming::{hover_in_scenario, position_in};
-use crate::shapes::{edit_object, range_in, range_object};
+use crate::places::Places;
+use crate::shapes::{range_in, range_object};
 use crate::tokens::{choice_kind, symbol_kind, token_object};
 use editor_text::{Choice, ClassedWord, Fold, Hover, Symbol, Walk};
 use rule_errors::mend;
@@ -86,13 +87,22 @@ impl TextOutline for ScriptOutline<'_> {
     }
 }
 
+/// The places of all ends of symbols, which may stand inside one another.
+fn symbol_places(alloc: Global, text: &[u8], symbols: &[Symbol]) -> Result<Places, AllocError> {
+    let mut ends = Vec::new(alloc);
+    for symbol in symbols {
+        ends.extend_from_slice(&[symbol.from, symbol.to, symbol.name_from, symbol.name_to])?;
+    }
+    Places::of(alloc, text, ends)
+}
+
 /// Symbols, in the order of the text.
 fn symbol_objects(alloc: Global, text: &[u8], symbols: &[Symbol]) -> Result<Value, AllocError> {
-    let mut walk = Walk::new(text);
+    let places = symbol_places(alloc, text, symbols)?;
     let mut list = Vec::new(alloc);
     for symbol in symbols {
-        let range = range_object(alloc, &mut walk, symbol.from, symbol.to)?;
-        let selection = range_object(alloc, &mut walk, symbol.name_from, symbol.name_to)?;
+        let range = places.range_object(alloc, symbol.from, symbol.to)?;
+        let selection = places.range_object(alloc, symbol.name_from, symbol.name_to)?;
         let kind = symbol_kind(symbol.class);
         let (name, detail) = (symbol.name.as_str(), symbol.detail.as_str());
         list.push(json!(in alloc; {
@@ -142,18 +152,17 @@ fn choice_objects(
     at: usize,
     choices: &[Choice],
 ) -> Result<Value, AllocError> {
-    let start = word_start(text, at);
-    let mut walk = Walk::new(text);
+    let range = range_object(alloc, &mut Walk::new(text), word_start(text, at), at)?;
     let mut list = Vec::new(alloc);
     for choice in choices {
         let (label, detail) = (choice.text.as_str(), choice.detail.as_str());
-        let edit = edit_object(alloc, &mut walk, start, at, label)?;
         let kind = choice_kind(choice.class);
+        let range = range.clone()?;
         list.push(json!(in alloc; {
             "detail": detail,
             "kind": kind,
             "label": label,
-            "textEdit": edit
+            "textEdit": {"newText": label, "range": range}
         })?)?;
     }
     json!(in alloc; {"isIncomplete": false, "items": list})

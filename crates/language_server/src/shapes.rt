@@ -5,7 +5,7 @@ use serde_json::{Map, Value, json, put};
 use std::alloc::{AllocError, Global};
 
 /// A place.
-fn place_object(alloc: Global, place: UnitPlace) -> Result<Value, AllocError> {
+pub fn place_object(alloc: Global, place: UnitPlace) -> Result<Value, AllocError> {
     json!(in alloc; {"character": place.unit, "line": place.line})
 }
 

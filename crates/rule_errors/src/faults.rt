@@ -36,7 +36,7 @@ fn long_rules(alloc: Global, source: &Source<'_>) -> Result<Vec<usize>, AllocErr
     Ok(rules)
 }
 
-/// The errors of items, by place.
+/// The errors of items, by place: all, or more than are counted.
 fn item_errors(
     alloc: Global,
     source: &Source<'_>,

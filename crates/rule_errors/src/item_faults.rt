@@ -1,10 +1,10 @@
-//! All faults of items that are whole.
+//! The faults of items that are whole.
 
 use crate::fields::{packet_of, type_of};
 use crate::marks::value_of;
 use crate::naming::{declared_in, names};
 use crate::source::{Declaration, NameKind, Source, TokenRange};
-use diagnostics::behind;
+use diagnostics::{MOST_TOLD, behind};
 use field_checker::{CheckError, RuleNumber};
 use lc_model::{FieldType, mids, packet};
 use rule_lexer::{Token, TokenKind};
@@ -393,10 +393,13 @@ impl<'s, 'a> Checked<'s, 'a> {
         Ok(())
     }
 
-    /// The faults of all items, in the order of the text.
+    /// The faults of items, in the order of the text, until there are more than are counted.
     pub fn faults(&self, alloc: Global) -> Result<Vec<CheckError>, AllocError> {
         let mut found = Vec::new(alloc);
         for (number, part) in self.source.parts.iter().enumerate() {
+            if found.len() > MOST_TOLD {
+                break;
+            }
             if !self.is_whole_part(number) {
                 continue;
             }
