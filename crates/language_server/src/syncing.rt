@@ -34,11 +34,11 @@ fn changed(alloc: Global, text: &[u8], change: &Value) -> Result<Vec<u8>, AllocE
         return Vec::from_slice(alloc, text);
     };
     match change.get("range") {
+        None | Some(Value::Null) => Vec::from_slice(alloc, new.as_bytes()),
         Some(range) => match range_in(text, range) {
             Some((from, to)) => replace(alloc, text, from, to, new.as_bytes()),
             None => Vec::from_slice(alloc, text),
         },
-        None => Vec::from_slice(alloc, new.as_bytes()),
     }
 }
 
