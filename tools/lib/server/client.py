@@ -187,10 +187,14 @@ class Client:
     # The process.
 
     def processor_seconds(self):
-        """The seconds of the processor that the server has taken."""
-        with open(f"/proc/{self.process.pid}/stat", encoding="ascii") as file:
-            fields = file.read().rpartition(")")[2].split()
-        return (int(fields[11]) + int(fields[12])) / TICK
+        """The seconds of the processor that the server has taken; by the scheduler's own count, which is finer, where there is one."""
+        try:
+            with open(f"/proc/{self.process.pid}/schedstat", encoding="ascii") as file:
+                return int(file.read().split()[0]) / 1e9
+        except FileNotFoundError:
+            with open(f"/proc/{self.process.pid}/stat", encoding="ascii") as file:
+                fields = file.read().rpartition(")")[2].split()
+            return (int(fields[11]) + int(fields[12])) / TICK
 
     def end_input(self):
         """Sends what is left, ends the server's input, reads all, and returns its status."""

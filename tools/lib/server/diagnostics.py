@@ -74,9 +74,11 @@ def check(program, folder, texts):
     for name, text in texts.items():
         with open(f"{folder}/{name}", "w", encoding="utf-8", newline="") as file:
             file.write(text)
+    if not texts:
+        return {}
     ran = subprocess.run([program, "check", "--json", *texts], cwd=folder, stdout=subprocess.PIPE, timeout=100, check=False)
     found = {name: [] for name in texts}
-    for line in ran.stdout.decode().splitlines():
+    for line in ran.stdout.splitlines():
         message = json.loads(line)
         found[message["file"]].append(message)
     return found

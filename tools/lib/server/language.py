@@ -212,6 +212,7 @@ QUESTIONS = [
 
 
 def faults_of_rows(client):
+    """The rows whose answers are other ones."""
     count = 0
     for what, asks, said in QUESTIONS:
         for ask in (variant for ask in asks for variant in variants(ask)):
