@@ -39,7 +39,8 @@ def on(word, new, text=BUS):
 
 def named(name, place, text=BUS):
     """A text with marks around all occurrences of a name, and the place in one of them."""
-    return text.replace(name, f"⟦{name}⟧").replace(place.replace("‸", "").replace(name, f"⟦{name}⟧"), place)
+    bare = place.replace("‸", "").replace("⟦", "").replace("⟧", "")
+    return text.replace(name, f"⟦{name}⟧").replace(bare.replace(name, f"⟦{name}⟧"), place)
 
 
 def scenario(title, text, want=None, rules=BUS):
@@ -126,13 +127,13 @@ RENAMES = [
 
 # Words that are said of the word at a place; no words where nothing is said.
 HOVERS = [
-    Ask("a packet", on("BUS u", "⟦BU‸S⟧ u"), ["BUS", "0883", "16 bytes", "VOLTS"]),
-    Ask("a field", on("VOLTS <", "⟦‸VOLTS⟧ <"), ["VOLTS", "BUS", "0883", "u16be", "12", "65535", "3 agings"]),
-    Ask("a field with a mask", on("field AMPS", "field ⟦AMPS‸⟧"), ["AMPS", "PWR", "i16le", "0xFFF", "4095", "never stale"]),
+    Ask("a packet", on("BUS u", "⟦BU‸S⟧ u"), ["BUS", "0883", "length 16", "VOLTS"]),
+    Ask("a field", on("VOLTS <", "⟦‸VOLTS⟧ <"), ["VOLTS", "BUS", "0883", "u16be", "12", "65,535", "3 agings"]),
+    Ask("a field with a mask", on("field AMPS", "field ⟦AMPS‸⟧"), ["AMPS", "PWR", "i16le", "0xFFF", "4,095", "never stale"]),
     Ask("a rule", on("rule LOW", "rule ⟦L‸OW⟧"), ["LOW", "active", "sequence 7", "1001", "fails for", "passes for"]),
     Ask("a rule of a text that does not compile", on("rule LOW", "rule ⟦L‸OW⟧") + "packet", ["LOW", "sequence 7"]),
     Ask("a word of the language", on("stale", "⟦sta‸le⟧"), ["stale", "agings"]),
-    Ask("a type", on("i16le", "⟦i‸16le⟧"), ["signed", "low", "last"]),
+    Ask("a type", on("i16le", "⟦i‸16le⟧"), ["signed", "high byte first", "last"]),
     Ask("a comparison", on("< 2400", "⟦‸<⟧ 2400"), ["<="]),
     Ask("a number", on("2400", "24‸00"), []),
     Ask("a comment", f"# {WIDE} pack‸et BUS\n", []),
@@ -171,7 +172,7 @@ COMPLETIONS = [
     schedule("an entry of a slot", "slots 2\n0 ‸", "sample housekeeping"),
     schedule("the end of a sample", "slots 2\n0 sample 0 175 ‸", "age keep - sample"),
     scenario("the begin of a line", "at 100 0\n‸", "tick ramp repeat expect state mode BUS PWR at after - VOLTS"),
-    scenario("a field of a packet", "at 100 0\nBUS ‸", "VOLTS - AMPS tick"),
+    scenario("a field of a packet", "at 100 0\nBUS ‸", "VOLTS= - AMPS= tick"),
     scenario("a field of a ramp", "ramp ‸", "VOLTS AMPS - BUS"),
     scenario("a mode", "mode ‸", "active passive disabled - off"),
     scenario("a rule", "state ‸", "LOW HOT all - BUS"),
@@ -233,7 +234,7 @@ TOKENS = [
     scenario(
         "a scenario",
         f"at 100 0 # {WIDE} start\nstart LC\nBUS VOLTS=2750\ntick\n",
-        f"keyword at|number 100|number 0|comment # {WIDE} start|keyword start|string LC|class BUS|property VOLTS|number 2750|keyword tick",
+        f"keyword at|number 100|number 0|comment # {WIDE} start|keyword start|string LC|class BUS|property VOLTS|operator =|number 2750|keyword tick",
     ),
 ]
 

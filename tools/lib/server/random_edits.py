@@ -6,6 +6,7 @@ from diagnostics import check, errors_of, of_check, of_server
 from examples import example_texts
 from mistakes import TYPES, WORDS, Mistakes
 from places import changed, place_of, units
+from questions import faults_of_question
 
 URI = "file:///edits.rules"
 # So many changes have one text, so many of them at most stand in one message, and so many states are checked in one call.
@@ -13,6 +14,7 @@ CHANGES_OF_TEXT = 25
 MOST_AT_ONCE = 4
 STATES = 500
 SAVED = 50
+ASKED = 4
 LARGE = 400
 PARTS = (
     [f" {word} " for word in WORDS + TYPES]
@@ -120,10 +122,13 @@ def faults_of_edits(client, folder, count, seed):
         changes, text = editor.changes(text)
         parts += len(changes)
         record.add(number, text, client.change(URI, changes), False)
+        if number % ASKED == 0:
+            yield from faults_of_question(client, editor.random, URI, text)
         if number % SAVED == SAVED - 1:
             record.add(number, text, client.save(URI), True)
         if len(record.states) >= STATES:
             yield from record.faults()
     yield from record.faults()
     client.close(URI)
-    print(f"{count} messages with {parts} changes (seed {seed}): {record.errors} errors published")
+    questions = (count + ASKED - 1) // ASKED
+    print(f"{count} messages with {parts} changes and {questions} questions (seed {seed}): {record.errors} errors published")

@@ -10,12 +10,14 @@ import subprocess
 from diagnostics import ERROR, LEVELS, WARNING, index_of_column, of_check, of_server
 from language_rows import BUS
 from places import place_of
+from questions import faults_of_question
 
 TOP = os.path.dirname(os.path.dirname(os.path.dirname(os.path.dirname(os.path.abspath(__file__)))))
 SEED = 2_028
 SCENARIOS = 120
 SCHEDULES = 60
 URI, RULES_URI = "file:///script", "file:///names.rules"
+QUESTIONS = 3
 HEAD = re.compile(r"^[^\n]+?:(\d+):(\d+): (error|warning)\[([\w-]+)\]: (.*)\n *\d+ \|[^\n]*\n *\| *(\^*) ?(.*)$", re.M)
 WORDS = (
     "at after tick fields telemetry command packet record file half wdt adt sample housekeeping start stop restart reload load validate activate "
@@ -89,7 +91,7 @@ def say_of_schedule(program, folder, text):
     return of_check(text, [it for it in messages if it["file"] == "text"])
 
 
-def faults_of_scenario(client, folder, text, rules):
+def faults_of_scenario(client, chance, folder, text, rules):
     """A scenario is opened, changed as a whole, and saved; its warnings are there at opening and saving alone."""
     wanted = say_of_scenario(client.tools, folder, text, rules)
     errors = [it for it in wanted if it[0] == ERROR]
@@ -100,15 +102,19 @@ def faults_of_scenario(client, folder, text, rules):
         (shortened(client.change(URI, [{"text": text}])), errors),
         (shortened(client.save(URI)), wanted),
     ]
+    for _ in range(QUESTIONS):
+        yield from faults_of_question(client, chance, URI, text)
     client.close(URI)
     if rules:
         client.close(RULES_URI)
     yield from (f"{found}, not {said}, of {text!r}" for found, said in looks if found != said)
 
 
-def faults_of_schedule(client, folder, text):
+def faults_of_schedule(client, chance, folder, text):
     wanted = say_of_schedule(client.tools, folder, text)
     looks = [client.open(URI, "lcschedule", text), client.change(URI, [{"text": text}]), client.save(URI)]
+    for _ in range(QUESTIONS):
+        yield from faults_of_question(client, chance, URI, text)
     client.close(URI)
     yield from (f"{of_server(found)}, not {wanted}, of {text!r}" for found in looks if of_server(found) != wanted)
 
@@ -145,8 +151,8 @@ def faults_of_scripts(client, folder):
     scenarios += [(spoiled(chance, text), rules) for text, rules in (chance.choice(scenarios) for _ in range(SCENARIOS))]
     schedules += [spoiled(chance, chance.choice(schedules)) for _ in range(SCHEDULES)]
     for text, rules in scenarios:
-        yield from (f"scenario: {fault}" for fault in faults_of_scenario(client, folder, text, rules))
+        yield from (f"scenario: {fault}" for fault in faults_of_scenario(client, chance, folder, text, rules))
     for text in schedules:
-        yield from (f"schedule: {fault}" for fault in faults_of_schedule(client, folder, text))
+        yield from (f"schedule: {fault}" for fault in faults_of_schedule(client, chance, folder, text))
     yield from faults_of_names(client)
     print(f"{len(scenarios)} scenarios, {len(schedules)} schedules")
