@@ -6,7 +6,7 @@ import worst
 from places import place_of, range_of
 
 TOP = os.path.dirname(os.path.dirname(os.path.dirname(os.path.dirname(os.path.abspath(__file__)))))
-URI = "file:///large.rules"
+URI, RULES_URI = "file:///large", "file:///names.rules"
 TIMES = 3
 # Of the processor, in milliseconds: what it should take at most, and where the gate fails, since machines are shared.
 ALLOWED, MOST = 50, 150
@@ -18,10 +18,11 @@ def example(name):
         return file.read()
 
 
+FIELDS = PACKET + worst.filled("field F{0}=P u8 at 12;\n")[: worst.LENGTH - len(PACKET) - 200].rpartition("\n")[0] + "\n"
 TEXTS = {
     "176 rules of four comparisons": worst.ORDINARY["176 rules of four comparisons each"],
     "rules of sixteen comparisons": example("full_tables_of_sixteen_mentions_request_all"),
-    "fields": PACKET + worst.filled("field F{0}=P u8 at 12;\n")[: worst.LENGTH - len(PACKET) - 40].rpartition("\n")[0] + "\n",
+    "fields, and the begin of a rule": FIELDS + worst.RULE.format(0) + "F",
     "a rule of many lines": PACKET + "field V=P u8 at 12;\n" + worst.RULE.format(0) + worst.filled("(V<1 or\n")[: worst.LENGTH - 200].rpartition("\n")[0],
     "bad bytes": worst.TEXTS["bad bytes on lines"],
     "ends of items with bad bytes": worst.TEXTS["ends of items with bad bytes"],
@@ -29,6 +30,14 @@ TEXTS = {
     "names that are near": worst.TEXTS["names that are near"],
     "comments": worst.filled("# \u00e9\U0001f600\n"),
 }
+# Scripts, each beside a rule text with many fields.
+SCENARIOS = {
+    "packets by name": worst.filled("P F1=1 F2773=1\n", "at 1 0\n"),
+    "lines of one word": worst.filled("tick\n", "at 1 0\n"),
+    "comments of a scenario": worst.filled("# \u00e9\U0001f600\n"),
+    "repetitions that are not closed": worst.filled("repeat 1 {{\n", "at 1 0\n"),
+}
+SCHEDULES = {"comments of a schedule": worst.filled("# \u00e9\U0001f600\n", "slots 1\n")}
 
 
 def questions(text):
@@ -61,9 +70,9 @@ def milliseconds(client, ask):
     return (client.processor_seconds() - before) * 1_000 / TIMES
 
 
-def figures_of(client, text):
+def figures_of(client, text, language):
     """The milliseconds of the processor for each question, and for a change in the middle."""
-    client.open(URI, "lcrules", text)
+    client.open(URI, language, text)
     place = place_of(text, len(text) // 2)
     there = {"start": place, "end": place}
     after = {**place, "character": place["character"] + 1}
@@ -77,12 +86,22 @@ def figures_of(client, text):
     return figures
 
 
-def faults_of_bounds(client):
-    longest = {}
-    for title, text in TEXTS.items():
-        for method, figure in figures_of(client, text).items():
+def faults_of_texts(client, texts, language, longest):
+    for title, text in texts.items():
+        if len(text.encode()) > worst.LENGTH:
+            yield f"{title}: {len(text.encode())} bytes"
+        for method, figure in figures_of(client, text, language).items():
             longest[method] = max(longest.get(method, (0, "")), (figure, title))
             if figure > MOST:
                 yield f"{method} takes {figure:.0f} ms of the processor: {title}"
+
+
+def faults_of_bounds(client):
+    longest = {}
+    yield from faults_of_texts(client, TEXTS, "lcrules", longest)
+    client.open(RULES_URI, "lcrules", FIELDS)
+    yield from faults_of_texts(client, SCENARIOS, "lcscenario", longest)
+    yield from faults_of_texts(client, SCHEDULES, "lcschedule", longest)
+    client.close(RULES_URI)
     said = ", ".join(f"{method} {figure:.0f}" + f" ({title})" * (figure > ALLOWED) for method, (figure, title) in longest.items())
-    print(f"{len(TEXTS)} texts of 64 KB, at most so many ms of the processor: {said}")
+    print(f"{len({**TEXTS, **SCENARIOS, **SCHEDULES})} texts of 64 KB, at most so many ms of the processor: {said}")
