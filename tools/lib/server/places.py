@@ -1,5 +1,7 @@
 """Texts as an editor counts them: lines that end with a line feed, a carriage return or both, and UTF-16 units (LSP 3.17, "Position")."""
 
+import bisect
+import functools
 import re
 
 LINE_END = re.compile(r"\r\n|\r|\n")
@@ -7,9 +9,10 @@ LINE_END = re.compile(r"\r\n|\r|\n")
 
 def units(text):
     """How many UTF-16 units a text has."""
-    return len(text) + sum(char > "\uffff" for char in text)
+    return len(text) if text.isascii() else len(text) + sum(char > "\uffff" for char in text)
 
 
+@functools.lru_cache(4)
 def lines_of(text):
     """Where each line begins and ends, its line end left out."""
     found, begin = [], 0
@@ -21,8 +24,8 @@ def lines_of(text):
 
 def place_of(text, at):
     """The place of the character that has `at` characters before it."""
-    lines = [begin for begin, _ in lines_of(text) if begin <= at]
-    return {"line": len(lines) - 1, "character": units(text[lines[-1] : at])}
+    line = bisect.bisect_right(lines_of(text), at, key=lambda it: it[0]) - 1
+    return {"line": line, "character": units(text[lines_of(text)[line][0] : at])}
 
 
 def index_of(text, place):
@@ -32,6 +35,8 @@ def index_of(text, place):
         return len(text)
     begin, end = lines[place["line"]]
     left = place["character"]
+    if text[begin:end].isascii():
+        return min(begin + left, end)
     for at in range(begin, end):
         left -= units(text[at])
         if left < 0:

@@ -39,8 +39,14 @@
                       (flymake-diagnostic-text it))))
           (flymake-diagnostics)))
 
+(defun do-when-idle ()
+  "Do what eglot and Flymake do once Emacs is idle, which it never is in batch."
+  (eglot--signal-textDocument/didChange)
+  (flymake-start))
+
 (defun wait-for-diagnostics (count)
   "Wait until there are COUNT diagnostics, and return them."
+  (do-when-idle)
   (wait-until (lambda () (= (length (diagnostics)) count)))
   (vconcat (diagnostics)))
 
