@@ -8,11 +8,12 @@
 
 ;; Three major modes, by the ends of file names: `needlemauve-rules-mode' (.rules), `needlemauve-schedule-mode' (.schedule)
 ;; and `needlemauve-scenario-mode' (.scenario).  In rules M-x compile offers `flight_tools check', whose messages lead to
-;; their places.
+;; their places.  M-x eglot starts `flight_tools lsp', one server for all three.
 
 ;;; Code:
 
 (require 'compile)
+(defvar eglot-server-programs)
 
 (defconst needlemauve-types
   '("u8" "i8" "u16be" "u16le" "i16be" "i16le" "u32be" "u32le" "i32be" "i32le")
@@ -127,6 +128,16 @@
               ("\\.schedule\\'" . needlemauve-schedule-mode)
               ("\\.scenario\\'" . needlemauve-scenario-mode)))
   (add-to-list 'auto-mode-alist it))
+
+;; An older eglot gives all buffers of a server the id of its first mode.  It gets an id that the server does not know, and the server
+;; goes by the ends of file names.
+(with-eval-after-load 'eglot
+  (add-to-list 'eglot-server-programs
+               '((needlemauve-rules-mode needlemauve-schedule-mode needlemauve-scenario-mode) . ("flight_tools" "lsp")))
+  (when (fboundp 'eglot--languageId)
+    (put 'needlemauve-rules-mode 'eglot-language-id "lcrules")
+    (put 'needlemauve-schedule-mode 'eglot-language-id "lcschedule")
+    (put 'needlemauve-scenario-mode 'eglot-language-id "lcscenario")))
 
 (provide 'needlemauve-mode)
 ;;; needlemauve-mode.el ends here

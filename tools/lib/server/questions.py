@@ -1,0 +1,107 @@
+"""Questions about any text, valid or not: whatever the answer is, it has to be of the form that the protocol wants, and inside the text."""
+
+from client import Refusal
+from language import REFUSED, decoded, flat_symbols, formatted, is_part, locations
+from places import edited, index_of, is_inside, lines_of, place_of, range_of, word_of
+
+NEW = "QQ_NEW_NAME"
+MARKUP = "markdown"
+
+
+def wrong_ranges(text, ranges):
+    return [it for it in ranges if not is_inside(text, it)]
+
+
+def faults_of_uses(text, found, uri):
+    """The places of one name have one word."""
+    words = {word_of(text, where) for place, where in locations(found) if place == uri}
+    yield from wrong_ranges(text, [where for place, where in locations(found) if place == uri])
+    if len(words) > 1:
+        yield f"the words {words}"
+
+
+def faults_of_tokens(text, found, client):
+    """Tokens have a size, lie inside a line each, and follow one another."""
+    end = 0
+    lines = lines_of(text)
+    for where, kind, _ in decoded(client.legend, found["data"]):
+        begin, after = index_of(text, where["start"]), index_of(text, where["end"])
+        if not is_inside(text, where) or not end <= begin < after or not lines[where["start"]["line"]][0] <= begin <= after <= lines[where["start"]["line"]][1]:
+            yield f"the {kind} {where}"
+        end = after
+
+
+def faults_of_answer(client, uri, text, method, found):
+    """What is wrong with the form of an answer."""
+    if method == "completion":
+        edits = [it["textEdit"] for it in found["items"]]
+        yield from wrong_ranges(text, [it["range"] for it in edits])
+        yield from (it for it in found["items"] if not it["label"] or it["label"] != it["textEdit"]["newText"])
+    elif method == "hover" and found:
+        yield from wrong_ranges(text, [found["range"]] if "range" in found else [])
+        if found["contents"]["kind"] != MARKUP or not found["contents"]["value"]:
+            yield found
+    elif method in ("definition", "references"):
+        yield from faults_of_uses(text, found, uri)
+    elif method == "prepareRename" and found:
+        yield from wrong_ranges(text, [found])
+    elif method == "rename":
+        edits = found["changes"][uri]
+        words = {word_of(text, it["range"]) for it in edits}
+        if len(words) != 1 or edited(text, edits).count(NEW) < len(edits):
+            yield f"the words {words}"
+    elif method == "documentSymbol":
+        symbols = list(flat_symbols(found))
+        yield from wrong_ranges(text, [it["range"] for it in symbols])
+        yield from (it for it in symbols if not it["name"] or not is_part(it["selectionRange"], it["range"]))
+    elif method == "foldingRange":
+        count = len(lines_of(text))
+        yield from (it for it in found if not 0 <= it["startLine"] < it["endLine"] < count)
+    elif method == "codeAction":
+        yield from wrong_ranges(text, [edit["range"] for it in found for edit in it["edit"]["changes"][uri]])
+    elif method.startswith("semanticTokens"):
+        yield from faults_of_tokens(text, found, client)
+
+
+def faults_of_formatting(client, uri, text):
+    """Formatting leads to what `format` writes, and is refused where that is."""
+    wanted = formatted(client.tools, text)
+    answer = client.ask("textDocument/formatting", {"textDocument": {"uri": uri}, "options": {"tabSize": 4, "insertSpaces": True}})
+    found = edited(text, answer["result"]) if answer.get("result") is not None else None
+    if found != wanted or answer.get("error", {}).get("code", REFUSED) != REFUSED:
+        yield f"{answer}, not {wanted!r}"
+
+
+METHODS = {
+    "completion": {},
+    "hover": {},
+    "definition": {},
+    "references": {"context": {"includeDeclaration": True}},
+    "prepareRename": {},
+    "rename": {"newName": NEW},
+    "documentSymbol": {},
+    "foldingRange": {},
+    "codeAction": {"context": {"diagnostics": []}},
+    "semanticTokens/full": {},
+    "semanticTokens/range": {},
+}
+
+
+def faults_of_question(client, chance, uri, text):
+    """Asks one question by chance at a place by chance."""
+    method = chance.choice([*METHODS, "formatting"])
+    if method == "formatting":
+        if uri.endswith(".rules"):
+            yield from (f"formatting: {fault}, of {text!r}" for fault in faults_of_formatting(client, uri, text))
+        return
+    begin = chance.randrange(len(text) + 1)
+    where = range_of(text, begin, chance.randrange(begin, len(text) + 1))
+    params = {"textDocument": {"uri": uri}, "position": place_of(text, begin), "range": where, **METHODS[method]}
+    try:
+        found = client.request(f"textDocument/{method}", params)
+        faults = list(faults_of_answer(client, uri, text, method, found))
+    except Refusal as error:
+        faults = [] if method == "rename" and error.code == REFUSED else [str(error)]
+    except (KeyError, TypeError, ValueError) as error:
+        faults = [f"{type(error).__name__} {error}: {found}"]
+    yield from (f"{method} at {params['position']}: {fault}, of {text!r}" for fault in faults)

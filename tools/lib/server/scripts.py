@@ -1,0 +1,158 @@
+"""What is published of schedules and scenarios, beside what `flight_tools check --schedule` and `scenario` say of the same texts."""
+
+import glob
+import json
+import os
+import random
+import re
+import subprocess
+
+from diagnostics import ERROR, LEVELS, WARNING, index_of_column, of_check, of_server
+from language_rows import BUS
+from places import place_of
+from questions import faults_of_question
+
+TOP = os.path.dirname(os.path.dirname(os.path.dirname(os.path.dirname(os.path.abspath(__file__)))))
+SEED = 2_028
+SCENARIOS = 120
+SCHEDULES = 60
+URI, RULES_URI = "file:///script", "file:///names.rules"
+QUESTIONS = 3
+HEAD = re.compile(r"^[^\n]+?:(\d+):(\d+): (error|warning)\[([\w-]+)\]: (.*)\n *\d+ \|[^\n]*\n *\| *(\^*) ?(.*)$", re.M)
+WORDS = (
+    "at after tick fields telemetry command packet record file half wdt adt sample housekeeping start stop restart reload load validate activate "
+    "abort mode state filter ramp repeat expect no sequence event result active passive disabled off all age keep none pass fail stale error { } "
+    "from by until each to LC SCH COUNTER u8 u16be 0883 18A4 0 1 7 16 100 65536 99999999999 - # LOW HOT 0:LOW BUS VOLTS VOLTS=1 DEGREES=-5 "
+    "BUSS=1 slots 2 0x 0883X \u00e9 \U0001f600 \x01"
+).split()
+SPECIALS = ["\r", "\t", "\r\n", "\n", " ", "\n\n", "  # \U0001f600 "]
+
+
+def read(path):
+    with open(path, encoding="utf-8", newline="") as file:
+        return file.read()
+
+
+def examples():
+    """Scenarios with the rule text whose names they use, none for plain scripts, and schedules."""
+    data = f"{TOP}/crates/run_rows/data"
+    scenarios = [(read(path), "") for path in (f"{data}/bus.scenario", f"{data}/a_command_has_its_code_and_its_length/scenario.txt")]
+    for name in ("power_bus", "thermal_loop"):
+        scenarios.append((read(f"{data}/{name}/scenario.txt"), read(f"{data}/{name}/rules.txt")))
+    said = f"{TOP}/tools/lib/programs/messages"
+    scenarios += [(read(path), "") for path in sorted(glob.glob(f"{said}/*.script"))]
+    scenarios += [(read(path), BUS.replace("AMPS", "DEGREES")) for path in sorted(glob.glob(f"{said}/*.scenario"))]
+    scenarios = [it for it in scenarios if "repeat 1000" not in it[0]]
+    schedules = [read(path) for path in sorted(glob.glob(f"{data}/*/schedule.txt")) + sorted(glob.glob(f"{said}/*.schedule"))]
+    return scenarios, schedules
+
+
+def spoiled(chance, text):
+    """The text with some of its words gone, doubled or replaced by others."""
+    parts = re.split(r"(\s+)", text)
+    for _ in range(chance.randrange(1, 4)):
+        at = chance.randrange(len(parts))
+        new = chance.choice(SPECIALS) if at % 2 else chance.choice(WORDS)
+        parts[at] = chance.choice([new, new, "", parts[at] + new, parts[at] * 2])
+    return "".join(parts)
+
+
+def of_listing(text, listing):
+    """The messages of a printed page, as `of_server` gives them, but without related places."""
+    found = []
+    for line, column, level, code, sentence, mark, label in HEAD.findall(listing):
+        begin = index_of_column(text, int(line), int(column))
+        place = place_of(text, begin)
+        found.append((LEVELS[level], int(code) if code.isdigit() else code, f"{sentence}: {label}" if label else sentence, (place["line"], place["character"])))
+    return found
+
+
+def shortened(diagnostics):
+    found = [it for it in diagnostics if it["severity"] in (ERROR, WARNING)]
+    return [(severity, code, sentence, where[:2]) for severity, code, sentence, where, _ in of_server(found)]
+
+
+def say_of_scenario(program, folder, text, rules):
+    for name, content in (("text", text), ("rules", rules)):
+        with open(f"{folder}/{name}", "w", encoding="utf-8", newline="") as file:
+            file.write(content)
+    words = [program, "scenario", *(["--rules", "rules"] if rules else []), "text", "stream"]
+    ran = subprocess.run(words, cwd=folder, stdout=subprocess.DEVNULL, stderr=subprocess.PIPE, timeout=60, check=False)
+    return of_listing(text, ran.stderr.decode())
+
+
+def say_of_schedule(program, folder, text):
+    for name, content in (("text", text), ("rules", BUS)):
+        with open(f"{folder}/{name}", "w", encoding="utf-8", newline="") as file:
+            file.write(content)
+    words = [program, "check", "--json", "--schedule", "text", "rules"]
+    ran = subprocess.run(words, cwd=folder, stdout=subprocess.PIPE, timeout=60, check=False)
+    messages = [json.loads(line) for line in ran.stdout.splitlines()]
+    return of_check(text, [it for it in messages if it["file"] == "text"])
+
+
+def faults_of_scenario(client, chance, folder, text, rules):
+    """A scenario is opened, changed as a whole, and saved; its warnings are there at opening and saving alone."""
+    wanted = say_of_scenario(client.tools, folder, text, rules)
+    errors = [it for it in wanted if it[0] == ERROR]
+    if rules:
+        client.open(RULES_URI, "lcrules", rules)
+    looks = [
+        (shortened(client.open(URI, "lcscenario", text)), wanted),
+        (shortened(client.change(URI, [{"text": text}])), errors),
+        (shortened(client.save(URI)), wanted),
+    ]
+    for _ in range(QUESTIONS):
+        yield from faults_of_question(client, chance, URI, text)
+    client.close(URI)
+    if rules:
+        client.close(RULES_URI)
+    yield from (f"{found}, not {said}, of {text!r}" for found, said in looks if found != said)
+
+
+def faults_of_schedule(client, chance, folder, text):
+    wanted = say_of_schedule(client.tools, folder, text)
+    looks = [client.open(URI, "lcschedule", text), client.change(URI, [{"text": text}]), client.save(URI)]
+    for _ in range(QUESTIONS):
+        yield from faults_of_question(client, chance, URI, text)
+    client.close(URI)
+    yield from (f"{of_server(found)}, not {wanted}, of {text!r}" for found in looks if of_server(found) != wanted)
+
+
+def faults_of_names(client):
+    """The names of a scenario are those of the rule texts that are open and compile."""
+    text, second = "at 100 0\nBUS VOLTS=1\nLAMP BRIGHT=2\nstate 1:DARK passive\n", (
+        "packet LAMP = mid 0x0890 length 16; field BRIGHT = LAMP u8 at 12; "
+        'rule DARK active fails 1 sequence 9 event info 1009 "" when BRIGHT < 1;'
+    )
+    counts = [client.open(URI, "lcscenario", text)]
+    for uri, rules in ((RULES_URI, BUS), ("file:///second.rules", second)):
+        count = len(client.published[URI])
+        client.open(uri, "lcrules", rules)
+        counts.append(client.diagnostics(URI, count))
+    count = len(client.published[URI])
+    client.change("file:///second.rules", [{"text": second + "packet"}])
+    client.save("file:///second.rules")
+    counts.append(client.diagnostics(URI, count))
+    for uri in ("file:///second.rules", RULES_URI):
+        count = len(client.published[URI])
+        client.close(uri)
+        counts.append(client.diagnostics(URI, count))
+    client.close(URI)
+    found = [[it["range"]["start"]["line"] for it in diagnostics if it["severity"] == ERROR] for diagnostics in counts]
+    wanted = [[1], [2], [], [2], [2], [1]]
+    if found != wanted:
+        yield f"lines with errors while rule texts are opened, spoiled and closed: {found}, not {wanted}"
+
+
+def faults_of_scripts(client, folder):
+    chance = random.Random(SEED)
+    scenarios, schedules = examples()
+    scenarios += [(spoiled(chance, text), rules) for text, rules in (chance.choice(scenarios) for _ in range(SCENARIOS))]
+    schedules += [spoiled(chance, chance.choice(schedules)) for _ in range(SCHEDULES)]
+    for text, rules in scenarios:
+        yield from (f"scenario: {fault}" for fault in faults_of_scenario(client, chance, folder, text, rules))
+    for text in schedules:
+        yield from (f"schedule: {fault}" for fault in faults_of_schedule(client, chance, folder, text))
+    yield from faults_of_names(client)
+    print(f"{len(scenarios)} scenarios, {len(schedules)} schedules")

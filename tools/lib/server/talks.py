@@ -1,0 +1,58 @@
+"""Tries the talks of talk_rows.py: each with a server of its own."""
+
+import json
+import subprocess
+
+from talk_rows import TALKS
+
+SECONDS = 20
+
+
+def messages(out):
+    """The messages that a server wrote; a text where the bytes are none."""
+    while out:
+        head, _, rest = out.partition(b"\r\n\r\n")
+        name, _, size = head.partition(b": ")
+        if name != b"Content-Length" or not size.isdigit() or len(rest) < int(size):
+            yield f"no message: {out[:100]!r}"
+            return
+        yield json.loads(rest[: int(size)].decode("utf-8"))
+        out = rest[int(size) :]
+
+
+def summary(message):
+    """A message in a few words: `ID ok`, `ID CODE`, or `diagnostics VERSION COUNT`."""
+    if isinstance(message, str):
+        return message
+    if message.get("jsonrpc") != "2.0":
+        return f"not JSON-RPC 2.0: {message}"
+    if "method" in message:
+        params = message["params"]
+        return f"diagnostics {params.get('version', '-')} {len(params['diagnostics'])}"
+    said = "ok" if "result" in message else message["error"]["code"]
+    return f"{json.dumps(message['id'], ensure_ascii=False)} {said}"
+
+
+def is_met(answers, found):
+    return len(answers) == len(found) and all(it in answer.split("|") for answer, it in zip(answers, found))
+
+
+def faults_of_talk(program, talk):
+    try:
+        ran = subprocess.run([program, "lsp", "--stdio"], input=talk.sent, stdout=subprocess.PIPE, stderr=subprocess.PIPE, timeout=SECONDS, check=False)
+    except subprocess.TimeoutExpired:
+        yield f"{talk.title}: the server goes on for {SECONDS} seconds"
+        return
+    found = [summary(it) for it in messages(ran.stdout)]
+    if not is_met(talk.answers, found):
+        yield f"{talk.title}: {found}, not {talk.answers}"
+    if ran.returncode != talk.status:
+        yield f"{talk.title}: status {ran.returncode}, not {talk.status}"
+    if ran.stderr:
+        yield f"{talk.title}: on standard error stands {ran.stderr[:200]!r}"
+
+
+def faults_of_talks(program):
+    for talk in TALKS:
+        yield from faults_of_talk(program, talk)
+    print(f"{len(TALKS)} talks")
