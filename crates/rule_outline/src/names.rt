@@ -1,5 +1,7 @@
 //! The names of a text, where they stand.
 
+ghost use Rattle.std.specs.Prelude.{◌≡◌, IsTrue};
+
 use crate::item_parts::tokens_before;
 use diagnostics::behind;
 use rule_errors::{NameKind, Source, TokenRange};
@@ -26,7 +28,9 @@ impl<'a> NameUse<'a> {
     }
 
     /// Whether it has this kind and this name.
-    pub(crate) fn is_of(&self, kind: NameKind, text: &[u8]) -> bool {
+    pub(crate) fn is_of(&self, kind: NameKind, text: &[u8]) -> bool
+        ensures { IsTrue result → (self.now.kind ≡ kind) × (self.now.text.now ≡ text.now) }
+    {
         self.kind == kind && self.text == text
     }
 }

@@ -1,5 +1,8 @@
 //! The outline of a rule text.
 
+ghost use Rattle.std.specs.Prelude.{All, IfOk};
+ghost use Rattle.rule_outline.specs.Uses.{IsUseOf};
+
 use crate::names::{NameUse, names_in};
 use rule_errors::{Mended, NameKind, Source};
 use rule_lexer::{LexError, Token, lex};
@@ -62,7 +65,9 @@ impl<'a> Outline<'a> {
     }
 
     /// All uses of a name, declarations included, in the order of the text.
-    pub fn uses(&self, alloc: Global, name: NameUse<'a>) -> Result<Vec<NameUse<'a>>, AllocError> {
+    pub fn uses(&self, alloc: Global, name: NameUse<'a>) -> Result<Vec<NameUse<'a>>, AllocError>
+        ensures { IfOk result (λ uses. All (IsUseOf name.entry) uses.items) }
+    {
         let mut uses = Vec::new(alloc);
         for other in &self.names {
             if other.is_of(name.kind, name.text) {

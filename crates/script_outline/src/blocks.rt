@@ -1,8 +1,8 @@
 //! Repetitions, and comments of several lines.
 
 use crate::outline::{ScriptKind, ScriptOutline};
-use crate::part::behind;
 use crate::word::{is_blank, is_comment};
+use diagnostics::behind;
 use editor_text::Fold;
 use std::alloc::{AllocError, Global};
 use text_lines::{blank_count, first_word};

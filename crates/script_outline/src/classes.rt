@@ -1,9 +1,10 @@
 //! Words by what they are.
 
 use crate::outline::{ScriptNames, ScriptOutline};
-use crate::part::{behind, class_of, is_field, is_number, rule_start};
+use crate::part::{class_of, is_field, is_number, rule_start};
 use crate::statement::{WordPart, first_stage};
 use crate::word::{is_blank, is_comment, read_word};
+use diagnostics::behind;
 use editor_text::{ClassedWord, WordClass};
 use std::alloc::{AllocError, Global};
 

@@ -1,15 +1,21 @@
 //! What is said of a word, and the names of rule texts.
 
+ghost use Rattle.std.specs.Prelude.{◌≡◌, true, IfSome};
+ghost use Rattle.script_outline.specs.Names.{is_name};
+
 use crate::classes::field_length;
 use crate::outline::{ScriptName, ScriptOutline};
-use crate::part::{behind, is_field, rule_start};
+use crate::part::{is_field, rule_start};
 use crate::statement::WordPart;
+use diagnostics::behind;
 use editor_text::{Hover, WordClass};
 use std::alloc::{AllocError, Global};
 
 impl<'a> ScriptOutline<'a> {
     /// The name of a packet, a field or a rule that has a byte, or its end, at this place.
-    pub fn name_at(&self, at: usize) -> Option<ScriptName<'a>> {
+    pub fn name_at(&self, at: usize) -> Option<ScriptName<'a>>
+        ensures { IfSome result (λ name. is_name name.class ≡ true) }
+    {
         let word = self.word_at(at)?;
         let column = at.saturating_sub(word.at);
         let (start, text, class) = match word.reading(&self.names).part? {

@@ -2,6 +2,7 @@
 
 use crate::outline::ScriptNames;
 use crate::statement::WordPart;
+use diagnostics::behind;
 use editor_text::WordClass;
 use lc_model::TYPE_WORDS;
 use text_lines::split_digits;
@@ -43,11 +44,6 @@ pub(crate) fn rule_start(word: &[u8]) -> usize {
         [b':', ..] if !digits.is_empty() => digits.len().saturating_add(1),
         _ => 0,
     }
-}
-
-/// The bytes after the first of a word.
-pub(crate) fn behind(word: &[u8], count: usize) -> &[u8] {
-    word.split_at(count.min(word.len())).1
 }
 
 /// Whether a word is among these.
