@@ -18,7 +18,7 @@ def example(name):
         return file.read()
 
 
-FIELDS = PACKET + worst.filled("field F{0}=P u8 at 12;\n")[: worst.LENGTH - len(PACKET) - 200].rpartition("\n")[0] + "\n"
+FIELDS = PACKET + worst.filled("field FA{0}=P u8 at 12;\n")[: worst.LENGTH - len(PACKET) - 200].rpartition("\n")[0] + "\n"
 TEXTS = {
     "176 rules of four comparisons": worst.ORDINARY["176 rules of four comparisons each"],
     "rules of sixteen comparisons": example("full_tables_of_sixteen_mentions_request_all"),
@@ -32,7 +32,7 @@ TEXTS = {
 }
 # Scripts, each beside a rule text with many fields.
 SCENARIOS = {
-    "packets by name": worst.filled("P F1=1 F2773=1\n", "at 1 0\n"),
+    "packets by name": worst.filled("P FA1=1 FA2600=1\n", "at 1 0\n"),
     "lines of one word": worst.filled("tick\n", "at 1 0\n"),
     "comments of a scenario": worst.filled("# \u00e9\U0001f600\n"),
     "repetitions that are not closed": worst.filled("repeat 1 {{\n", "at 1 0\n"),
