@@ -5,6 +5,7 @@ import subprocess
 import language_rows as rows
 from client import Refusal
 from places import edited, is_inside, place_of, range_of, word_of
+from version import version
 
 REFUSED = -32_803
 BLANKS = set(" \t\r\n")
@@ -213,6 +214,9 @@ QUESTIONS = [
 
 def faults_of_rows(client):
     """The rows whose answers are other ones."""
+    offer = {"capabilities": rows.CAPABILITIES, "serverInfo": {"name": "flight_tools", "version": version()}}
+    if client.offer != offer:
+        yield f"initialize: {client.offer}, not {offer}"
     count = 0
     for what, asks, said in QUESTIONS:
         for ask in (variant for ask in asks for variant in variants(ask)):

@@ -16,6 +16,24 @@ HEAD = "rule R active fails 1 sequence 1 event info 1001 "
 WIDE = "\U0001f600\u00e9"
 TYPES = "u8 i8 u16be u16le i16be i16le u32be u32le i32be i32le"
 
+# What the server can do.
+TOKEN_TYPES = ["keyword", "operator", "type", "enumMember", "class", "property", "function", "number", "string", "comment"]
+CAPABILITIES = {
+    "codeActionProvider": {"codeActionKinds": ["quickfix"]},
+    "completionProvider": {"resolveProvider": False, "triggerCharacters": [" ", "="]},
+    "definitionProvider": True,
+    "documentFormattingProvider": True,
+    "documentRangeFormattingProvider": True,
+    "documentSymbolProvider": True,
+    "foldingRangeProvider": True,
+    "hoverProvider": True,
+    "positionEncoding": "utf-16",
+    "referencesProvider": True,
+    "renameProvider": {"prepareProvider": True},
+    "semanticTokensProvider": {"full": True, "legend": {"tokenModifiers": ["declaration"], "tokenTypes": TOKEN_TYPES}, "range": True},
+    "textDocumentSync": {"change": 2, "openClose": True, "save": {"includeText": False}},
+}
+
 
 @dataclass
 class Ask:

@@ -16,6 +16,8 @@ STATES = 500
 SAVED = 50
 ASKED = 4
 LARGE = 400
+# Megabytes that the server may have in memory.
+MOST_MEMORY = 64
 PARTS = (
     [f" {word} " for word in WORDS + TYPES]
     + [" P ", "VOLTS", "BUS", " V9_", "12", "0x", " 0x883 ", "-", "99999999999", "2400", " 1", ";", ";", "=", " == ", "<", "(", ")", '"', '"', '"ok"', "#", "# a"]
@@ -131,4 +133,7 @@ def faults_of_edits(client, folder, count, seed):
     yield from record.faults()
     client.close(URI)
     questions = (count + ASKED - 1) // ASKED
-    print(f"{count} messages with {parts} changes and {questions} questions (seed {seed}): {record.errors} errors published")
+    memory = client.most_memory()
+    if memory > MOST_MEMORY:
+        yield f"{memory:.0f} MB in memory"
+    print(f"{count} messages with {parts} changes and {questions} questions (seed {seed}): {record.errors} errors published, {memory:.0f} MB in memory")

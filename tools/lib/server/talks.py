@@ -3,7 +3,7 @@
 import json
 import subprocess
 
-from talk_rows import TALKS
+from talk_rows import HELLO, TALKS
 
 SECONDS = 20
 
@@ -52,7 +52,27 @@ def faults_of_talk(program, talk):
         yield f"{talk.title}: on standard error stands {ran.stderr[:200]!r}"
 
 
+def faults_of_ends(program):
+    """A server whose reader has gone ends, and so does one whose output takes nothing."""
+    with subprocess.Popen([program, "lsp"], stdin=subprocess.PIPE, stdout=subprocess.PIPE, stderr=subprocess.PIPE) as server:
+        server.stdout.close()
+        server.stdin.write(HELLO)
+        server.stdin.flush()
+        try:
+            status = server.wait(SECONDS)
+        except subprocess.TimeoutExpired:
+            server.kill()
+            status = "no end"
+        if status or server.stderr.read():
+            yield f"a reader that has gone: status {status}"
+    with open("/dev/full", "wb") as full:
+        ran = subprocess.run([program, "lsp"], input=HELLO, stdout=full, stderr=subprocess.PIPE, timeout=SECONDS, check=False)
+    if (ran.returncode, ran.stderr) != (3, b"cannot use standard output: the device is full\n"):
+        yield f"a full device: status {ran.returncode}, {ran.stderr!r}"
+
+
 def faults_of_talks(program):
+    yield from faults_of_ends(program)
     for talk in TALKS:
         yield from faults_of_talk(program, talk)
     print(f"{len(TALKS)} talks")
