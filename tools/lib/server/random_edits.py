@@ -80,7 +80,8 @@ class Editor:
         start, stop = self.moved(text, begin), self.moved(text, end)
         if (stop["line"], stop["character"]) < (start["line"], start["character"]):
             stop = start
-        return {"range": {"start": start, "end": stop}, "text": self.part(text)}
+        length = {"rangeLength": units(text[begin:end])} if self.random.random() < 0.2 else {}
+        return {"range": {"start": start, "end": stop}, **length, "text": self.part(text)}
 
     def changes(self, text):
         """The changes of one message, and the text after them."""

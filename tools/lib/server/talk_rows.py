@@ -146,6 +146,7 @@ SPOILED = [
     spoiled("a length of 1 TB", b"Content-Length: 1000000000000\r\n\r\n", "null -32700"),
     spoiled("a length of many digits", b"Content-Length: %b\r\n\r\n" % (b"9" * 5000), "null -32700"),
     spoiled("too short a length", body(HOVER_BODY, 9), "null -32700"),
+    spoiled("line feeds alone between header and body", b"Content-Length: 2\n\n{}"),
     spoiled("headers in front of a message", b"Content-Type: application/vscode-jsonrpc; charset=utf-8\r\n"),
     Talk(
         "a header after the length",
@@ -167,6 +168,16 @@ DOCUMENTS = [
         "an older version",
         HELLO + READY + opened(version=7) + changes(3, {"text": "packet"}) + TAIL,
         ["1 ok", "diagnostics 7 3", "diagnostics 3 1", "9 ok"],
+    ),
+    Talk(
+        "no version",
+        HELLO + READY + opened(version=None) + changes(None, {"text": "packet"}) + TAIL,
+        ["1 ok", "diagnostics - 3", "diagnostics - 1", "9 ok"],
+    ),
+    Talk(
+        "changes that are none",
+        HELLO + READY + opened("packet") + changes(2, {}, 7, {"text": 8}, {"range": {"start": {"line": 0}}, "text": "x"}) + TAIL,
+        ["1 ok", "diagnostics 1 1", "diagnostics 2 1", "9 ok"],
     ),
     Talk(
         "no change",

@@ -3,7 +3,7 @@
 import json
 import subprocess
 
-from talk_rows import HELLO, TALKS
+from talk_rows import HELLO, HOVER, READY, TAIL, TALKS, opened
 
 SECONDS = 20
 
@@ -52,6 +52,19 @@ def faults_of_talk(program, talk):
         yield f"{talk.title}: on standard error stands {ran.stderr[:200]!r}"
 
 
+def faults_of_pieces(program):
+    """Bytes that come one by one are answered as those that come at once."""
+    sent = HELLO + READY + opened("# \U0001f600") + HOVER + TAIL
+    whole = subprocess.run([program, "lsp"], input=sent, stdout=subprocess.PIPE, timeout=SECONDS, check=False)
+    with subprocess.Popen([program, "lsp"], stdin=subprocess.PIPE, stdout=subprocess.PIPE, bufsize=0) as server:
+        for at in range(len(sent)):
+            server.stdin.write(sent[at : at + 1])
+        server.stdin.close()
+        found = server.stdout.read()
+    if (found, server.returncode) != (whole.stdout, 0) or not found:
+        yield f"bytes one by one: {found!r} with status {server.returncode}, not {whole.stdout!r}"
+
+
 def faults_of_ends(program):
     """A server whose reader has gone ends, and so does one whose output takes nothing."""
     with subprocess.Popen([program, "lsp"], stdin=subprocess.PIPE, stdout=subprocess.PIPE, stderr=subprocess.PIPE) as server:
@@ -73,6 +86,7 @@ def faults_of_ends(program):
 
 def faults_of_talks(program):
     yield from faults_of_ends(program)
+    yield from faults_of_pieces(program)
     for talk in TALKS:
         yield from faults_of_talk(program, talk)
     print(f"{len(TALKS)} talks")
