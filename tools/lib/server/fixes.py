@@ -69,7 +69,8 @@ def faults_of_ranges(client):
     """The fixes of a range are those of the marks that it touches."""
     text = "packt BUS = mid 0x0883 length 16;\nfield V = BUS u8 att 12;\nfield W = BUS u8 at 13;\n"
     at = text.index("att")
-    places = [(0, 5, "packet"), (5, 5, "packet"), (6, at - 1, ""), (at - 1, at, "at"), (at + 3, at + 9, "at"), (at + 4, len(text), ""), (0, len(text), "packet at")]
+    places = [(0, 5, "packet"), (5, 5, "packet"), (6, at - 1, ""), (at - 1, at, "at"), (at + 3, at + 9, "at"), (at + 4, len(text), "")]
+    places.append((0, len(text), "packet at"))
     client.open(URI, "lcrules", text)
     for begin, end, wanted in places:
         fixes = fixes_in(client, range_of(text, begin, end))

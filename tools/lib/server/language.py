@@ -176,7 +176,7 @@ def said_of_tokens(desk):
 
 def formatted(program, text):
     """What `format` makes of a text; `None` where it refuses it."""
-    ran = subprocess.run([program, "format", "-"], input=text.encode(), stdout=subprocess.PIPE, stderr=subprocess.DEVNULL, timeout=20, check=False)
+    ran = subprocess.run([program, "format", "-"], input=text.encode(), stdout=subprocess.PIPE, stderr=subprocess.DEVNULL, timeout=20)
     return ran.stdout.decode() if ran.returncode == 0 else None
 
 

@@ -22,13 +22,12 @@ def faults_of_uses(text, found, uri):
 
 def faults_of_tokens(text, found, client):
     """Tokens have a size, lie inside a line each, and follow one another."""
-    end = 0
-    lines = lines_of(text)
+    last = 0
     for where, kind, _ in decoded(client.legend, found["data"]):
-        begin, after = index_of(text, where["start"]), index_of(text, where["end"])
-        if not is_inside(text, where) or not end <= begin < after or not lines[where["start"]["line"]][0] <= begin <= after <= lines[where["start"]["line"]][1]:
+        begin, end = index_of(text, where["start"]), index_of(text, where["end"])
+        if not is_inside(text, where) or not last <= begin < end <= lines_of(text)[where["start"]["line"]][1]:
             yield f"the {kind} {where}"
-        end = after
+        last = end
 
 
 def faults_of_answer(client, uri, text, method, found):
@@ -64,7 +63,7 @@ def faults_of_answer(client, uri, text, method, found):
 
 
 def faults_of_formatting(client, uri, text, where):
-    """Formatting leads to what `format` writes, by edits of blanks, and is refused where that is. In a range there are some of these edits."""
+    """Formatting leads to what `format` writes, by edits of blanks, and is refused where that is. In a range it makes some of them."""
     wanted = formatted(client.tools, text)
     params = {"textDocument": {"uri": uri}, "range": where, "options": {"tabSize": 4, "insertSpaces": True}}
     whole, part = (client.ask(f"textDocument/{method}", params) for method in ("formatting", "rangeFormatting"))

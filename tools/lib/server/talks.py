@@ -39,7 +39,7 @@ def is_met(answers, found):
 
 def faults_of_talk(program, talk):
     try:
-        ran = subprocess.run([program, "lsp", "--stdio"], input=talk.sent, stdout=subprocess.PIPE, stderr=subprocess.PIPE, timeout=SECONDS, check=False)
+        ran = subprocess.run([program, "lsp", "--stdio"], input=talk.sent, capture_output=True, timeout=SECONDS)
     except subprocess.TimeoutExpired:
         yield f"{talk.title}: the server goes on for {SECONDS} seconds"
         return
@@ -55,7 +55,7 @@ def faults_of_talk(program, talk):
 def faults_of_pieces(program):
     """Bytes that come one by one are answered as those that come at once."""
     sent = HELLO + READY + opened("# \U0001f600") + HOVER + TAIL
-    whole = subprocess.run([program, "lsp"], input=sent, stdout=subprocess.PIPE, timeout=SECONDS, check=False)
+    whole = subprocess.run([program, "lsp"], input=sent, stdout=subprocess.PIPE, timeout=SECONDS)
     with subprocess.Popen([program, "lsp"], stdin=subprocess.PIPE, stdout=subprocess.PIPE, bufsize=0) as server:
         for at in range(len(sent)):
             server.stdin.write(sent[at : at + 1])
@@ -79,7 +79,7 @@ def faults_of_ends(program):
         if status or server.stderr.read():
             yield f"a reader that has gone: status {status}"
     with open("/dev/full", "wb") as full:
-        ran = subprocess.run([program, "lsp"], input=HELLO, stdout=full, stderr=subprocess.PIPE, timeout=SECONDS, check=False)
+        ran = subprocess.run([program, "lsp"], input=HELLO, stdout=full, stderr=subprocess.PIPE, timeout=SECONDS)
     if (ran.returncode, ran.stderr) != (3, b"cannot use standard output: the device is full\n"):
         yield f"a full device: status {ran.returncode}, {ran.stderr!r}"
 
