@@ -1,5 +1,5 @@
--- The client of `flight_tools lsp` in Neovim. One server serves all rule texts, schedules and scenarios, so that a scenario may use the names
--- of the rule texts that are open.
+-- The client of `flight_tools lsp` in Neovim. One server serves all rule texts, schedules and scenarios, so that a scenario may use
+-- the names of the rule texts that are open.
 local M = {}
 
 local NAME = 'flight_tools'
@@ -22,8 +22,14 @@ local function reuse(client, config)
 end
 
 -- What a later Neovim sets by itself.
+local functions = {
+  formatexpr = 'v:lua.vim.lsp.formatexpr()',
+  omnifunc = 'v:lua.vim.lsp.omnifunc',
+  tagfunc = 'v:lua.vim.lsp.tagfunc',
+}
+
 local function set_functions(_, buffer)
-  for option, value in pairs({ omnifunc = 'v:lua.vim.lsp.omnifunc', tagfunc = 'v:lua.vim.lsp.tagfunc', formatexpr = 'v:lua.vim.lsp.formatexpr()' }) do
+  for option, value in pairs(functions) do
     if vim.bo[buffer][option] == '' then
       vim.bo[buffer][option] = value
     end

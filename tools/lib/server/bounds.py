@@ -23,7 +23,7 @@ TEXTS = {
     "176 rules of four comparisons": worst.ORDINARY["176 rules of four comparisons each"],
     "rules of sixteen comparisons": example("full_tables_of_sixteen_mentions_request_all"),
     "fields, and the begin of a rule": FIELDS + worst.RULE.format(0) + "F",
-    "a rule of many lines": PACKET + "field V=P u8 at 12;\n" + worst.RULE.format(0) + worst.filled("(V<1 or\n")[: worst.LENGTH - 200].rpartition("\n")[0],
+    "a rule of many lines": worst.filled("(V<1 or\n", PACKET + "field V=P u8 at 12;\n" + worst.RULE.format(0)),
     "bad bytes": worst.TEXTS["bad bytes on lines"],
     "ends of items with bad bytes": worst.TEXTS["ends of items with bad bytes"],
     "comparisons of fields that aren't there": worst.TEXTS["comparisons of fields that aren't there"],

@@ -36,7 +36,7 @@ class Client:
     """A server, and all that it has said so far."""
 
     def __init__(self, tools, seconds=20):
-        self.tools, self.seconds, self.legend = tools, seconds, None
+        self.tools, self.seconds, self.offer, self.legend = tools, seconds, None, None
         self.errors = tempfile.TemporaryFile()
         self.process = subprocess.Popen([tools, "lsp"], stdin=subprocess.PIPE, stdout=subprocess.PIPE, stderr=self.errors, bufsize=0)
         self.to, self.out = self.process.stdin.fileno(), self.process.stdout.fileno()
@@ -148,6 +148,7 @@ class Client:
     def initialize(self, capabilities=None):
         result = self.request("initialize", {"processId": os.getpid(), "rootUri": None, "capabilities": capabilities or {}})
         self.notify("initialized", {})
+        self.offer = result
         self.legend = result["capabilities"]["semanticTokensProvider"]["legend"]
         return result
 
@@ -195,6 +196,11 @@ class Client:
             with open(f"/proc/{self.process.pid}/stat", encoding="ascii") as file:
                 fields = file.read().rpartition(")")[2].split()
             return (int(fields[11]) + int(fields[12])) / TICK
+
+    def most_memory(self):
+        """The most megabytes that the server has had in memory."""
+        with open(f"/proc/{self.process.pid}/status", encoding="ascii") as file:
+            return next(int(line.split()[1]) for line in file if line.startswith("VmHWM")) / 1024
 
     def end_input(self):
         """Sends what is left, ends the server's input, reads all, and returns its status."""

@@ -76,7 +76,7 @@ def check(program, folder, texts):
             file.write(text)
     if not texts:
         return {}
-    ran = subprocess.run([program, "check", "--json", *texts], cwd=folder, stdout=subprocess.PIPE, timeout=100, check=False)
+    ran = subprocess.run([program, "check", "--json", *texts], cwd=folder, stdout=subprocess.PIPE, timeout=100)
     found = {name: [] for name in texts}
     for line in ran.stdout.splitlines():
         message = json.loads(line)

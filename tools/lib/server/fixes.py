@@ -65,7 +65,26 @@ def faults_after(client, folder, after):
         yield "no mistake has a fix"
 
 
+def faults_of_ranges(client):
+    """The fixes of a range are those of the marks that it touches."""
+    text = "packt BUS = mid 0x0883 length 16;\nfield V = BUS u8 att 12;\nfield W = BUS u8 at 13;\n"
+    at = text.index("att")
+    places = [(0, 5, "packet"), (5, 5, "packet"), (6, at - 1, ""), (at - 1, at, "at"), (at + 3, at + 9, "at"), (at + 4, len(text), "")]
+    places.append((0, len(text), "packet at"))
+    client.open(URI, "lcrules", text)
+    for begin, end, wanted in places:
+        fixes = fixes_in(client, range_of(text, begin, end))
+        found = " ".join(edit["newText"] for fix in fixes for edit in fix["edit"]["changes"][URI])
+        if found != wanted:
+            yield f"fixes from {begin} to {end}: {found!r}, not {wanted!r}"
+    other = {"textDocument": {"uri": URI}, "range": range_of(text, 0, len(text)), "context": {"diagnostics": [], "only": ["refactor"]}}
+    if client.request("textDocument/codeAction", other):
+        yield "fixes where refactoring is asked for"
+    client.close(URI)
+
+
 def faults_of_fixes(client, folder):
+    yield from faults_of_ranges(client)
     made = Mistakes(SEED)
     texts = {f"mistake-{number}": made.one()[1] for number in range(MISTAKES)}
     said, after = check(client.tools, folder, texts), []

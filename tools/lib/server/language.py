@@ -5,6 +5,7 @@ import subprocess
 import language_rows as rows
 from client import Refusal
 from places import edited, is_inside, place_of, range_of, word_of
+from version import version
 
 REFUSED = -32_803
 BLANKS = set(" \t\r\n")
@@ -175,7 +176,7 @@ def said_of_tokens(desk):
 
 def formatted(program, text):
     """What `format` makes of a text; `None` where it refuses it."""
-    ran = subprocess.run([program, "format", "-"], input=text.encode(), stdout=subprocess.PIPE, stderr=subprocess.DEVNULL, timeout=20, check=False)
+    ran = subprocess.run([program, "format", "-"], input=text.encode(), stdout=subprocess.PIPE, stderr=subprocess.DEVNULL, timeout=20)
     return ran.stdout.decode() if ran.returncode == 0 else None
 
 
@@ -213,6 +214,9 @@ QUESTIONS = [
 
 def faults_of_rows(client):
     """The rows whose answers are other ones."""
+    offer = {"capabilities": rows.CAPABILITIES, "serverInfo": {"name": "flight_tools", "version": version()}}
+    if client.offer != offer:
+        yield f"initialize: {client.offer}, not {offer}"
     count = 0
     for what, asks, said in QUESTIONS:
         for ask in (variant for ask in asks for variant in variants(ask)):

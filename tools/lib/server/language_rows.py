@@ -16,6 +16,24 @@ HEAD = "rule R active fails 1 sequence 1 event info 1001 "
 WIDE = "\U0001f600\u00e9"
 TYPES = "u8 i8 u16be u16le i16be i16le u32be u32le i32be i32le"
 
+# What the server can do.
+TOKEN_TYPES = ["keyword", "operator", "type", "enumMember", "class", "property", "function", "number", "string", "comment"]
+CAPABILITIES = {
+    "codeActionProvider": {"codeActionKinds": ["quickfix"]},
+    "completionProvider": {"resolveProvider": False, "triggerCharacters": [" ", "="]},
+    "definitionProvider": True,
+    "documentFormattingProvider": True,
+    "documentRangeFormattingProvider": True,
+    "documentSymbolProvider": True,
+    "foldingRangeProvider": True,
+    "hoverProvider": True,
+    "positionEncoding": "utf-16",
+    "referencesProvider": True,
+    "renameProvider": {"prepareProvider": True},
+    "semanticTokensProvider": {"full": True, "legend": {"tokenModifiers": ["declaration"], "tokenTypes": TOKEN_TYPES}, "range": True},
+    "textDocumentSync": {"change": 2, "openClose": True, "save": {"includeText": False}},
+}
+
 
 @dataclass
 class Ask:
@@ -199,7 +217,7 @@ FOLDS = [
     Ask("comments of several lines", "# a\n# b\n# c\npacket P = mid 0x0883 length 16; # d\n# e\n\n# f\n", [(0, 2, "comment")]),
     Ask("an item that is not closed", "rule R active\n  fails 1\n  sequence 2\n", [(0, 2, "region")]),
     Ask("an empty text", "", []),
-    scenario("repetitions", "at 100 0\nrepeat 2 {\n  tick\n  repeat 3 {\n    tick\n  }\n}\n", [(1, 6, "region"), (3, 5, "region")]),
+    scenario("repetitions", "at 1 0\nrepeat 2 {\n tick\n repeat 3 {\n  tick\n }\n}\n", [(1, 6, "region"), (3, 5, "region")]),
     scenario("comments of a scenario", "# a\n# b\nat 100 0\n", [(0, 1, "comment")]),
     schedule("comments of a schedule", "slots 2\n# a\n  # b\n0 housekeeping\n", [(1, 2, "comment")]),
 ]
@@ -214,7 +232,8 @@ TOKENS = [
     Ask(
         "a field",
         "field VOLTS = BUS u16be at 12 mask 0xFF stale 3;",
-        "keyword field|property* VOLTS|operator =|class BUS|type u16be|keyword at|number 12|keyword mask|number 0xFF|keyword stale|number 3",
+        "keyword field|property* VOLTS|operator =|class BUS|type u16be|keyword at|number 12|keyword mask|number 0xFF"
+        "|keyword stale|number 3",
     ),
     Ask(
         "a rule",
@@ -234,7 +253,8 @@ TOKENS = [
     scenario(
         "a scenario",
         f"at 100 0 # {WIDE} start\nstart LC\nBUS VOLTS=2750\ntick\n",
-        f"keyword at|number 100|number 0|comment # {WIDE} start|keyword start|string LC|class BUS|property VOLTS|operator =|number 2750|keyword tick",
+        f"keyword at|number 100|number 0|comment # {WIDE} start|keyword start|string LC|class BUS|property VOLTS|operator =|number 2750"
+        "|keyword tick",
     ),
 ]
 

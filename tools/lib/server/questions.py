@@ -1,7 +1,7 @@
 """Questions about any text, valid or not: whatever the answer is, it has to be of the form that the protocol wants, and inside the text."""
 
 from client import Refusal
-from language import REFUSED, decoded, flat_symbols, formatted, is_part, locations
+from language import REFUSED, decoded, flat_symbols, formatted, is_part, locations, only_blanks
 from places import edited, index_of, is_inside, lines_of, place_of, range_of, word_of
 
 NEW = "QQ_NEW_NAME"
@@ -22,13 +22,12 @@ def faults_of_uses(text, found, uri):
 
 def faults_of_tokens(text, found, client):
     """Tokens have a size, lie inside a line each, and follow one another."""
-    end = 0
-    lines = lines_of(text)
+    last = 0
     for where, kind, _ in decoded(client.legend, found["data"]):
-        begin, after = index_of(text, where["start"]), index_of(text, where["end"])
-        if not is_inside(text, where) or not end <= begin < after or not lines[where["start"]["line"]][0] <= begin <= after <= lines[where["start"]["line"]][1]:
+        begin, end = index_of(text, where["start"]), index_of(text, where["end"])
+        if not is_inside(text, where) or not last <= begin < end <= lines_of(text)[where["start"]["line"]][1]:
             yield f"the {kind} {where}"
-        end = after
+        last = end
 
 
 def faults_of_answer(client, uri, text, method, found):
@@ -63,13 +62,18 @@ def faults_of_answer(client, uri, text, method, found):
         yield from faults_of_tokens(text, found, client)
 
 
-def faults_of_formatting(client, uri, text):
-    """Formatting leads to what `format` writes, and is refused where that is."""
+def faults_of_formatting(client, uri, text, where):
+    """Formatting leads to what `format` writes, by edits of blanks, and is refused where that is. In a range it makes some of them."""
     wanted = formatted(client.tools, text)
-    answer = client.ask("textDocument/formatting", {"textDocument": {"uri": uri}, "options": {"tabSize": 4, "insertSpaces": True}})
-    found = edited(text, answer["result"]) if answer.get("result") is not None else None
-    if found != wanted or answer.get("error", {}).get("code", REFUSED) != REFUSED:
-        yield f"{answer}, not {wanted!r}"
+    params = {"textDocument": {"uri": uri}, "range": where, "options": {"tabSize": 4, "insertSpaces": True}}
+    whole, part = (client.ask(f"textDocument/{method}", params) for method in ("formatting", "rangeFormatting"))
+    if wanted is None:
+        if [it.get("error", {}).get("code") for it in (whole, part)] != 2 * [REFUSED]:
+            yield f"{whole} and {part} of a text that can't be formatted"
+    elif edited(text, whole["result"]) != wanted or not only_blanks(text, whole["result"]):
+        yield f"{whole}, not {wanted!r}"
+    elif part["result"] != [it for it in whole["result"] if is_part(it["range"], where)]:
+        yield f"{part} in {where}, of {whole}"
 
 
 METHODS = {
@@ -90,12 +94,12 @@ METHODS = {
 def faults_of_question(client, chance, uri, text):
     """Asks one question by chance at a place by chance."""
     method = chance.choice([*METHODS, "formatting"])
-    if method == "formatting":
-        if uri.endswith(".rules"):
-            yield from (f"formatting: {fault}, of {text!r}" for fault in faults_of_formatting(client, uri, text))
-        return
     begin = chance.randrange(len(text) + 1)
     where = range_of(text, begin, chance.randrange(begin, len(text) + 1))
+    if method == "formatting":
+        if uri.endswith(".rules"):
+            yield from (f"formatting: {fault}, of {text!r}" for fault in faults_of_formatting(client, uri, text, where))
+        return
     params = {"textDocument": {"uri": uri}, "position": place_of(text, begin), "range": where, **METHODS[method]}
     try:
         found = client.request(f"textDocument/{method}", params)

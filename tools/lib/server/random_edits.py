@@ -1,4 +1,4 @@
-"""Edits of rule texts by chance, from a seed: the text that a server holds has to stay that of an editor, and its refusals those of `check`."""
+"""Edits of rule texts by chance, from a seed: a server's text has to stay that of the editor, and its errors those of `check`."""
 
 import random
 
@@ -16,13 +16,14 @@ STATES = 500
 SAVED = 50
 ASKED = 4
 LARGE = 400
-PARTS = (
-    [f" {word} " for word in WORDS + TYPES]
-    + [" P ", "VOLTS", "BUS", " V9_", "12", "0x", " 0x883 ", "-", "99999999999", "2400", " 1", ";", ";", "=", " == ", "<", "(", ")", '"', '"', '"ok"', "#", "# a"]
-    + ["\n", "\n", "\r\n", "\r", "\r\r\n", "\n\n", " ", "\t", "", "@", "$", ",", "\\", "\x00", "\x1b", "\x7f"]
-    + ["\u00e9", "\u20ac", "\u0301", "\u2028", "\ufeff", "\ufffd", "\U0001f600", "\U00010000\U0010ffff", '"\u00b1"', "# \U0001f600\n", "\U0001f600\r"]
-    + ["rule R active", "packet P = mid 0x0883 length 16;\n", "field V = P u8 at 12;\n", 'event info 1001 "" when V < 1;\n']
-)
+# Megabytes that the server may have in memory.
+MOST_MEMORY = 64
+PARTS = [f" {word} " for word in WORDS + TYPES] + [
+    *(" P ", "VOLTS", "BUS", " V9_", "12", "0x", " 0x883 ", "-", "99999999999", "2400", " 1", ";", ";", "=", " == ", "<", "(", ")"),
+    *('"', '"', '"ok"', "#", "# a", "\n", "\n", "\r\n", "\r", "\r\r\n", "\n\n", " ", "\t", "", "@", "$", ",", "\\", "\x00", "\x1b", "\x7f"),
+    *("\u00e9", "\u20ac", "\u0301", "\u2028", "\ufeff", "\ufffd", "\U0001f600", "\U00010000\U0010ffff", '"\u00b1"', "# \U0001f600\n"),
+    *("\U0001f600\r", "rule R active", "packet P = mid 0x0883 length 16;\n", "field V = P u8 at 12;\n", 'event info 1001 "" when V < 1;\n'),
+]
 
 
 class Editor:
@@ -47,7 +48,8 @@ class Editor:
     def size(self, text):
         """How many characters an edit takes away: mostly none or few."""
         kind = self.random.random()
-        return 0 if kind < 0.4 else self.random.randrange(1, 6) if kind < 0.85 else self.random.randrange(1, 80) if kind < 0.99 else len(text)
+        few, many = self.random.randrange(1, 6), self.random.randrange(1, 80)
+        return 0 if kind < 0.4 else few if kind < 0.85 else many if kind < 0.99 else len(text)
 
     def part(self, text):
         """What an edit puts in: nothing, a part of the language, bytes that are none, or a part of the text."""
@@ -78,7 +80,8 @@ class Editor:
         start, stop = self.moved(text, begin), self.moved(text, end)
         if (stop["line"], stop["character"]) < (start["line"], start["character"]):
             stop = start
-        return {"range": {"start": start, "end": stop}, "text": self.part(text)}
+        length = {"rangeLength": units(text[begin:end])} if self.random.random() < 0.2 else {}
+        return {"range": {"start": start, "end": stop}, **length, "text": self.part(text)}
 
     def changes(self, text):
         """The changes of one message, and the text after them."""
@@ -131,4 +134,8 @@ def faults_of_edits(client, folder, count, seed):
     yield from record.faults()
     client.close(URI)
     questions = (count + ASKED - 1) // ASKED
-    print(f"{count} messages with {parts} changes and {questions} questions (seed {seed}): {record.errors} errors published")
+    memory = client.most_memory()
+    if memory > MOST_MEMORY:
+        yield f"{memory:.0f} MB in memory"
+    seen = f"{count} messages with {parts} changes and {questions} questions (seed {seed})"
+    print(f"{seen}: {record.errors} errors published, {memory:.0f} MB in memory")

@@ -18,12 +18,12 @@ SCENARIOS = 120
 SCHEDULES = 60
 URI, RULES_URI = "file:///script", "file:///names.rules"
 QUESTIONS = 3
-HEAD = re.compile(r"^[^\n]+?:(\d+):(\d+): (error|warning)\[([\w-]+)\]: (.*)\n *\d+ \|[^\n]*\n *\| *(\^*) ?(.*)$", re.M)
+HEAD = re.compile(r"^[^\n]+?:(\d+):(\d+): (error|warning)\[([\w-]+)\]: (.*)\n *\d+ \|[^\n]*\n *\| *\^* ?(.*)$", re.M)
 WORDS = (
-    "at after tick fields telemetry command packet record file half wdt adt sample housekeeping start stop restart reload load validate activate "
-    "abort mode state filter ramp repeat expect no sequence event result active passive disabled off all age keep none pass fail stale error { } "
-    "from by until each to LC SCH COUNTER u8 u16be 0883 18A4 0 1 7 16 100 65536 99999999999 - # LOW HOT 0:LOW BUS VOLTS VOLTS=1 DEGREES=-5 "
-    "BUSS=1 slots 2 0x 0883X \u00e9 \U0001f600 \x01"
+    "at after tick fields telemetry command packet record file half wdt adt sample housekeeping start stop restart reload load validate "
+    "activate abort mode state filter ramp repeat expect no sequence event result active passive disabled off all age keep none pass fail "
+    "stale error { } from by until each to LC SCH COUNTER u8 u16be 0883 18A4 0 1 7 16 100 65536 99999999999 - # LOW HOT 0:LOW BUS VOLTS "
+    "VOLTS=1 DEGREES=-5 BUSS=1 slots 2 0x 0883X \u00e9 \U0001f600 \x01"
 ).split()
 SPECIALS = ["\r", "\t", "\r\n", "\n", " ", "\n\n", "  # \U0001f600 "]
 
@@ -60,10 +60,10 @@ def spoiled(chance, text):
 def of_listing(text, listing):
     """The messages of a printed page, as `of_server` gives them, but without related places."""
     found = []
-    for line, column, level, code, sentence, mark, label in HEAD.findall(listing):
-        begin = index_of_column(text, int(line), int(column))
-        place = place_of(text, begin)
-        found.append((LEVELS[level], int(code) if code.isdigit() else code, f"{sentence}: {label}" if label else sentence, (place["line"], place["character"])))
+    for line, column, level, code, sentence, label in HEAD.findall(listing):
+        place = place_of(text, index_of_column(text, int(line), int(column)))
+        said = f"{sentence}: {label}" if label else sentence
+        found.append((LEVELS[level], int(code) if code.isdigit() else code, said, (place["line"], place["character"])))
     return found
 
 
@@ -77,7 +77,7 @@ def say_of_scenario(program, folder, text, rules):
         with open(f"{folder}/{name}", "w", encoding="utf-8", newline="") as file:
             file.write(content)
     words = [program, "scenario", *(["--rules", "rules"] if rules else []), "text", "stream"]
-    ran = subprocess.run(words, cwd=folder, stdout=subprocess.DEVNULL, stderr=subprocess.PIPE, timeout=60, check=False)
+    ran = subprocess.run(words, cwd=folder, stdout=subprocess.DEVNULL, stderr=subprocess.PIPE, timeout=60)
     return of_listing(text, ran.stderr.decode())
 
 
@@ -86,7 +86,7 @@ def say_of_schedule(program, folder, text):
         with open(f"{folder}/{name}", "w", encoding="utf-8", newline="") as file:
             file.write(content)
     words = [program, "check", "--json", "--schedule", "text", "rules"]
-    ran = subprocess.run(words, cwd=folder, stdout=subprocess.PIPE, timeout=60, check=False)
+    ran = subprocess.run(words, cwd=folder, stdout=subprocess.PIPE, timeout=60)
     messages = [json.loads(line) for line in ran.stdout.splitlines()]
     return of_check(text, [it for it in messages if it["file"] == "text"])
 

@@ -3,7 +3,7 @@
 import json
 import subprocess
 
-from talk_rows import TALKS
+from talk_rows import HELLO, HOVER, READY, TAIL, TALKS, opened
 
 SECONDS = 20
 
@@ -39,7 +39,7 @@ def is_met(answers, found):
 
 def faults_of_talk(program, talk):
     try:
-        ran = subprocess.run([program, "lsp", "--stdio"], input=talk.sent, stdout=subprocess.PIPE, stderr=subprocess.PIPE, timeout=SECONDS, check=False)
+        ran = subprocess.run([program, "lsp", "--stdio"], input=talk.sent, capture_output=True, timeout=SECONDS)
     except subprocess.TimeoutExpired:
         yield f"{talk.title}: the server goes on for {SECONDS} seconds"
         return
@@ -52,7 +52,41 @@ def faults_of_talk(program, talk):
         yield f"{talk.title}: on standard error stands {ran.stderr[:200]!r}"
 
 
+def faults_of_pieces(program):
+    """Bytes that come one by one are answered as those that come at once."""
+    sent = HELLO + READY + opened("# \U0001f600") + HOVER + TAIL
+    whole = subprocess.run([program, "lsp"], input=sent, stdout=subprocess.PIPE, timeout=SECONDS)
+    with subprocess.Popen([program, "lsp"], stdin=subprocess.PIPE, stdout=subprocess.PIPE, bufsize=0) as server:
+        for at in range(len(sent)):
+            server.stdin.write(sent[at : at + 1])
+        server.stdin.close()
+        found = server.stdout.read()
+    if (found, server.returncode) != (whole.stdout, 0) or not found:
+        yield f"bytes one by one: {found!r} with status {server.returncode}, not {whole.stdout!r}"
+
+
+def faults_of_ends(program):
+    """A server whose reader has gone ends, and so does one whose output takes nothing."""
+    with subprocess.Popen([program, "lsp"], stdin=subprocess.PIPE, stdout=subprocess.PIPE, stderr=subprocess.PIPE) as server:
+        server.stdout.close()
+        server.stdin.write(HELLO)
+        server.stdin.flush()
+        try:
+            status = server.wait(SECONDS)
+        except subprocess.TimeoutExpired:
+            server.kill()
+            status = "no end"
+        if status or server.stderr.read():
+            yield f"a reader that has gone: status {status}"
+    with open("/dev/full", "wb") as full:
+        ran = subprocess.run([program, "lsp"], input=HELLO, stdout=full, stderr=subprocess.PIPE, timeout=SECONDS)
+    if (ran.returncode, ran.stderr) != (3, b"cannot use standard output: the device is full\n"):
+        yield f"a full device: status {ran.returncode}, {ran.stderr!r}"
+
+
 def faults_of_talks(program):
+    yield from faults_of_ends(program)
+    yield from faults_of_pieces(program)
     for talk in TALKS:
         yield from faults_of_talk(program, talk)
     print(f"{len(TALKS)} talks")
