@@ -145,7 +145,7 @@ fn word_start(text: &[u8], at: usize) -> usize {
     front.len().saturating_sub(size)
 }
 
-/// Choices at a place; each replaces the word that ends there.
+/// Choices at a place, to be shown in their order; each replaces the word that ends there.
 fn choice_objects(
     alloc: Global,
     text: &[u8],
@@ -154,14 +154,16 @@ fn choice_objects(
 ) -> Result<Value, AllocError> {
     let range = range_object(alloc, &mut Walk::new(text), word_start(text, at), at)?;
     let mut list = Vec::new(alloc);
-    for choice in choices {
+    for (number, choice) in choices.iter().enumerate() {
         let (label, detail) = (choice.text.as_str(), choice.detail.as_str());
         let kind = choice_kind(choice.class);
+        let order = format!(in alloc; "{number:05}")?;
         let range = range.clone()?;
         list.push(json!(in alloc; {
             "detail": detail,
             "kind": kind,
             "label": label,
+            "sortText": order,
             "textEdit": {"newText": label, "range": range}
         })?)?;
     }
