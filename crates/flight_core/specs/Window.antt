@@ -16,4 +16,4 @@ pub record IsWindow (last start size capacity : ℕ) : Type 0 where
   pub ordered : last ≤ start
   pub inside : start ≤ size
   pub few : size ≤ start + most_held
-  pub room : 147478 ≤ capacity
+  pub room : 90123 ≤ capacity

@@ -9,9 +9,9 @@ use std::marker::Model;
 /// The most bytes held: a longest record of 11 + 65,536 bytes, and a piece of 8,192.
 pub(crate) const MOST_HELD: usize = 73_739;
 
-/// The bytes of the buffer. Held bytes are moved to its front only where none are left at its end; then at least as many
+/// The bytes of the buffer. Held bytes are moved to its front only where none are left at its end; then more than 16,384 bytes
 /// went at the front since the last move, so that moving costs a constant time a byte.
-const ROOM: usize = 2 * MOST_HELD;
+const ROOM: usize = MOST_HELD + 16_384;
 
 /// What is held, and what went last. Contracts see both as lists.
 #[derive(Drop)]

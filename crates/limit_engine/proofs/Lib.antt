@@ -23,3 +23,4 @@ mod LaidSteps
 mod PlannedRules
 mod Evaluated
 mod FoundTruths
+mod WaitingOperations

@@ -1,5 +1,5 @@
 -- The slots of the pool (this project's own).
-use Rattle.std.specs.Prelude.{◌≡◌, ℕ, ◌+◌, ◌-◌, ◌≤◌, ◌==◌, nat_lt, Bool, ◌&&◌, if◌then◌else◌, List, [], length, replicate, count_by, slice_index_or}
+use Rattle.std.specs.Prelude.{◌≡◌, ℕ, ◌+◌, ◌-◌, ◌≤◌, ◌==◌, nat_lt, Bool, ◌&&◌, if◌then◌else◌, List, [], ◌++◌, length, replicate, count_by, slice_index_or}
 
 -- a slot: the packet that was put into it, and how many pipes wait for it
 pub record PooledPacket : Type 0 where
@@ -34,9 +34,14 @@ released slot = record { packet = slot.packet; readers = slot.readers - 1 }
 abbrev pub occurrences : ℕ → List ℕ → ℕ
 occurrences number numbers = count_by (λ other. other == number) numbers
 
--- the numbers of free slots are those of the slots that no pipe waits for, each once, and they have room for all
-pub record IsPool (slots : List PooledPacket) (free : List ℕ) (room : ℕ) : Type 0 where
-  pub size : length slots ≡ 576
+-- all slots by those that were ever used: the others follow, and nothing was put into them
+abbrev pub all_slots : List PooledPacket → List PooledPacket
+all_slots slots = slots ++ replicate (576 - length slots) no_packet
+
+-- the numbers of free slots are those of the slots that were used and that no pipe waits for, each once; both lists have room for all
+pub record IsPool (slots : List PooledPacket) (free : List ℕ) (slots_room free_room : ℕ) : Type 0 where
+  pub few : length slots ≤ 576
   pub free_once : (number : ℕ) → occurrences number free ≡ (if nat_lt number (length slots) && (slot_at slots number).readers == 0 then 1 else 0)
-  pub all : length free + used_slots slots ≡ 576
-  pub has_room : 576 ≤ room
+  pub all : length free + used_slots slots ≡ length slots
+  pub slots_fit : 576 ≤ slots_room
+  pub free_fits : 576 ≤ free_room

@@ -1,9 +1,9 @@
 //! The pool: each packet that waits, kept once (this project's own).
 
-ghost use Rattle.std.specs.Prelude.{◌≡◌, ◌<◌, ◌≤◌, ◌-◌, ◌+◌, ◌++◌, ◌==◌, length, take, drop, slice_set, replicate, IfOk, slice_index_or};
+ghost use Rattle.std.specs.Prelude.{◌≡◌, ◌<◌, ◌≤◌, ◌-◌, ◌+◌, ◌++◌, ◌==◌, [], ◌∷◌, length, take, drop, slice_set, replicate, IfOk, slice_index_or, vec_len, vec_capacity};
 ghost use Rattle.lc_model.specs.Packet.{longest_packet};
 ghost use Rattle.lc_model.specs.Services.Bus.{most_publications};
-ghost use Rattle.packet_bus.specs.Slots.{PooledPacket, no_packet, no_slots, slot_at, used_slots, released};
+ghost use Rattle.packet_bus.specs.Slots.{PooledPacket, all_slots, no_packet, no_slots, slot_at, used_slots, released, IsPool};
 
 use lc_model::packet::LONGEST_PACKET;
 use std::alloc::{AllocError, Global};
@@ -19,7 +19,7 @@ const SLOTS: usize = 576;
 #[derive(Drop)]
 struct PoolSlot {
     bytes: [u8; PACKET_SIZE],
-    size: usize,
+    size: u16,
     readers: u8,
 }
 
@@ -36,13 +36,14 @@ impl Model for PoolSlot {
 }
 
 impl PoolSlot {
-    fn new() -> PoolSlot
-        ensures { result ≡ no_packet }
+    /// A slot without a packet, for one that `readers` pipes will wait for.
+    fn new(readers: u8) -> PoolSlot
+        ensures { result ≡ record { packet = []; readers = readers } }
     {
         PoolSlot {
             bytes: [0; PACKET_SIZE],
             size: 0,
-            readers: 0,
+            readers,
         }
     }
 
@@ -58,7 +59,7 @@ impl PoolSlot {
         requires { length packet.now ≤ longest_packet }
         ensures { self.new ≡ record { packet = packet.now; readers = self.old.readers } }
     {
-        self.size = packet.len();
+        self.size = packet.len() as u16;
         self.bytes[..packet.len()].copy_from_slice(packet);
     }
 
@@ -67,7 +68,7 @@ impl PoolSlot {
         ensures size { result ≡ length self.now.packet }
         ensures buffer { buffer.new ≡ self.now.packet ++ drop (length self.now.packet) buffer.old }
     {
-        let size = self.size;
+        let size = self.size as usize;
         buffer[..size].copy_from_slice(&self.bytes[..size]);
         size
     }
@@ -84,7 +85,8 @@ impl PoolSlot {
     }
 }
 
-/// All slots, and the numbers of those that are free. Contracts see the slots, in order.
+/// The slots that were ever used, with room for all, and the numbers of those that are free again. Contracts see all slots, in
+/// order: memory that no packet was ever put into is reserved and not written.
 #[derive(Drop)]
 pub(crate) struct Pool {
     slots: Vec<PoolSlot>,
@@ -93,13 +95,51 @@ pub(crate) struct Pool {
 
 impl Model for Pool {
     ghost use Rattle.std.specs.Prelude.{List, vec_capacity};
-    ghost use Rattle.packet_bus.specs.Slots.{PooledPacket, IsPool};
+    ghost use Rattle.packet_bus.specs.Slots.{PooledPacket, IsPool, all_slots};
 
     ghost Value = { List PooledPacket };
 
-    ghost view = { λ p. p.slots.items };
+    ghost view = { λ p. all_slots p.slots.items };
 
-    ghost invariant = { λ p. IsPool p.slots.items p.free.items (vec_capacity p.free) };
+    ghost invariant = { λ p. IsPool p.slots.items p.free.items (vec_capacity p.slots)
+        (vec_capacity p.free) };
+}
+
+/// Appends a slot that was never used, for a packet that `readers` pipes will wait for, and returns its number.
+#[cold]
+#[inline(never)]
+fn add_slot(slots: &mut Vec<PoolSlot>, readers: u8) -> u16
+    requires few { length slots.old.items < most_publications }
+    requires room { vec_len slots.old < vec_capacity slots.old }
+    ensures number { result ≡ length slots.old.items }
+    ensures items { slots.new.items ≡
+        slots.old.items ++ record { packet = []; readers = readers } ∷ [] }
+    ensures room { vec_capacity slots.new ≡ vec_capacity slots.old }
+{
+    let number = slots.len() as u16;
+    slots.push_reserved(PoolSlot::new(readers));
+    number
+}
+
+/// Takes a slot that is free again, or else one that was never used.
+fn take_slot(slots: &mut Vec<PoolSlot>, free: &mut Vec<u16>, readers: u8) -> u16
+    requires pool { IsPool slots.old.items free.old.items (vec_capacity slots.old)
+        (vec_capacity free.old) }
+    requires room { used_slots slots.old.items < most_publications }
+    requires read { 0 < readers }
+    ensures pool { IsPool slots.new.items free.new.items (vec_capacity slots.new)
+        (vec_capacity free.new) }
+    ensures within { result < most_publications }
+    ensures free { (slot_at slots.old.items result).readers ≡ 0 }
+    ensures after { all_slots slots.new.items ≡
+        slice_set (all_slots slots.old.items) result
+        record { packet = (slot_at slots.old.items result).packet; readers = readers } }
+{
+    let Some(number) = free.pop() else {
+        return add_slot(slots, readers);
+    };
+    slots[number as usize].reserve(readers);
+    number
 }
 
 impl Pool {
@@ -107,20 +147,17 @@ impl Pool {
     pub fn new(alloc: Global) -> Result<Pool, AllocError>
         ensures { IfOk result (λ pool. pool ≡ no_slots) }
     {
-        let mut slots = Vec::with_capacity(alloc, SLOTS)?;
-        let mut free = Vec::with_capacity(alloc, SLOTS)?;
-        for number in 0..SLOTS as u16 {
-            slots.push_reserved(PoolSlot::new());
-            free.push_reserved(number);
-        }
-        Ok(Pool { slots, free })
+        Ok(Pool {
+            slots: Vec::with_capacity(alloc, SLOTS)?,
+            free: Vec::with_capacity(alloc, SLOTS)?,
+        })
     }
 
     /// How many slots are free.
     pub fn free(&self) -> usize
         ensures { result + used_slots self.now ≡ most_publications }
     {
-        self.free.len()
+        SLOTS - self.slots.len() + self.free.len()
     }
 
     /// Takes a free slot for a packet that `readers` pipes will wait for, and returns the slot's number.
@@ -133,14 +170,12 @@ impl Pool {
             slice_set self.old result
             record { packet = (slot_at self.old result).packet; readers = readers } }
     {
-        let number = self.free.pop().unwrap();
-        self.slots[number as usize].reserve(readers);
-        number
+        take_slot(&mut self.slots, &mut self.free, readers)
     }
 
     /// Puts the packet into a slot that was taken for it.
     pub fn put(&mut self, number: u16, packet: &[u8])
-        requires within { number < length self.old }
+        requires taken { 0 < (slot_at self.old number).readers }
         requires fits { length packet.now ≤ longest_packet }
         ensures { self.new ≡
             slice_set self.old number
