@@ -26,7 +26,7 @@ fn format_fault<'a>(alloc: Global, name: &'a str, error: FormatError) -> Fault<'
 }
 
 /// The text of a file with this name, formatted.
-fn formatted<'a>(alloc: Global, name: &'a str, text: &[u8]) -> Result<Vec<u8>, Fault<'a>> {
+fn layout_of<'a>(alloc: Global, name: &'a str, text: &[u8]) -> Result<Vec<u8>, Fault<'a>> {
     rule_layout::format(alloc, text).map_err(|error| format_fault(alloc, name, error))
 }
 
@@ -71,7 +71,7 @@ fn format_file<'a, R: Files + AllocGlobal, W: Write>(
     out: &mut W,
 ) -> Result<bool, Fault<'a>> {
     let old = read_text(rt, name)?;
-    let new = formatted(rt.alloc(), name, old.as_slice())?;
+    let new = layout_of(rt.alloc(), name, old.as_slice())?;
     if new.as_slice() == old.as_slice() {
         return Ok(false);
     }
@@ -91,7 +91,7 @@ fn format_input<I: Read + Drop, W: Write>(
     out: &mut W,
 ) -> Result<bool, Fault<'static>> {
     let old = read_input(alloc, input)?;
-    let new = formatted(alloc, STANDARD_INPUT, old.as_slice())?;
+    let new = layout_of(alloc, STANDARD_INPUT, old.as_slice())?;
     let is_other = new.as_slice() != old.as_slice();
     if !is_check {
         listing_result(out.write_all(new.as_slice()))?;

@@ -3,9 +3,9 @@
 ghost use Rattle.std.specs.Prelude.{◌≤◌, length};
 ghost use Rattle.lc_model.specs.Host.Stream.{header_size};
 
-use lc_model::Moment;
-use lc_model::packet::padded_message_id;
+use lc_model::packet::{COMMAND_HEADERS, padded_message_id};
 use lc_model::stream::{HEADER, moment_of};
+use lc_model::{Moment, mids, u16_at};
 use scenarios::{DeclaredItems, record_in_words};
 use std::alloc::{AllocError, Global};
 use stream_script::{Front, front_of, write_listing_from};
@@ -35,6 +35,18 @@ fn command_line(
     Ok(line)
 }
 
+/// The words of a record that brings a command which has words. Telemetry and records of other kinds have none.
+fn words_of(
+    alloc: Global,
+    record: &[u8],
+    declared: &DeclaredItems<'_>,
+) -> Result<Option<Vec<u8>>, AllocError> {
+    if record.len() < HEADER + COMMAND_HEADERS || mids::is_telemetry(u16_at(record, HEADER)) {
+        return Ok(None);
+    }
+    record_in_words(alloc, record, declared)
+}
+
 /// The line of a whole record with this number, and its line feed. A command that has words is listed in them, with the names that
 /// these declarations give; any other record as `write_listing_from` lists it.
 pub fn record_line(
@@ -43,7 +55,7 @@ pub fn record_line(
     record: &[u8],
     declared: &DeclaredItems<'_>,
 ) -> Result<Vec<u8>, AllocError> {
-    match record_in_words(alloc, record, declared)? {
+    match words_of(alloc, record, declared)? {
         Some(words) if record.len() >= HEADER => {
             command_line(alloc, number, record, words.as_slice())
         }

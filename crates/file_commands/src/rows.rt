@@ -10,14 +10,12 @@ use crate::record_line::record_line;
 use flight_tools_args::RowWords;
 use lc_model::packet::first_packet;
 use packet_listing::{NamedLine, TextRules};
-use packet_rows::{
-    Epoch, Form, PACKET_NAMES, RECORD_NAMES, RowError, write_names, write_packet, write_record,
-};
-use program_io::feed_of;
+use packet_rows::{Epoch, Form, RowError, RowWriter};
+use program_io::{Feed, feed_of};
 use scenarios::DeclaredItems;
 use std::alloc::Global;
 use std::fs::Files;
-use std::io::Write;
+use std::io::{Read, Write};
 use stream_script::{Front, front_of};
 use tool_faults::{Fault, epoch_of, listing_result, output_fault};
 
@@ -74,13 +72,11 @@ type Written = Result<(u64, usize), RowError>;
 
 /// Writes the rows of the whole packets at the front, after `before` earlier ones, with the names of these rules. Returns the number of
 /// the last one, and the bytes of all.
-fn write_packets<'x, W: Write>(
-    alloc: Global,
-    rows: &Rows,
+fn write_packets<'x>(
+    writer: &mut RowWriter,
     packets: &'x [u8],
     before: u64,
     texts: &'x [TextRules<'x>],
-    out: &mut W,
 ) -> Written {
     let mut number = before;
     let mut rest = packets;
@@ -89,12 +85,11 @@ fn write_packets<'x, W: Write>(
             break;
         };
         number = number.saturating_add(1);
-        let line = NamedLine {
+        writer.write_packet(NamedLine {
             number,
             packet,
             texts,
-        };
-        write_packet(alloc, rows.form, rows.epoch, line, out)?;
+        })?;
         rest = behind;
     }
     Ok((number, packets.len().saturating_sub(rest.len())))
@@ -102,13 +97,12 @@ fn write_packets<'x, W: Write>(
 
 /// Writes the rows of the whole records at the front, with commands in words, after `before` earlier ones. Returns the number of the last
 /// one, and the bytes of all.
-fn write_records<W: Write>(
+fn write_records(
     alloc: Global,
-    rows: &Rows,
+    writer: &mut RowWriter,
     records: &[u8],
     before: u64,
     declared: &DeclaredItems<'_>,
-    out: &mut W,
 ) -> Written {
     let mut number = before;
     let mut rest = records;
@@ -119,18 +113,33 @@ fn write_records<W: Write>(
         let (record, behind) = rest.split_at(size);
         number = number.saturating_add(1);
         let line = record_line(alloc, 1, record, declared)?;
-        write_record(
-            alloc,
-            rows.form,
-            rows.epoch,
-            number,
-            record,
-            line.as_slice(),
-            out,
-        )?;
+        writer.write_record(number, record, line.as_slice())?;
         rest = behind;
     }
     Ok((number, records.len().saturating_sub(rest.len())))
+}
+
+/// Writes one row for each packet that a feed brings. Errors as for `packets`.
+fn feed_packets<'a, F: Read + Drop, W: Write>(
+    feed: &mut Feed<'a, F>,
+    file: &'a str,
+    writer: &mut RowWriter,
+    texts: &[TextRules<'_>],
+    out: &mut W,
+) -> Result<(), Fault<'a>> {
+    let mut number = 0u64;
+    for _ in 0..u64::MAX {
+        let is_more = feed.read_on()?;
+        let (count, size) = row_result(write_packets(writer, feed.contents(), number, &*texts))?;
+        row_result(writer.write_to(out))?;
+        number = count;
+        feed.let_go(size);
+        if !is_more {
+            listing_result(out.flush())?;
+            return end_of_packets(file, number, feed.contents().len());
+        }
+    }
+    Ok(())
 }
 
 /// Writes one row for each packet of a file, piece by piece, with the names of these rules. Error: `Packets` with the place if bytes
@@ -143,23 +152,37 @@ pub fn packets<'a, R: Files + AllocGlobal, W: Write>(
     out: &mut W,
 ) -> Result<(), Fault<'a>> {
     let mut feed = feed_of(rt, file)?;
-    row_result(write_names(rt.alloc(), rows.form, &PACKET_NAMES, out))?;
+    let mut writer = RowWriter::new(rt.alloc(), rows.form, rows.epoch);
+    row_result(writer.write_packet_names())?;
+    feed_packets(&mut feed, file, &mut writer, texts, out)
+}
+
+/// Writes one row for each record that a feed brings. Errors as for `records`.
+fn feed_records<'a, F: Read + Drop, W: Write>(
+    alloc: Global,
+    feed: &mut Feed<'a, F>,
+    file: &'a str,
+    writer: &mut RowWriter,
+    declared: &DeclaredItems<'_>,
+    out: &mut W,
+) -> Result<(), Fault<'a>> {
     let mut number = 0u64;
     for _ in 0..u64::MAX {
         let is_more = feed.read_on()?;
-        let (count, size) = row_result(write_packets(
-            rt.alloc(),
-            rows,
+        let (count, size) = row_result(write_records(
+            alloc,
+            writer,
             feed.contents(),
             number,
-            &*texts,
-            out,
+            declared,
         ))?;
+        row_result(writer.write_to(out))?;
         number = count;
         feed.let_go(size);
-        if !is_more {
+        let front = front_of(feed.contents());
+        if !is_more || matches!(front, Front::NoRecord) {
             listing_result(out.flush())?;
-            return end_of_packets(file, number, feed.contents().len());
+            return end_of_stream(file, front, number.saturating_add(1));
         }
     }
     Ok(())
@@ -175,25 +198,7 @@ pub fn records<'a, R: Files + AllocGlobal, W: Write>(
     out: &mut W,
 ) -> Result<(), Fault<'a>> {
     let mut feed = feed_of(rt, file)?;
-    row_result(write_names(rt.alloc(), rows.form, &RECORD_NAMES, out))?;
-    let mut number = 0u64;
-    for _ in 0..u64::MAX {
-        let is_more = feed.read_on()?;
-        let (count, size) = row_result(write_records(
-            rt.alloc(),
-            rows,
-            feed.contents(),
-            number,
-            declared,
-            out,
-        ))?;
-        number = count;
-        feed.let_go(size);
-        let front = front_of(feed.contents());
-        if !is_more || matches!(front, Front::NoRecord) {
-            listing_result(out.flush())?;
-            return end_of_stream(file, front, number.saturating_add(1));
-        }
-    }
-    Ok(())
+    let mut writer = RowWriter::new(rt.alloc(), rows.form, rows.epoch);
+    row_result(writer.write_record_names())?;
+    feed_records(rt.alloc(), &mut feed, file, &mut writer, declared, out)
 }

@@ -57,13 +57,40 @@ impl Display for Time {
 #[derive(Clone, Copy)]
 pub struct TextField<'a>(pub &'a [u8]);
 
+/// Whether a byte is printable ASCII.
+fn is_printable(byte: u8) -> bool {
+    (b' '..=b'~').contains(&byte)
+}
+
+/// Whether all bytes are printable ASCII.
+fn are_printable(bytes: &[u8]) -> bool {
+    bytes
+        .iter()
+        .fold(true, |are, byte| are & is_printable(*byte))
+}
+
+/// The number of printable bytes in front.
+fn printable_size(bytes: &[u8]) -> usize
+    ensures { result ≤ length bytes.now }
+{
+    bytes.iter().take_while(|byte| is_printable(**byte)).count()
+}
+
 impl Display for TextField<'_> {
     fn fmt<W: Write>(&self, f: &mut Formatter<W>) -> fmt::Result {
-        for byte in self.0 {
-            match *byte {
-                0 => break,
-                0x20..=0x7E => f.write_char(char::from(*byte))?,
-                _ => f.write_char(UNPRINTABLE)?,
+        if are_printable(self.0) {
+            return f.write_str(str::from_utf8(self.0).unwrap_or(""));
+        }
+        let mut rest = self.0;
+        for _ in 0..self.0.len() {
+            let (run, behind) = rest.split_at(printable_size(rest));
+            f.write_str(str::from_utf8(run).unwrap_or(""))?;
+            match behind {
+                [byte, after @ ..] if *byte != 0 => {
+                    f.write_char(UNPRINTABLE)?;
+                    rest = after;
+                }
+                _ => return Ok(()),
             }
         }
         Ok(())

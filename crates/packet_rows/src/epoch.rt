@@ -1,6 +1,6 @@
 //! Times of a stream, in UTC.
 
-use crate::cell::Cell;
+use crate::cell::CellText;
 use jiff::Timestamp;
 use lc_model::{Moment, SUBSECONDS};
 use packet_listing::Time;
@@ -43,28 +43,53 @@ impl Epoch {
     }
 }
 
-/// The cell of a moment in seconds, with five decimal digits; `Empty` without a moment.
-pub fn time_cell(alloc: Global, moment: Option<Moment>) -> Result<Cell, AllocError> {
-    match moment {
-        Some(moment) => {
-            let time = Time::at(moment);
-            Ok(Cell::Text(format!(in alloc; "{time}")?))
-        }
-        None => Ok(Cell::Empty),
+/// An instant; it displays in UTC, with five decimal digits of the second, rounded down.
+#[derive(Clone, Copy)]
+struct Instant(Timestamp);
+
+impl Display for Instant {
+    fn fmt<W: Write>(&self, f: &mut Formatter<W>) -> fmt::Result {
+        write!(f, "{:.5}", self.0)
     }
 }
 
-/// The cell of a moment in UTC, with five decimal digits of the second; `Empty` without a moment or an epoch, and after the year 9999.
-pub fn utc_cell(
-    alloc: Global,
+/// The cells of a row's moment. They keep their memory from row to row.
+#[derive(Drop)]
+pub struct TimeTexts {
+    /// The instant of second 0, if the row has times in UTC.
     epoch: Option<Epoch>,
-    moment: Option<Moment>,
-) -> Result<Cell, AllocError> {
-    let (Some(epoch), Some(moment)) = (epoch, moment) else {
-        return Ok(Cell::Empty);
-    };
-    match epoch.at(moment) {
-        Some(instant) => Ok(Cell::Text(format!(in alloc; "{instant:.5}")?)),
-        None => Ok(Cell::Empty),
+    /// In seconds, with five decimal digits.
+    pub time: CellText,
+    /// In UTC, with five decimal digits of the second.
+    pub utc: CellText,
+}
+
+impl TimeTexts {
+    /// The cells of no moment.
+    pub fn new(alloc: Global, epoch: Option<Epoch>) -> TimeTexts {
+        TimeTexts {
+            epoch,
+            time: CellText::new(alloc),
+            utc: CellText::new(alloc),
+        }
+    }
+
+    /// The instant of a moment in UTC; `None` without an epoch, and after the year 9999.
+    fn instant(&self, moment: Moment) -> Option<Timestamp> {
+        self.epoch?.at(moment)
+    }
+
+    /// Takes a moment; without one both cells are empty. Out of memory is the only error.
+    pub fn show(&mut self, moment: Option<Moment>) -> Result<(), AllocError> {
+        self.time.hide();
+        self.utc.hide();
+        let Some(moment) = moment else {
+            return Ok(());
+        };
+        self.time.show(Time::at(moment))?;
+        match self.instant(moment) {
+            Some(instant) => self.utc.show(Instant(instant)),
+            None => Ok(()),
+        }
     }
 }

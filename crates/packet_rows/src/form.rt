@@ -4,10 +4,9 @@ ghost use Rattle.std.specs.Prelude.{◌≡◌, length};
 
 use crate::cell::Cell;
 use crate::error::RowError;
-use csv::WriterBuilder;
-use serde_json::{Value, put};
+use crate::objects::Objects;
+use crate::values::Values;
 use std::alloc::Global;
-use std::collections::BTreeMap;
 use std::io::Write;
 
 /// The format of rows.
@@ -19,95 +18,53 @@ pub enum Form {
     Json,
 }
 
-/// A cell as a field of comma-separated values.
-fn field_of(alloc: Global, cell: &Cell) -> Result<String, RowError> {
-    match cell {
-        Cell::Empty => Ok(String::new(alloc)),
-        Cell::Number(number) => Ok(format!(in alloc; "{number}")?),
-        Cell::Text(text) => Ok(String::from_str(alloc, text.as_str())?),
-    }
+/// Rows as text.
+#[derive(Drop)]
+pub enum RowText {
+    Csv(Values),
+    Json(Objects),
 }
 
-/// A cell as a member of an object.
-fn value_of(alloc: Global, cell: &Cell) -> Result<Value, RowError> {
-    match cell {
-        Cell::Empty => Ok(Value::Null),
-        Cell::Number(number) => Ok(Value::from(*number)),
-        Cell::Text(text) => Ok(Value::String(String::from_str(alloc, text.as_str())?)),
+impl RowText {
+    /// No rows of this form.
+    pub fn new(alloc: Global, form: Form) -> RowText {
+        match form {
+            Form::Csv => RowText::Csv(Values::new(alloc)),
+            Form::Json => RowText::Json(Objects::new(alloc)),
+        }
     }
-}
 
-/// Writes a line of fields.
-fn write_fields<W: Write>(alloc: Global, fields: &[&[u8]], out: &mut W) -> Result<(), RowError> {
-    let mut line = Vec::new(alloc);
-    let mut writer = WriterBuilder::new().from_writer(&mut line);
-    if writer.write_fields(fields).is_err() || writer.flush().is_err() {
-        return Err(RowError::Memory);
+    /// The form of the rows.
+    pub fn form(&self) -> Form {
+        match self {
+            RowText::Csv(_) => Form::Csv,
+            RowText::Json(_) => Form::Json,
+        }
     }
-    drop(writer);
-    out.write_all(line.as_slice())?;
-    Ok(())
-}
 
-/// Writes the line of the columns' names for CSV; writes nothing for JSON. Errors: `Memory`, or `Write` with the writer's error.
-pub fn write_names<W: Write>(
-    alloc: Global,
-    form: Form,
-    names: &[&str],
-    out: &mut W,
-) -> Result<(), RowError> {
-    if form == Form::Json {
-        return Ok(());
+    /// Appends the line of the columns' names for CSV; appends nothing for JSON. The only error is `Memory`.
+    pub fn write_names(&mut self, names: &[&str]) -> Result<(), RowError> {
+        match self {
+            RowText::Csv(values) => values.write_names(names),
+            RowText::Json(_) => Ok(()),
+        }
     }
-    let mut fields = Vec::new(alloc);
-    for name in names {
-        fields.push(name.as_bytes())?;
-    }
-    write_fields(alloc, fields.as_slice(), out)
-}
 
-/// Writes cells as a line of comma-separated values.
-fn write_csv<W: Write>(alloc: Global, cells: &[Cell], out: &mut W) -> Result<(), RowError> {
-    let mut texts = Vec::new(alloc);
-    for cell in cells {
-        texts.push(field_of(alloc, cell)?)?;
+    /// Appends a row, with a cell for each name; for JSON these are keys as `Objects` has them. The only error is `Memory`.
+    pub fn write_row(&mut self, names: &[&str], cells: &[Cell<'_>]) -> Result<(), RowError>
+        requires { length cells.now ≡ length names.now }
+    {
+        match self {
+            RowText::Csv(values) => values.write_row(cells),
+            RowText::Json(objects) => Ok(objects.write_row(names, cells)?),
+        }
     }
-    let mut fields = Vec::new(alloc);
-    for text in &texts {
-        fields.push(text.as_str().as_bytes())?;
-    }
-    write_fields(alloc, fields.as_slice(), out)
-}
 
-/// Writes cells as an object, each under its column's name.
-fn write_json<W: Write>(
-    alloc: Global,
-    names: &[&str],
-    cells: &[Cell],
-    out: &mut W,
-) -> Result<(), RowError> {
-    let mut members = BTreeMap::new(alloc);
-    for (name, cell) in names.iter().zip(cells) {
-        put(&mut members, alloc, name, value_of(alloc, cell)?)?;
-    }
-    let line = Value::Object(members).to_string(alloc)?;
-    out.write_all(line.as_bytes())?;
-    out.write_all(b"\n")?;
-    Ok(())
-}
-
-/// Writes a row, with a cell for each name. Errors: `Memory`, or `Write` with the writer's error.
-pub fn write_row<W: Write>(
-    alloc: Global,
-    form: Form,
-    names: &[&str],
-    cells: &[Cell],
-    out: &mut W,
-) -> Result<(), RowError>
-    requires { length cells.now ≡ length names.now }
-{
-    match form {
-        Form::Csv => write_csv(alloc, cells, out),
-        Form::Json => write_json(alloc, names, cells, out),
+    /// Writes the rows so far to `out`, and drops them. Errors: `Memory`, or `Write` with the writer's error.
+    pub fn write_to<W: Write>(&mut self, out: &mut W) -> Result<(), RowError> {
+        match self {
+            RowText::Csv(values) => values.write_to(out),
+            RowText::Json(objects) => objects.write_to(out),
+        }
     }
 }

@@ -6,11 +6,14 @@ mod cell;
 mod epoch;
 mod error;
 mod form;
+mod objects;
 mod packet;
+mod packet_cells;
 mod record;
+mod values;
+mod writer;
 
 pub use epoch::Epoch;
 pub use error::RowError;
-pub use form::{Form, write_names};
-pub use packet::{PACKET_NAMES, write_packet};
-pub use record::{RECORD_NAMES, write_record};
+pub use form::Form;
+pub use writer::RowWriter;

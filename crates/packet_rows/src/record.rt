@@ -1,16 +1,20 @@
 //! The records of a stream, as rows.
 
-use crate::cell::{Cell, word};
-use crate::epoch::{Epoch, time_cell, utc_cell};
-use crate::error::RowError;
-use crate::form::{Form, write_row};
-use lc_model::Moment;
-use lc_model::stream::{HEADER, moment_of};
-use std::alloc::Global;
-use std::io::Write;
+use crate::cell::Cell;
+use crate::epoch::TimeTexts;
 
 /// The columns of a record's row, in order (docs/TOOLS.md, this project's own).
 pub const RECORD_NAMES: [&str; 6] = ["number", "time", "utc", "kind", "says", "size"];
+
+/// The keys of the same in alphabetical order, as they stand before the values of an object.
+pub const RECORD_KEYS: [&str; 6] = [
+    "{\"kind\":",
+    ",\"number\":",
+    ",\"says\":",
+    ",\"size\":",
+    ",\"time\":",
+    ",\"utc\":",
+];
 
 /// The kind and the content in the line of a record, after its number and its moment.
 fn behind_moment(line: &str) -> Option<(&str, &str)> {
@@ -24,31 +28,58 @@ fn behind_moment(line: &str) -> Option<(&str, &str)> {
     }
 }
 
-/// Writes the row of a whole record with this number and this listing line. Its column `says` is the part of the line after the kind.
-/// Errors: `Memory`, or `Write` with the writer's error.
-pub fn write_record<W: Write>(
-    alloc: Global,
-    form: Form,
-    epoch: Option<Epoch>,
+/// The cells of a record's row.
+#[derive(Clone, Copy)]
+pub struct RecordCells<'c> {
+    number: Cell<'c>,
+    time: Cell<'c>,
+    utc: Cell<'c>,
+    kind: Cell<'c>,
+    says: Cell<'c>,
+    size: Cell<'c>,
+}
+
+impl<'c> RecordCells<'c> {
+    /// The cells in the order of `RECORD_NAMES`.
+    pub fn columns(&self) -> [Cell<'c>; 6] {
+        [
+            self.number,
+            self.time,
+            self.utc,
+            self.kind,
+            self.says,
+            self.size,
+        ]
+    }
+
+    /// The cells in the order of `RECORD_KEYS`.
+    pub fn members(&self) -> [Cell<'c>; 6] {
+        [
+            self.kind,
+            self.number,
+            self.says,
+            self.size,
+            self.time,
+            self.utc,
+        ]
+    }
+}
+
+/// The cells of a record of `size` bytes with this number and this listing line. Its column `says` is the part of the line after the kind.
+pub fn record_cells<'c>(
     number: u64,
-    record: &[u8],
-    line: &[u8],
-    out: &mut W,
-) -> Result<(), RowError> {
-    let moment: Option<Moment> = if record.len() < HEADER {
-        None
-    } else {
-        Some(moment_of(record))
-    };
+    size: usize,
+    line: &'c [u8],
+    times: &'c TimeTexts,
+) -> RecordCells<'c> {
     let text = str::from_utf8(line).unwrap_or("");
     let (kind, says) = behind_moment(text).unwrap_or(("", ""));
-    let cells = [
-        Cell::Number(number),
-        time_cell(alloc, moment)?,
-        utc_cell(alloc, epoch, moment)?,
-        word(alloc, kind)?,
-        word(alloc, says)?,
-        Cell::Number(record.len() as u64),
-    ];
-    write_row(alloc, form, &RECORD_NAMES, &cells, out)
+    RecordCells {
+        number: Cell::Number(number),
+        time: times.time.cell(),
+        utc: times.utc.cell(),
+        kind: Cell::Text(kind),
+        says: Cell::Text(says),
+        size: Cell::Number(size as u64),
+    }
 }
