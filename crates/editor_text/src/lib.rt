@@ -9,4 +9,4 @@ mod position;
 
 pub use change::{Replacement, replace, replacements_between};
 pub use outline::{Choice, ClassedWord, Fold, Hover, Symbol, WordClass};
-pub use position::{UnitPlace, Walk, offset_at, place_at};
+pub use position::{UnitPlace, Walk, offset_at};

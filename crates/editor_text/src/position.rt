@@ -71,14 +71,6 @@ fn is_after(a: UnitPlace, b: UnitPlace) -> bool
     a.line > b.line || a.line == b.line && a.unit > b.unit
 }
 
-/// The place of the byte that has `at` bytes before it; beyond the end, that of the end.
-pub fn place_at(text: &[u8], at: usize) -> UnitPlace
-    ensures { result ≡ place_of text.now (min at (length text.now)) }
-{
-    let mut walk = Walk::new(text);
-    walk.place_at(at)
-}
-
 /// The last byte whose place isn't after this one, or the text's end.
 fn reach(text: &[u8], place: UnitPlace) -> usize
     ensures reach { result ≡ reach text.now place 0 (length text.now) }
@@ -142,7 +134,7 @@ impl<'a> Walk<'a> {
         }
     }
 
-    /// The place of the byte that has `at` bytes before it, as `place_at` gives it. A place before the last one starts anew.
+    /// The place of the byte that has `at` bytes before it; beyond the end, that of the end. A place before the last one starts anew.
     #[tactic(auto, unfolding(crate::specs::Place::place_of))]
     pub fn place_at(&mut self, at: usize) -> UnitPlace
         ensures place { result ≡ place_of self.old (min at (length self.old)) }

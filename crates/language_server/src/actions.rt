@@ -1,13 +1,14 @@
 //! Quick fixes: the edits of messages.
 
-use crate::diagnostics_of::{diagnostic_of, marked_bytes};
+use crate::diagnostics_of::{marked_bytes, message_places, write_diagnostic};
 use crate::document::Document;
 use crate::failure::{Failure, NO_PARAMETERS};
 use crate::incoming::member_of;
-use crate::shapes::{edit_object, range_in, workspace_edit};
+use crate::json_text::JsonText;
+use crate::places::Places;
+use crate::shapes::{begin_changes, end_changes, range_in};
 use diagnostics::{Edit, Message, push_quoted};
-use editor_text::Walk;
-use serde_json::{Value, json};
+use serde_json::Value;
 use std::alloc::{AllocError, Global};
 
 /// The kind of all fixes.
@@ -39,29 +40,35 @@ fn title_of(alloc: Global, text: &[u8], edit: &Edit) -> Result<String, AllocErro
     Ok(title)
 }
 
-/// The fix that makes an edit for a message about a document's text.
-fn fix_object(
+/// Writes the fix that makes an edit for a message about a document's text. `places` has the places of both.
+fn write_fix(
     alloc: Global,
+    json: &mut JsonText,
+    places: &Places,
     document: &Document,
     message: &Message,
     edit: &Edit,
-) -> Result<Value, AllocError> {
+) -> Result<(), AllocError> {
     let text = document.text.as_slice();
     let uri = document.uri.as_str();
-    let mut walk = Walk::new(text);
     let title = title_of(alloc, text, edit)?;
-    let mut edits = Vec::new(alloc);
-    edits.push(edit_object(alloc, &mut walk, edit.from, edit.to, edit.text.as_str())?)?;
-    let change = workspace_edit(alloc, uri, edits)?;
-    let mut fixed = Vec::new(alloc);
-    fixed.push(diagnostic_of(alloc, &mut walk, uri, text, message)?)?;
-    json!(in alloc; {
-        "diagnostics": fixed,
-        "edit": change,
-        "isPreferred": true,
-        "kind": QUICK_FIX,
-        "title": title
-    })
+    json.begin_object();
+    json.name("diagnostics");
+    json.begin_array();
+    write_diagnostic(alloc, json, places, uri, text, message)?;
+    json.end_array();
+    json.name("edit");
+    begin_changes(json, uri);
+    json.begin_object();
+    json.string_member("newText", edit.text.as_str());
+    places.write_range(json, edit.from, edit.to);
+    json.end_object();
+    end_changes(json);
+    json.flag_member("isPreferred", true);
+    json.string_member("kind", QUICK_FIX);
+    json.string_member("title", title.as_str());
+    json.end_object();
+    Ok(())
 }
 
 /// Whether a message's first mark touches a range.
@@ -83,20 +90,38 @@ fn asks_for_fixes(params: &Value) -> bool {
     }
 }
 
-/// The fixes of the messages that a range of a document's text touches.
-pub fn fixes_for(alloc: Global, document: &Document, params: &Value) -> Result<Value, Failure> {
+/// Writes the fixes of the messages that a range of a document's text touches.
+fn write_touched_fixes(
+    alloc: Global,
+    json: &mut JsonText,
+    document: &Document,
+    range: (usize, usize),
+) -> Result<(), AllocError> {
     let text = document.text.as_slice();
-    let range = params.get("range").ok_or(NO_PARAMETERS)?;
-    let range = range_in(text, range).ok_or(NO_PARAMETERS)?;
-    let mut fixes = Vec::new(alloc);
-    if asks_for_fixes(params) {
-        for message in &document.messages {
-            if let Some(edit) = &message.edit {
-                if touches(text, message, range) {
-                    fixes.push(fix_object(alloc, document, message, edit)?)?;
-                }
+    let places = message_places(alloc, text, document.messages.as_slice())?;
+    for message in &document.messages {
+        if let Some(edit) = &message.edit {
+            if touches(text, message, range) {
+                write_fix(alloc, json, &places, document, message, edit)?;
             }
         }
     }
-    Ok(Value::Array(fixes))
+    Ok(())
+}
+
+/// Writes the fixes of the messages that the range of these parameters touches.
+pub fn write_fixes(
+    alloc: Global,
+    json: &mut JsonText,
+    document: &Document,
+    params: &Value,
+) -> Result<(), Failure> {
+    let range = params.get("range").ok_or(NO_PARAMETERS)?;
+    let range = range_in(document.text.as_slice(), range).ok_or(NO_PARAMETERS)?;
+    json.begin_array();
+    if asks_for_fixes(params) {
+        write_touched_fixes(alloc, json, document, range)?;
+    }
+    json.end_array();
+    Ok(())
 }

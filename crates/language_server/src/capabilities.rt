@@ -1,51 +1,99 @@
 //! What the server can do (Language Server Protocol 3.17, "ServerCapabilities").
 
+use crate::json_text::JsonText;
 use crate::tokens::TOKEN_TYPES;
 use lc_model::VERSION;
-use serde_json::{Value, json};
-use std::alloc::{AllocError, Global};
 
 /// Changes come as ranges (`TextDocumentSyncKind.Incremental`).
-const BY_RANGES: u8 = 2;
+const BY_RANGES: i64 = 2;
 
-/// The types and modifiers of semantic tokens.
-fn legend(alloc: Global) -> Result<Value, AllocError> {
-    let mut types = Vec::new(alloc);
-    for name in &TOKEN_TYPES {
-        types.push(json!(in alloc; *name)?)?;
+/// The requests that the server answers, without options.
+const PROVIDERS: [&str; 7] = [
+    "definitionProvider",
+    "documentFormattingProvider",
+    "documentRangeFormattingProvider",
+    "documentSymbolProvider",
+    "foldingRangeProvider",
+    "hoverProvider",
+    "referencesProvider",
+];
+
+/// Writes the member of this name: a list of words.
+fn write_words(json: &mut JsonText, name: &str, words: &[&str]) {
+    json.name(name);
+    json.begin_array();
+    for word in words {
+        json.string(word);
     }
-    json!(in alloc; {"tokenModifiers": ["declaration"], "tokenTypes": types})
+    json.end_array();
 }
 
-/// What can be asked of documents.
-fn capabilities(alloc: Global) -> Result<Value, AllocError> {
-    let legend = legend(alloc)?;
-    json!(in alloc; {
-        "codeActionProvider": {"codeActionKinds": ["quickfix"]},
-        "completionProvider": {"resolveProvider": false, "triggerCharacters": [" ", "="]},
-        "definitionProvider": true,
-        "documentFormattingProvider": true,
-        "documentRangeFormattingProvider": true,
-        "documentSymbolProvider": true,
-        "foldingRangeProvider": true,
-        "hoverProvider": true,
-        "positionEncoding": "utf-16",
-        "referencesProvider": true,
-        "renameProvider": {"prepareProvider": true},
-        "semanticTokensProvider": {"full": true, "legend": legend, "range": true},
-        "textDocumentSync": {
-            "change": BY_RANGES,
-            "openClose": true,
-            "save": {"includeText": false}
-        }
-    })
+/// Writes what the server offers for completion, quick fixes and new names.
+fn write_options(json: &mut JsonText) {
+    json.name("codeActionProvider");
+    json.begin_object();
+    write_words(json, "codeActionKinds", &["quickfix"]);
+    json.end_object();
+    json.name("completionProvider");
+    json.begin_object();
+    json.flag_member("resolveProvider", false);
+    write_words(json, "triggerCharacters", &[" ", "="]);
+    json.end_object();
+    json.name("renameProvider");
+    json.begin_object();
+    json.flag_member("prepareProvider", true);
+    json.end_object();
 }
 
-/// The result of the request `initialize`.
-pub fn initialized(alloc: Global) -> Result<Value, AllocError> {
-    let capabilities = capabilities(alloc)?;
-    json!(in alloc; {
-        "capabilities": capabilities,
-        "serverInfo": {"name": "flight_tools", "version": VERSION}
-    })
+/// Writes the types and modifiers of semantic tokens, and that they can be asked for.
+fn write_token_options(json: &mut JsonText) {
+    json.name("semanticTokensProvider");
+    json.begin_object();
+    json.flag_member("full", true);
+    json.name("legend");
+    json.begin_object();
+    write_words(json, "tokenModifiers", &["declaration"]);
+    write_words(json, "tokenTypes", &TOKEN_TYPES);
+    json.end_object();
+    json.flag_member("range", true);
+    json.end_object();
+}
+
+/// Writes how documents are to be sent.
+fn write_sync_options(json: &mut JsonText) {
+    json.name("textDocumentSync");
+    json.begin_object();
+    json.number_member("change", BY_RANGES);
+    json.flag_member("openClose", true);
+    json.name("save");
+    json.begin_object();
+    json.flag_member("includeText", false);
+    json.end_object();
+    json.end_object();
+}
+
+/// Writes what can be asked of documents.
+fn write_capabilities(json: &mut JsonText) {
+    json.begin_object();
+    for name in &PROVIDERS {
+        json.flag_member(name, true);
+    }
+    write_options(json);
+    json.string_member("positionEncoding", "utf-16");
+    write_token_options(json);
+    write_sync_options(json);
+    json.end_object();
+}
+
+/// Writes the result of the request `initialize`.
+pub fn write_initialize_result(json: &mut JsonText) {
+    json.begin_object();
+    json.name("capabilities");
+    write_capabilities(json);
+    json.name("serverInfo");
+    json.begin_object();
+    json.string_member("name", "flight_tools");
+    json.string_member("version", VERSION);
+    json.end_object();
+    json.end_object();
 }

@@ -6,11 +6,15 @@ ghost use Rattle.rule_layout.specs.Formatting.{IsFormatted};
 
 use crate::document::{Document, Language};
 use crate::failure::{ErrorKind, Failure};
-use crate::shapes::{edit_object, range_in};
+use crate::json_text::JsonText;
+use crate::shapes::{range_in, write_edit};
 use editor_text::{Replacement, Walk, replacements_between};
 use rule_layout::{FormatError, format};
 use serde_json::Value;
 use std::alloc::Global;
+
+/// The failure of a change whose text is not UTF-8.
+const NO_TEXT: Failure = Failure::Told(ErrorKind::Refused, "the text is not UTF-8");
 
 /// The changes that give a rule text the one layout.
 fn layout_changes(alloc: Global, text: &[u8]) -> Result<Vec<Replacement>, FormatError>
@@ -35,37 +39,40 @@ fn format_failure(error: FormatError) -> Failure {
     }
 }
 
-/// The change as text edit. Its text is UTF-8, as the document is.
-fn change_object(
-    alloc: Global,
+/// Writes the change as text edit. Its text is UTF-8, as the document is.
+fn write_change(
+    json: &mut JsonText,
     walk: &mut Walk<'_>,
     change: &Replacement,
-) -> Result<Value, Failure> {
-    match std::str::from_utf8(change.text.as_slice()) {
-        Ok(text) => Ok(edit_object(alloc, walk, change.from, change.to, text)?),
-        Err(_) => Err(Failure::Told(ErrorKind::Refused, "the text is not UTF-8")),
-    }
+) -> Result<(), Failure> {
+    let text = std::str::from_utf8(change.text.as_slice()).map_err(|_| NO_TEXT)?;
+    write_edit(json, walk, change.from, change.to, text);
+    Ok(())
 }
 
-/// The changes that give a rule text the one layout: all, or those within a range. Null for other documents.
-pub fn format_edits(
+/// Writes the changes that give a rule text the one layout: all, or those within a range. Null for other documents.
+pub fn write_format(
     alloc: Global,
+    json: &mut JsonText,
     document: &Document,
     range: Option<&Value>,
-) -> Result<Value, Failure> {
+) -> Result<(), Failure> {
     if document.language != Language::Rules {
-        return Ok(Value::Null);
+        json.null();
+        return Ok(());
     }
     let text = document.text.as_slice();
     let (from, to) = range
         .and_then(|range| range_in(text, range))
         .unwrap_or((0, text.len()));
+    let changes = layout_changes(alloc, text).map_err(format_failure)?;
     let mut walk = Walk::new(text);
-    let mut edits = Vec::new(alloc);
-    for change in &layout_changes(alloc, text).map_err(format_failure)? {
+    json.begin_array();
+    for change in &changes {
         if from <= change.from && change.to <= to {
-            edits.push(change_object(alloc, &mut walk, change)?)?;
+            write_change(json, &mut walk, change)?;
         }
     }
-    Ok(Value::Array(edits))
+    json.end_array();
+    Ok(())
 }

@@ -24,7 +24,7 @@ pub enum Incoming {
 }
 
 /// The member of an object, taken out of it; null if there is none.
-pub fn taken(value: &mut Value, name: &str) -> Value {
+pub fn take_member(value: &mut Value, name: &str) -> Value {
     match value.get_mut(name) {
         Some(member) => member.take(),
         None => Value::Null,
@@ -43,8 +43,8 @@ pub fn incoming_of(alloc: Global, mut value: Value) -> Result<Incoming, AllocErr
         None if value.get("id").is_some() => return Ok(Incoming::Response),
         _ => return Ok(Incoming::NoMessage),
     };
-    let params = taken(&mut value, "params");
-    let id = taken(&mut value, "id");
+    let params = take_member(&mut value, "params");
+    let id = take_member(&mut value, "id");
     if is_id(&id) {
         Ok(Incoming::Request { id, method, params })
     } else if id.is_null() {

@@ -30,7 +30,7 @@ impl Judgement {
 }
 
 /// The warnings of a rule text that compiles; none if it doesn't.
-fn warned(alloc: Global, text: &[u8]) -> Result<Judgement, AllocError> {
+fn judge_warnings(alloc: Global, text: &[u8]) -> Result<Judgement, AllocError> {
     match RuleText::read_valid(alloc, text) {
         Ok(text) => {
             let all = warnings(alloc, &text, None)?;
@@ -49,7 +49,7 @@ fn warned(alloc: Global, text: &[u8]) -> Result<Judgement, AllocError> {
 fn judge_rules(alloc: Global, text: &[u8], has_warnings: bool) -> Result<Judgement, AllocError> {
     let refusals = messages(alloc, text)?;
     if has_warnings && refusals.is_empty() {
-        warned(alloc, text)
+        judge_warnings(alloc, text)
     } else {
         Ok(Judgement::of(refusals))
     }

@@ -2,17 +2,18 @@
 
 use crate::document::{Document, Language};
 use crate::failure::{Failure, NO_PARAMETERS};
+use crate::json_text::JsonText;
 use crate::judging::open_texts;
 use crate::names::Names;
 use crate::naming::{hover_in_scenario, position_in};
 use crate::places::Places;
-use crate::shapes::{range_in, range_object};
-use crate::tokens::{choice_kind, symbol_kind, token_object};
-use editor_text::{Choice, ClassedWord, Fold, Hover, Symbol, Walk};
+use crate::shapes::{range_in, write_byte_range, write_range_member};
+use crate::tokens::{choice_kind, symbol_kind, write_tokens};
+use editor_text::{Choice, ClassedWord, Fold, Hover, Symbol, UnitPlace, Walk};
 use rule_errors::mend;
 use rule_outline::Outline;
 use script_outline::{ScriptKind, ScriptOutline};
-use serde_json::{Value, json};
+use serde_json::Value;
 use std::alloc::{AllocError, Global};
 
 /// A question about a document's outline.
@@ -96,37 +97,48 @@ fn symbol_places(alloc: Global, text: &[u8], symbols: &[Symbol]) -> Result<Place
     Places::of(alloc, text, ends)
 }
 
-/// Symbols, in the order of the text.
-fn symbol_objects(alloc: Global, text: &[u8], symbols: &[Symbol]) -> Result<Value, AllocError> {
-    let places = symbol_places(alloc, text, symbols)?;
-    let mut list = Vec::new(alloc);
-    for symbol in symbols {
-        let range = places.range_object(alloc, symbol.from, symbol.to)?;
-        let selection = places.range_object(alloc, symbol.name_from, symbol.name_to)?;
-        let kind = symbol_kind(symbol.class);
-        let (name, detail) = (symbol.name.as_str(), symbol.detail.as_str());
-        list.push(json!(in alloc; {
-            "detail": detail,
-            "kind": kind,
-            "name": name,
-            "range": range,
-            "selectionRange": selection
-        })?)?;
-    }
-    Ok(Value::Array(list))
+/// Writes a symbol.
+fn write_symbol(json: &mut JsonText, places: &Places, symbol: &Symbol) {
+    json.begin_object();
+    json.string_member("detail", symbol.detail.as_str());
+    json.number_member("kind", symbol_kind(symbol.class));
+    json.string_member("name", symbol.name.as_str());
+    places.write_range(json, symbol.from, symbol.to);
+    places.write_named_range(json, "selectionRange", symbol.name_from, symbol.name_to);
+    json.end_object();
 }
 
-/// Folds, in the order of the text.
-fn fold_objects(alloc: Global, text: &[u8], folds: &[Fold]) -> Result<Value, AllocError> {
+/// Writes symbols, in the order of the text.
+fn write_symbols(
+    alloc: Global,
+    json: &mut JsonText,
+    text: &[u8],
+    symbols: &[Symbol],
+) -> Result<(), AllocError> {
+    let places = symbol_places(alloc, text, symbols)?;
+    json.begin_array();
+    for symbol in symbols {
+        write_symbol(json, &places, symbol);
+    }
+    json.end_array();
+    Ok(())
+}
+
+/// Writes folds, in the order of the text.
+fn write_folds(json: &mut JsonText, text: &[u8], folds: &[Fold]) {
     let mut walk = Walk::new(text);
-    let mut list = Vec::new(alloc);
+    json.begin_array();
     for fold in folds {
         let start = walk.place_at(fold.from).line;
         let end = walk.place_at(fold.to).line;
         let kind = if fold.is_comment { "comment" } else { "region" };
-        list.push(json!(in alloc; {"endLine": end, "kind": kind, "startLine": start})?)?;
+        json.begin_object();
+        json.number_member("endLine", i64::from(end));
+        json.string_member("kind", kind);
+        json.number_member("startLine", i64::from(start));
+        json.end_object();
     }
-    Ok(Value::Array(list))
+    json.end_array();
 }
 
 /// Whether a byte can be one of a word that is being written.
@@ -145,148 +157,237 @@ fn word_start(text: &[u8], at: usize) -> usize {
     front.len().saturating_sub(size)
 }
 
-/// Choices at a place, to be shown in their order; each replaces the word that ends there.
-fn choice_objects(
+/// The range of the word that ends at a place of a text.
+fn word_range(text: &[u8], at: usize) -> (UnitPlace, UnitPlace) {
+    let mut walk = Walk::new(text);
+    let start = walk.place_at(word_start(text, at));
+    (start, walk.place_at(at))
+}
+
+/// Writes a choice with this number, which replaces a range.
+fn write_choice(
     alloc: Global,
+    json: &mut JsonText,
+    number: usize,
+    choice: &Choice,
+    range: (UnitPlace, UnitPlace),
+) -> Result<(), AllocError> {
+    let order = format!(in alloc; "{number:05}")?;
+    json.begin_object();
+    json.string_member("detail", choice.detail.as_str());
+    json.number_member("kind", choice_kind(choice.class));
+    json.string_member("label", choice.text.as_str());
+    json.string_member("sortText", order.as_str());
+    json.name("textEdit");
+    json.begin_object();
+    json.string_member("newText", choice.text.as_str());
+    write_range_member(json, range.0, range.1);
+    json.end_object();
+    json.end_object();
+    Ok(())
+}
+
+/// Writes choices at a place, to be shown in their order; each replaces the word that ends there.
+fn write_choices(
+    alloc: Global,
+    json: &mut JsonText,
     text: &[u8],
     at: usize,
     choices: &[Choice],
-) -> Result<Value, AllocError> {
-    let range = range_object(alloc, &mut Walk::new(text), word_start(text, at), at)?;
-    let mut list = Vec::new(alloc);
+) -> Result<(), AllocError> {
+    let range = word_range(text, at);
+    json.begin_object();
+    json.flag_member("isIncomplete", false);
+    json.name("items");
+    json.begin_array();
     for (number, choice) in choices.iter().enumerate() {
-        let (label, detail) = (choice.text.as_str(), choice.detail.as_str());
-        let kind = choice_kind(choice.class);
-        let order = format!(in alloc; "{number:05}")?;
-        let range = range.clone()?;
-        list.push(json!(in alloc; {
-            "detail": detail,
-            "kind": kind,
-            "label": label,
-            "sortText": order,
-            "textEdit": {"newText": label, "range": range}
-        })?)?;
+        write_choice(alloc, json, number, choice, range)?;
     }
-    json!(in alloc; {"isIncomplete": false, "items": list})
+    json.end_array();
+    json.end_object();
+    Ok(())
 }
 
-/// What is said of a word, or null.
-fn hover_object(alloc: Global, text: &[u8], hover: Option<Hover>) -> Result<Value, AllocError> {
+/// Writes a hover's text.
+fn write_contents(json: &mut JsonText, text: &str) {
+    json.name("contents");
+    json.begin_object();
+    json.string_member("kind", "markdown");
+    json.string_member("value", text);
+    json.end_object();
+}
+
+/// Writes what is said of a word, or null.
+fn write_hover(json: &mut JsonText, text: &[u8], hover: &Option<Hover>) {
     match hover {
         Some(hover) => {
-            let range = range_object(alloc, &mut Walk::new(text), hover.from, hover.to)?;
-            json!(in alloc; {
-                "contents": {"kind": "markdown", "value": hover.text},
-                "range": range
-            })
+            json.begin_object();
+            write_contents(json, hover.text.as_str());
+            write_byte_range(json, &mut Walk::new(text), hover.from, hover.to);
+            json.end_object();
         }
-        None => Ok(Value::Null),
+        None => json.null(),
     }
 }
 
-/// What an outline answers to a question about its text.
+/// Writes the choices that an outline has at the place of these parameters.
+fn answer_choices<O: TextOutline>(
+    alloc: Global,
+    json: &mut JsonText,
+    document: &Document,
+    outline: &O,
+    params: &Value,
+) -> Result<(), Failure> {
+    let at = position_in(document, params)?;
+    let choices = outline.choices(alloc, at)?;
+    write_choices(
+        alloc,
+        json,
+        document.text.as_slice(),
+        at,
+        choices.as_slice(),
+    )?;
+    Ok(())
+}
+
+/// Writes what an outline says of the word at the place of these parameters.
+fn answer_hover<O: TextOutline>(
+    alloc: Global,
+    json: &mut JsonText,
+    document: &Document,
+    outline: &O,
+    params: &Value,
+) -> Result<(), Failure> {
+    let at = position_in(document, params)?;
+    let hover = outline.hover(alloc, at)?;
+    write_hover(json, document.text.as_slice(), &hover);
+    Ok(())
+}
+
+/// Writes the symbols of an outline.
+fn answer_symbols<O: TextOutline>(
+    alloc: Global,
+    json: &mut JsonText,
+    text: &[u8],
+    outline: &O,
+) -> Result<(), AllocError> {
+    let symbols = outline.symbols(alloc)?;
+    write_symbols(alloc, json, text, symbols.as_slice())
+}
+
+/// Writes what an outline answers to a question about its text.
 fn answer_by<O: TextOutline>(
     alloc: Global,
+    json: &mut JsonText,
     document: &Document,
     outline: &O,
     question: Question<'_>,
-) -> Result<Value, Failure> {
+) -> Result<(), Failure> {
     let text = document.text.as_slice();
     match question {
-        Question::Symbols => {
-            let symbols = outline.symbols(alloc)?;
-            Ok(symbol_objects(alloc, text, symbols.as_slice())?)
-        }
-        Question::Folds => {
-            let folds = outline.folds(alloc)?;
-            Ok(fold_objects(alloc, text, folds.as_slice())?)
-        }
+        Question::Symbols => answer_symbols(alloc, json, text, outline)?,
+        Question::Folds => write_folds(json, text, outline.folds(alloc)?.as_slice()),
         Question::Tokens(from, to) => {
-            let words = outline.words(alloc)?;
-            Ok(token_object(alloc, text, words.as_slice(), (from, to))?)
+            write_tokens(json, text, outline.words(alloc)?.as_slice(), (from, to));
         }
-        Question::Choices(params) => {
-            let at = position_in(document, params)?;
-            let choices = outline.choices(alloc, at)?;
-            Ok(choice_objects(alloc, text, at, choices.as_slice())?)
-        }
-        Question::Hover(params) => {
-            let at = position_in(document, params)?;
-            let hover = outline.hover(alloc, at)?;
-            Ok(hover_object(alloc, text, hover)?)
-        }
+        Question::Choices(params) => answer_choices(alloc, json, document, outline, params)?,
+        Question::Hover(params) => answer_hover(alloc, json, document, outline, params)?,
     }
+    Ok(())
 }
 
-/// What the outline of a script answers.
+/// Writes what the outline of a script answers.
 fn answer_script(
     alloc: Global,
+    json: &mut JsonText,
     kind: ScriptKind,
     document: &Document,
     documents: &[Document],
     question: Question<'_>,
-) -> Result<Value, Failure> {
+) -> Result<(), Failure> {
     let texts = open_texts(alloc, documents)?;
     let names = Names::of(alloc, texts.as_slice())?;
     let outline = names.outline(kind, document.text.as_slice());
-    answer_by(alloc, document, &outline, question)
+    answer_by(alloc, json, document, &outline, question)
 }
 
-/// What is said of a name of a rule text in a scenario; null if no such name stands at the place of these parameters.
-fn name_hover(
+/// Writes what is said of a name of a rule text in a scenario. Returns whether such a name stands at the place of these parameters.
+fn write_name_hover(
     alloc: Global,
+    json: &mut JsonText,
     document: &Document,
     documents: &[Document],
     params: &Value,
-) -> Result<Value, Failure> {
+) -> Result<bool, Failure> {
     let at = position_in(document, params)?;
     match hover_in_scenario(alloc, document, documents, at)? {
-        Some(text) => Ok(json!(in alloc; {"contents": {"kind": "markdown", "value": text}})?),
-        None => Ok(Value::Null),
+        Some(text) => {
+            json.begin_object();
+            write_contents(json, text.as_str());
+            json.end_object();
+            Ok(true)
+        }
+        None => Ok(false),
     }
 }
 
-/// What a scenario's outline answers; to a hover first what is said of a name.
+/// Writes what a scenario's outline answers; to a hover first what is said of a name.
 fn answer_scenario(
     alloc: Global,
+    json: &mut JsonText,
     document: &Document,
     documents: &[Document],
     question: Question<'_>,
-) -> Result<Value, Failure> {
+) -> Result<(), Failure> {
     if let Question::Hover(params) = question {
-        let said = name_hover(alloc, document, documents, params)?;
-        if !said.is_null() {
-            return Ok(said);
+        if write_name_hover(alloc, json, document, documents, params)? {
+            return Ok(());
         }
     }
-    answer_script(alloc, ScriptKind::Scenario, document, documents, question)
+    answer_script(
+        alloc,
+        json,
+        ScriptKind::Scenario,
+        document,
+        documents,
+        question,
+    )
 }
 
-/// What the outline of a rule text answers.
+/// Writes what the outline of a rule text answers.
 fn answer_rules(
     alloc: Global,
+    json: &mut JsonText,
     document: &Document,
     question: Question<'_>,
-) -> Result<Value, Failure> {
+) -> Result<(), Failure> {
     let text = document.text.as_slice();
     let mended = mend(alloc, text)?;
     let outline = Outline::new(alloc, text, &mended)?;
-    answer_by(alloc, document, &outline, question)
+    answer_by(alloc, json, document, &outline, question)
 }
 
-/// What the outline of a document answers to a question.
-pub fn answer(
+/// Writes what the outline of a document answers to a question.
+pub fn write_answer(
     alloc: Global,
+    json: &mut JsonText,
     document: &Document,
     documents: &[Document],
     question: Question<'_>,
-) -> Result<Value, Failure> {
+) -> Result<(), Failure> {
     match document.language {
-        Language::Rules => answer_rules(alloc, document, question),
+        Language::Rules => answer_rules(alloc, json, document, question),
         Language::Schedule => {
-            answer_script(alloc, ScriptKind::Schedule, document, documents, question)
+            answer_script(
+                alloc,
+                json,
+                ScriptKind::Schedule,
+                document,
+                documents,
+                question,
+            )
         }
-        Language::Scenario => answer_scenario(alloc, document, documents, question),
+        Language::Scenario => answer_scenario(alloc, json, document, documents, question),
     }
 }
 

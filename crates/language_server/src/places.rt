@@ -1,8 +1,8 @@
 //! Places of a text in any order.
 
-use crate::shapes::place_object;
+use crate::json_text::JsonText;
+use crate::shapes::write_range;
 use editor_text::{UnitPlace, Walk};
-use serde_json::{Value, json};
 use std::alloc::{AllocError, Global};
 
 /// The places of some bytes of a text.
@@ -35,10 +35,14 @@ impl Places {
             .unwrap_or(UnitPlace { line: 0, unit: 0 })
     }
 
-    /// The range from one of the bytes up to another.
-    pub fn range_object(&self, alloc: Global, from: usize, to: usize) -> Result<Value, AllocError> {
-        let start = place_object(alloc, self.place_at(from))?;
-        let end = place_object(alloc, self.place_at(to))?;
-        json!(in alloc; {"end": end, "start": start})
+    /// Writes the member of this name: the range from one of the bytes up to another.
+    pub fn write_named_range(&self, json: &mut JsonText, name: &str, from: usize, to: usize) {
+        json.name(name);
+        write_range(json, self.place_at(from), self.place_at(to));
+    }
+
+    /// Writes the member `range`: from one of the bytes up to another.
+    pub fn write_range(&self, json: &mut JsonText, from: usize, to: usize) {
+        self.write_named_range(json, "range", from, to);
     }
 }

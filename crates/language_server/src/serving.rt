@@ -30,7 +30,7 @@ fn handle_frame<W: Write>(
         Frame::Junk(size) => size,
         Frame::TooLong(size) => {
             let sentence = "a message has over 67,108,864 bytes";
-            outbox.refuse(Value::Null, ErrorKind::NoJson, sentence)?;
+            outbox.refuse(&Value::Null, ErrorKind::NoJson, sentence)?;
             size
         }
         Frame::Whole { from, to } => {

@@ -1,18 +1,19 @@
 //! A session with a client: from its first message to `exit`.
 
-use crate::actions::fixes_for;
-use crate::capabilities::initialized;
-use crate::diagnostics_of::diagnostics_of;
+ghost use Rattle.std.specs.Prelude.{OnOk};
+ghost use Rattle.language_server.specs.Framing.{HasOneMore};
+
+use crate::capabilities::write_initialize_result;
+use crate::diagnostics_of::write_diagnostics;
 use crate::document::{Document, Documents, Language};
 use crate::failure::{ErrorKind, Failure, NO_PARAMETERS};
-use crate::formatting::format_edits;
 use crate::incoming::{Incoming, incoming_of, uri_in};
-use crate::judging::judge;
-use crate::naming::{definition, prepare_rename, references, rename};
-use crate::outlines::{Question, answer, tokens_in};
+use crate::json_text::JsonText;
+use crate::judging::{Judgement, judge};
+use crate::methods::{NO_METHOD, method_of, write_method};
 use crate::replies::Outbox;
-use crate::syncing::{change, opened};
-use serde_json::{Value, json};
+use crate::syncing::{change, document_in};
+use serde_json::Value;
 use std::alloc::{AllocError, Global};
 
 /// How far a session is.
@@ -62,18 +63,18 @@ impl Session {
     /// Handles the body of a message; what is to be sent goes to `out`.
     pub fn handle(&mut self, body: &[u8], out: &mut Outbox) -> Result<(), AllocError> {
         let Some(value) = read_value(self.alloc, body)? else {
-            return out.refuse(Value::Null, ErrorKind::NoJson, "the message is not JSON");
+            return out.refuse(&Value::Null, ErrorKind::NoJson, "the message is not JSON");
         };
         match incoming_of(self.alloc, value)? {
             Incoming::Request { id, method, params } => {
-                self.respond(id, method.as_str(), &params, out)
+                self.respond(&id, method.as_str(), &params, out)
             }
             Incoming::Notification { method, params } => {
                 self.take_note(method.as_str(), &params, out)
             }
             Incoming::Response => Ok(()),
             Incoming::NoMessage => out.refuse(
-                Value::Null,
+                &Value::Null,
                 ErrorKind::NoMessage,
                 "it is neither a request nor a notification",
             ),
@@ -83,24 +84,33 @@ impl Session {
     /// Sends the one response to a request.
     fn respond(
         &mut self,
-        id: Value,
+        id: &Value,
         method: &str,
         params: &Value,
         out: &mut Outbox,
-    ) -> Result<(), AllocError> {
-        match self.result_of(method, params) {
-            Ok(result) => out.respond(id, result),
+    ) -> Result<(), AllocError>
+        ensures { OnOk result (HasOneMore out.old.bytes.items out.new.bytes.items) }
+    {
+        let mut result = JsonText::new(self.alloc);
+        match self.write_result(method, params, &mut result) {
+            Ok(()) => out.respond(id, result),
             Err(Failure::Told(kind, sentence)) => out.refuse(id, kind, sentence),
             Err(Failure::Memory) => Err(AllocError),
         }
     }
 
-    /// The result of a request, by how far the session is.
-    fn result_of(&mut self, method: &str, params: &Value) -> Result<Value, Failure> {
+    /// Writes the result of a request, by how far the session is.
+    fn write_result(
+        &mut self,
+        method: &str,
+        params: &Value,
+        json: &mut JsonText,
+    ) -> Result<(), Failure> {
         match (self.phase, method) {
             (Phase::New, "initialize") => {
                 self.phase = Phase::Open;
-                Ok(initialized(self.alloc)?)
+                write_initialize_result(json);
+                Ok(())
             }
             (Phase::New, _) => Err(Failure::Told(
                 ErrorKind::NotInitialized,
@@ -113,21 +123,32 @@ impl Session {
             (Phase::Open, "shutdown") => {
                 self.phase = Phase::Closed;
                 self.is_shut = true;
-                Ok(Value::Null)
+                json.null();
+                Ok(())
             }
-            (Phase::Open, _) => self.document_result(method, params),
+            (Phase::Open, _) => self.write_document_result(method, params, json),
             _ => Err(Failure::Told(ErrorKind::NoMessage, "the server is shut down")),
         }
     }
 
-    /// The result of a request about a document.
-    fn document_result(&self, method: &str, params: &Value) -> Result<Value, Failure> {
-        let Some(method) = method_of(method) else {
-            return Err(Failure::Told(ErrorKind::NoMethod, "the server has no such method"));
-        };
+    /// Writes the result of a request about a document.
+    fn write_document_result(
+        &self,
+        method: &str,
+        params: &Value,
+        json: &mut JsonText,
+    ) -> Result<(), Failure> {
+        let method = method_of(method).ok_or(NO_METHOD)?;
         let uri = uri_in(params).ok_or(NO_PARAMETERS)?;
         let document = self.documents.find(uri).ok_or(NOT_OPEN)?;
-        answer_method(self.alloc, method, document, self.documents.all(), params)
+        write_method(
+            self.alloc,
+            json,
+            method,
+            document,
+            self.documents.all(),
+            params,
+        )
     }
 
     /// Handles a notification.
@@ -152,7 +173,7 @@ impl Session {
 
     /// A document was opened.
     fn open(&mut self, params: &Value, out: &mut Outbox) -> Result<(), AllocError> {
-        match opened(self.alloc, params)? {
+        match document_in(self.alloc, params)? {
             Some(document) => {
                 let language = document.language;
                 let number = self.documents.open(document)?;
@@ -199,8 +220,10 @@ impl Session {
             None => return Ok(()),
         };
         let _was_open = self.documents.close(uri);
-        let none = Value::Array(Vec::new(self.alloc));
-        self.send_diagnostics(uri, None, none, out)?;
+        let mut none = begin_diagnostics(self.alloc);
+        none.begin_array();
+        none.end_array();
+        send_diagnostics(none, uri, None, out)?;
         self.judge_scenarios(language, out)
     }
 
@@ -216,9 +239,7 @@ impl Session {
             return Ok(());
         };
         let judgement = judge(self.alloc, document, all, has_warnings)?;
-        let (uri, text) = (document.uri.as_str(), document.text.as_slice());
-        let list = diagnostics_of(self.alloc, uri, text, &judgement)?;
-        self.send_diagnostics(uri, document.version, list, out)?;
+        publish_judgement(self.alloc, document, &judgement, out)?;
         if let Some(document) = self.documents.get_mut(number) {
             document.messages = judgement.messages;
         }
@@ -245,26 +266,42 @@ impl Session {
             None => false,
         }
     }
+}
 
-    /// Sends the diagnostics of a document.
-    fn send_diagnostics(
-        &self,
-        uri: &str,
-        version: Option<i64>,
-        list: Value,
-        out: &mut Outbox,
-    ) -> Result<(), AllocError> {
-        let alloc = self.alloc;
-        let params = match version {
-            Some(version) => json!(in alloc; {
-                "diagnostics": list,
-                "uri": uri,
-                "version": version
-            })?,
-            None => json!(in alloc; {"diagnostics": list, "uri": uri})?,
-        };
-        out.notify("textDocument/publishDiagnostics", params)
+/// Begins the diagnostics of a document: their list follows.
+fn begin_diagnostics(alloc: Global) -> JsonText {
+    let mut params = JsonText::new(alloc);
+    params.begin_object();
+    params.name("diagnostics");
+    params
+}
+
+/// Sends the diagnostics of the document with this URI, whose text has this number.
+fn send_diagnostics(
+    mut params: JsonText,
+    uri: &str,
+    version: Option<i64>,
+    out: &mut Outbox,
+) -> Result<(), AllocError> {
+    params.string_member("uri", uri);
+    if let Some(version) = version {
+        params.number_member("version", version);
     }
+    params.end_object();
+    out.notify("textDocument/publishDiagnostics", params)
+}
+
+/// Publishes what is reported of a document.
+fn publish_judgement(
+    alloc: Global,
+    document: &Document,
+    judgement: &Judgement,
+    out: &mut Outbox,
+) -> Result<(), AllocError> {
+    let (uri, text) = (document.uri.as_str(), document.text.as_slice());
+    let mut params = begin_diagnostics(alloc);
+    write_diagnostics(alloc, &mut params, uri, text, judgement)?;
+    send_diagnostics(params, uri, document.version, out)
 }
 
 /// The failure of a request about a document that is not open.
@@ -279,72 +316,5 @@ fn read_value(alloc: Global, body: &[u8]) -> Result<Option<Value>, AllocError> {
         Ok(value) => Ok(Some(value)),
         Err(error) if error.is_memory() => Err(AllocError),
         Err(_) => Ok(None),
-    }
-}
-
-/// A request about a document.
-#[derive(Clone, Copy)]
-enum Method {
-    Actions,
-    Choices,
-    Definition,
-    Folds,
-    Formatting,
-    Hover,
-    PrepareRename,
-    RangeFormatting,
-    References,
-    Rename,
-    Symbols,
-    Tokens,
-    TokensInRange,
-}
-
-/// The request of this name.
-fn method_of(name: &str) -> Option<Method> {
-    match name {
-        "textDocument/codeAction" => Some(Method::Actions),
-        "textDocument/completion" => Some(Method::Choices),
-        "textDocument/definition" => Some(Method::Definition),
-        "textDocument/foldingRange" => Some(Method::Folds),
-        "textDocument/formatting" => Some(Method::Formatting),
-        "textDocument/hover" => Some(Method::Hover),
-        "textDocument/prepareRename" => Some(Method::PrepareRename),
-        "textDocument/rangeFormatting" => Some(Method::RangeFormatting),
-        "textDocument/references" => Some(Method::References),
-        "textDocument/rename" => Some(Method::Rename),
-        "textDocument/documentSymbol" => Some(Method::Symbols),
-        "textDocument/semanticTokens/full" => Some(Method::Tokens),
-        "textDocument/semanticTokens/range" => Some(Method::TokensInRange),
-        _ => None,
-    }
-}
-
-/// The result of a request about a document among all documents.
-fn answer_method(
-    alloc: Global,
-    method: Method,
-    document: &Document,
-    all: &[Document],
-    params: &Value,
-) -> Result<Value, Failure> {
-    let size = document.text.len();
-    match method {
-        Method::Actions => fixes_for(alloc, document, params),
-        Method::Choices => answer(alloc, document, all, Question::Choices(params)),
-        Method::Definition => definition(alloc, document, all, params),
-        Method::Folds => answer(alloc, document, all, Question::Folds),
-        Method::Formatting => format_edits(alloc, document, None),
-        Method::Hover => answer(alloc, document, all, Question::Hover(params)),
-        Method::PrepareRename => prepare_rename(alloc, document, params),
-        Method::RangeFormatting => {
-            let range = params.get("range").ok_or(NO_PARAMETERS)?;
-            format_edits(alloc, document, Some(range))
-        }
-        Method::References => references(alloc, document, params),
-        Method::Rename => rename(alloc, document, params),
-        Method::Symbols => answer(alloc, document, all, Question::Symbols),
-        Method::Tokens => answer(alloc, document, all, Question::Tokens(0, size)),
-        Method::TokensInRange => { answer(alloc, document, all, tokens_in(document, params)?) }
     }
 }

@@ -1,44 +1,61 @@
 //! Places and ranges of texts as JSON.
 
+use crate::json_text::JsonText;
 use editor_text::{UnitPlace, Walk, offset_at};
-use serde_json::{Map, Value, json, put};
-use std::alloc::{AllocError, Global};
+use serde_json::Value;
 
-/// A place.
-pub fn place_object(alloc: Global, place: UnitPlace) -> Result<Value, AllocError> {
-    json!(in alloc; {"character": place.unit, "line": place.line})
+/// Writes the member of this name: a place.
+fn write_place(json: &mut JsonText, name: &str, place: UnitPlace) {
+    json.name(name);
+    json.begin_object();
+    json.number_member("character", i64::from(place.unit));
+    json.number_member("line", i64::from(place.line));
+    json.end_object();
 }
 
-/// The range from one byte up to another. Ranges in the order of the text cost one walk through it.
-pub fn range_object(
-    alloc: Global,
-    walk: &mut Walk<'_>,
-    from: usize,
-    to: usize,
-) -> Result<Value, AllocError> {
-    let start = place_object(alloc, walk.place_at(from))?;
-    let end = place_object(alloc, walk.place_at(to))?;
-    json!(in alloc; {"end": end, "start": start})
+/// Writes the member `range`: from one place up to another.
+pub fn write_range_member(json: &mut JsonText, start: UnitPlace, end: UnitPlace) {
+    json.name("range");
+    write_range(json, start, end);
 }
 
-/// A change of a range.
-pub fn edit_object(
-    alloc: Global,
-    walk: &mut Walk<'_>,
-    from: usize,
-    to: usize,
-    text: &str,
-) -> Result<Value, AllocError> {
-    let range = range_object(alloc, walk, from, to)?;
-    json!(in alloc; {"newText": text, "range": range})
+/// Writes the range from one place up to another.
+pub fn write_range(json: &mut JsonText, start: UnitPlace, end: UnitPlace) {
+    json.begin_object();
+    write_place(json, "end", end);
+    write_place(json, "start", start);
+    json.end_object();
 }
 
-/// The changes of the document with this URI.
-pub fn workspace_edit(alloc: Global, uri: &str, edits: Vec<Value>) -> Result<Value, AllocError> {
-    let mut changes = Map::new(alloc);
-    put(&mut changes, alloc, uri, Value::Array(edits))?;
-    let changes = Value::Object(changes);
-    json!(in alloc; {"changes": changes})
+/// Writes the member `range`: from one byte up to another. Ranges in the order of the text cost one walk through it.
+pub fn write_byte_range(json: &mut JsonText, walk: &mut Walk<'_>, from: usize, to: usize) {
+    let start = walk.place_at(from);
+    let end = walk.place_at(to);
+    write_range_member(json, start, end);
+}
+
+/// Writes a change of a range.
+pub fn write_edit(json: &mut JsonText, walk: &mut Walk<'_>, from: usize, to: usize, text: &str) {
+    json.begin_object();
+    json.string_member("newText", text);
+    write_byte_range(json, walk, from, to);
+    json.end_object();
+}
+
+/// Begins the changes of the document with this URI: its edits follow.
+pub fn begin_changes(json: &mut JsonText, uri: &str) {
+    json.begin_object();
+    json.name("changes");
+    json.begin_object();
+    json.name(uri);
+    json.begin_array();
+}
+
+/// Ends the changes of a document.
+pub fn end_changes(json: &mut JsonText) {
+    json.end_array();
+    json.end_object();
+    json.end_object();
 }
 
 /// A number of a place, at most 2^32 - 1.

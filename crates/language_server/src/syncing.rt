@@ -1,14 +1,14 @@
 //! Notifications about documents: opened, changed, saved, closed.
 
 use crate::document::{Document, language_of};
-use crate::incoming::{member_of, uri_in};
+use crate::incoming::member_of;
 use crate::shapes::range_in;
 use editor_text::replace;
 use serde_json::Value;
 use std::alloc::{AllocError, Global};
 
 /// The document that a notification opens; `None` if it lacks URI or text.
-pub fn opened(alloc: Global, params: &Value) -> Result<Option<Document>, AllocError> {
+pub fn document_in(alloc: Global, params: &Value) -> Result<Option<Document>, AllocError> {
     let Some(item) = params.get("textDocument") else {
         return Ok(None);
     };
@@ -29,7 +29,7 @@ pub fn opened(alloc: Global, params: &Value) -> Result<Option<Document>, AllocEr
 }
 
 /// The text after a change: of a range, or of all if the change names no range. A change without a text changes nothing.
-fn changed(alloc: Global, text: &[u8], change: &Value) -> Result<Vec<u8>, AllocError> {
+fn text_after(alloc: Global, text: &[u8], change: &Value) -> Result<Vec<u8>, AllocError> {
     let Some(new) = change.get("text").and_then(Value::as_str) else {
         return Vec::from_slice(alloc, text);
     };
@@ -46,17 +46,9 @@ fn changed(alloc: Global, text: &[u8], change: &Value) -> Result<Vec<u8>, AllocE
 pub fn change(alloc: Global, document: &mut Document, params: &Value) -> Result<(), AllocError> {
     if let Some(changes) = params.get("contentChanges").and_then(Value::as_array) {
         for change in changes {
-            document.text = changed(alloc, document.text.as_slice(), change)?;
+            document.text = text_after(alloc, document.text.as_slice(), change)?;
         }
     }
     document.version = member_of(params, "textDocument", "version").and_then(Value::as_i64);
     Ok(())
-}
-
-/// The document that a notification names, as a text of its own.
-pub fn named(alloc: Global, params: &Value) -> Result<Option<String>, AllocError> {
-    match uri_in(params) {
-        Some(uri) => Ok(Some(String::from_str(alloc, uri)?)),
-        None => Ok(None),
-    }
 }

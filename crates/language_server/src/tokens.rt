@@ -1,8 +1,7 @@
 //! Semantic tokens, symbols' and choices' kinds: the classes of words as the protocol numbers them.
 
-use editor_text::{ClassedWord, Walk, WordClass};
-use serde_json::{Value, json};
-use std::alloc::{AllocError, Global};
+use crate::json_text::JsonText;
+use editor_text::{ClassedWord, UnitPlace, Walk, WordClass};
 
 /// The types of semantic tokens, by their numbers.
 pub const TOKEN_TYPES: [&str; 10] = [
@@ -19,10 +18,10 @@ pub const TOKEN_TYPES: [&str; 10] = [
 ];
 
 /// The bit of the modifier `declaration`.
-const DECLARATION: u8 = 1;
+const DECLARATION: u32 = 1;
 
 /// The number of a class among the types of semantic tokens.
-fn token_type(class: WordClass) -> u8 {
+fn token_type(class: WordClass) -> u32 {
     match class {
         WordClass::Keyword => 0,
         WordClass::Operator => 1,
@@ -38,7 +37,7 @@ fn token_type(class: WordClass) -> u8 {
 }
 
 /// The number of a class among the kinds of symbols (`SymbolKind`).
-pub fn symbol_kind(class: WordClass) -> u8 {
+pub fn symbol_kind(class: WordClass) -> i64 {
     match class {
         WordClass::Packet => 5,
         WordClass::Field => 7,
@@ -52,7 +51,7 @@ pub fn symbol_kind(class: WordClass) -> u8 {
 }
 
 /// The number of a class among the kinds of choices (`CompletionItemKind`).
-pub fn choice_kind(class: WordClass) -> u8 {
+pub fn choice_kind(class: WordClass) -> i64 {
     match class {
         WordClass::Packet => 7,
         WordClass::Field => 10,
@@ -65,46 +64,46 @@ pub fn choice_kind(class: WordClass) -> u8 {
     }
 }
 
-/// A word as five numbers: lines after the word before, units after it or on the line, units, type, modifiers.
-fn push_word(
-    alloc: Global,
+/// Writes a word as five numbers: lines after the word before, units after it or on the line, units, type, modifiers. Returns where it stands.
+fn write_word(
+    json: &mut JsonText,
     walk: &mut Walk<'_>,
-    before: (u32, u32),
+    before: UnitPlace,
     word: ClassedWord,
-    data: &mut Vec<Value>,
-) -> Result<(u32, u32), AllocError> {
+) -> UnitPlace {
     let start = walk.place_at(word.at);
     let end = walk.place_at(word.at.saturating_add(word.size));
-    let lines = start.line.saturating_sub(before.0);
+    let lines = start.line.saturating_sub(before.line);
     let units = if lines == 0 {
-        start.unit.saturating_sub(before.1)
+        start.unit.saturating_sub(before.unit)
     } else {
         start.unit
     };
-    let size = end.unit.saturating_sub(start.unit);
-    let modifiers = if word.is_declaration { DECLARATION } else { 0 };
-    data.push(json!(in alloc; lines)?)?;
-    data.push(json!(in alloc; units)?)?;
-    data.push(json!(in alloc; size)?)?;
-    data.push(json!(in alloc; token_type(word.class))?)?;
-    data.push(json!(in alloc; modifiers)?)?;
-    Ok((start.line, start.unit))
+    json.number(lines);
+    json.number(units);
+    json.number(end.unit.saturating_sub(start.unit));
+    json.number(token_type(word.class));
+    json.number(if word.is_declaration { DECLARATION } else { 0 });
+    start
 }
 
-/// The words of a range as semantic tokens.
-pub fn token_object(
-    alloc: Global,
+/// Writes the words of a range as semantic tokens.
+pub fn write_tokens(
+    json: &mut JsonText,
     text: &[u8],
     words: &[ClassedWord],
     range: (usize, usize),
-) -> Result<Value, AllocError> {
+) {
     let mut walk = Walk::new(text);
-    let mut data = Vec::new(alloc);
-    let mut before = (0, 0);
+    let mut before = UnitPlace { line: 0, unit: 0 };
+    json.begin_object();
+    json.name("data");
+    json.begin_array();
     for word in words {
         if word.at < range.1 && range.0 < word.at.saturating_add(word.size) {
-            before = push_word(alloc, &mut walk, before, *word, &mut data)?;
+            before = write_word(json, &mut walk, before, *word);
         }
     }
-    json!(in alloc; {"data": data})
+    json.end_array();
+    json.end_object();
 }

@@ -150,8 +150,8 @@ impl<'a> Source<'a> {
     /// The number of the token at this place of the text, or the number of tokens if there is none.
     pub fn number_at(&self, at: usize) -> usize {
         self.tokens
-            .iter()
-            .position(|token| token.at == at)
+            .as_slice()
+            .binary_search_by_key(&at, |token| token.at)
             .unwrap_or(self.tokens.len())
     }
 
