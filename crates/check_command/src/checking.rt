@@ -37,30 +37,6 @@ fn write_counts<'a, W: Write>(
     listing_result(writeln!(out, "{name}: {rules}, {told}{shown}"))
 }
 
-/// The parts of a text's rules that were not looked at to the end; `None` if there are none.
-fn unsettled_words(alloc: Global, told: &Warnings) -> Result<Option<String>, AllocError> {
-    let pairs = Many(told.unsettled_pairs, "pair");
-    let comparisons = Many(told.unsettled_comparisons, "comparison");
-    match (told.unsettled_pairs, told.unsettled_comparisons) {
-        (0, 0) => Ok(None),
-        (_, 0) => Ok(Some(format!(in alloc; "{pairs} of rules")?)),
-        (0, _) => Ok(Some(format!(in alloc; "{comparisons}")?)),
-        _ => Ok(Some(format!(in alloc; "{pairs} of rules and {comparisons}")?)),
-    }
-}
-
-/// The line about what was not looked at to the end; `None` if there is nothing.
-pub fn undecided_line(alloc: Global, told: &Warnings) -> Result<Option<String>, AllocError> {
-    let Some(parts) = unsettled_words(alloc, told)? else {
-        return Ok(None);
-    };
-    let count = told
-        .unsettled_pairs
-        .saturating_add(told.unsettled_comparisons);
-    let verb = if count == 1 { "was" } else { "were" };
-    Ok(Some(format!(in alloc; "{parts} {verb} not looked at to the end")?))
-}
-
 /// Writes what was not looked at to the end, if there is any.
 fn write_unsettled<'a, W: Write>(
     alloc: Global,
@@ -69,7 +45,7 @@ fn write_unsettled<'a, W: Write>(
     is_json: bool,
     out: &mut W,
 ) -> Result<(), Fault<'a>> {
-    match undecided_line(alloc, told)? {
+    match told.undecided_line(alloc)? {
         Some(line) => write_line(alloc, name, line.as_bytes(), is_json, out),
         None => Ok(()),
     }

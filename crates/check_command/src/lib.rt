@@ -8,7 +8,7 @@ mod outcomes;
 mod refused;
 mod totals;
 
-pub use crate::checking::{check, undecided_line};
+pub use crate::checking::check;
 pub use crate::explaining::explain;
 pub use crate::refused::told;
 pub use crate::totals::CheckOptions;

@@ -1,12 +1,11 @@
 //! What `check` and `scenario` report of a document's text.
 
 use crate::document::{Document, Language};
-use check_command::undecided_line;
 use diagnostics::Message;
 use rpn_compiler::{CompileError, RuleText};
 use rule_errors::messages;
 use rule_lints::warnings;
-use run_commands::scenario_refusal;
+use scenario_errors::scenario_refusal;
 use script_errors::{Refusal, read_schedule, script_warnings};
 use std::alloc::{AllocError, Global};
 
@@ -34,7 +33,7 @@ fn judge_warnings(alloc: Global, text: &[u8]) -> Result<Judgement, AllocError> {
     match RuleText::read_valid(alloc, text) {
         Ok(text) => {
             let all = warnings(alloc, &text, None)?;
-            let note = undecided_line(alloc, &all)?;
+            let note = all.undecided_line(alloc)?;
             Ok(Judgement {
                 messages: all.messages,
                 note,

@@ -17,11 +17,12 @@ mod names;
 mod naming;
 mod outlines;
 mod places;
+mod receiving;
 mod replies;
-mod serving;
 mod session;
 mod shapes;
 mod syncing;
 mod tokens;
 
-pub use serving::serve;
+pub use receiving::Received;
+pub use session::Session;

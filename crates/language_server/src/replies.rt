@@ -50,8 +50,8 @@ impl Outbox {
     }
 
     /// The messages, each with its header.
-    pub fn bytes(&self) -> &[u8] {
-        self.bytes.as_slice()
+    pub fn into_bytes(self) -> Vec<u8> {
+        self.bytes
     }
 
     /// Adds a message with this body.

@@ -50,6 +50,11 @@ impl Session {
         }
     }
 
+    /// Where its memory comes from.
+    pub(crate) fn alloc(&self) -> Global {
+        self.alloc
+    }
+
     /// Whether the client has ended it.
     pub fn is_ended(&self) -> bool {
         self.phase == Phase::Ended
@@ -61,7 +66,7 @@ impl Session {
     }
 
     /// Handles the body of a message; what is to be sent goes to `out`.
-    pub fn handle(&mut self, body: &[u8], out: &mut Outbox) -> Result<(), AllocError> {
+    pub(crate) fn handle(&mut self, body: &[u8], out: &mut Outbox) -> Result<(), AllocError> {
         let Some(value) = read_value(self.alloc, body)? else {
             return out.refuse(&Value::Null, ErrorKind::NoJson, "the message is not JSON");
         };

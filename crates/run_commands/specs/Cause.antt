@@ -27,9 +27,8 @@ use Rattle.scenario_trial.specs.declared.expectation_lines.ReadError.{ReadError}
 use Rattle.scenario_trial.specs.declared.expectation_lines.ReadError.TheVariants as reading
 use Rattle.scenarios.specs.declared.error.ScenarioError.{ScenarioError}
 use Rattle.scenarios.specs.declared.error.ScenarioError.TheVariants as scenario
-use Rattle.stream_script.specs.declared.error.ScriptError.TheVariants as script
-use Rattle.run_commands.specs.declared.line_error.LineError.{LineError}
-use Rattle.run_commands.specs.declared.line_error.LineError.TheVariants as line
+use Rattle.scenario_errors.specs.declared.line_error.LineError.{LineError}
+use Rattle.scenario_errors.specs.declared.line_error.LineError.TheVariants as line
 use Rattle.tool_faults.specs.Cause.{IsOfInput, IsOfOutput, IsOfScript, IsOfWrite, IsToldFault}
 use Rattle.tool_faults.specs.declared.fault.Fault.{Fault}
 use Rattle.tool_faults.specs.declared.fault.Fault.TheVariants as fault
@@ -79,15 +78,6 @@ IsOfScenario (scenario.Line n reason) found = IsToldFault found
 abbrev pub IsOfReading : ReadError → Fault → Type 0
 IsOfReading reading.Memory found = found ≡ fault.Memory
 IsOfReading (reading.Line n reason) found = IsToldFault found
-
--- the faulty line of a refused scenario; none if memory ran out
-abbrev pub line_in : LineError → Option ℕ
-line_in (line.Words (scenario.Line n reason)) = Some n
-line_in (line.Words scenario.Memory) = None
-line_in (line.Expectation (reading.Line n fault)) = Some n
-line_in (line.Expectation reading.Memory) = None
-line_in (line.Script (script.Line n reason)) = Some n
-line_in (line.Script script.Memory) = None
 
 -- the fault for a refused scenario
 abbrev pub IsOfLine : LineError → Fault → Type 0

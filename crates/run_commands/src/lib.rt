@@ -11,7 +11,6 @@ mod times;
 mod trying;
 
 pub use crate::comparing::compare;
-pub use crate::line_error::scenario_refusal;
 pub use crate::live::run;
 pub use crate::report::make_page;
 pub use crate::scenario::make_stream;

@@ -1,9 +1,10 @@
 //! `scenario [--rules RULES] SCRIPT STREAM`
 
-use crate::line_error::{line_error_fault, read_scenario};
+use crate::line_error::line_error_fault;
 use diagnostics::warnings_page_of;
 use program_io::{begin, discard, fault_of, keep};
 use rpn_compiler::RuleText;
+use scenario_errors::read_scenario;
 use scenarios::declared_in;
 use script_errors::script_warnings;
 use std::alloc::Global;

@@ -3,10 +3,11 @@
 ghost use Rattle.std.specs.Prelude.{◌≡◌};
 ghost use Rattle.run_commands.specs.Cause.{IsOfLine, IsOfTrial, ending_of};
 
-use crate::line_error::{LineError, line_error_fault};
+use crate::line_error::line_error_fault;
 use diagnostics::{Message, warnings_page_of};
 use program_io::Noting;
 use run_stepper::{RunInputs, read_texts};
+use scenario_errors::LineError;
 use scenario_trial::{TrialError, TrialOutcome, TrialWarning, try_scenario};
 use script_errors::script_warnings;
 use std::alloc::{AllocError, Global};

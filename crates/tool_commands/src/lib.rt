@@ -2,6 +2,8 @@
 //! reports and live runs.
 #![tactic(auto)]
 
+mod serving;
+
 ghost use Rattle.std.specs.Prelude.{◌≡◌};
 ghost use Rattle.tool_commands.specs.Words.{fault_of_words};
 ghost use Rattle.tool_faults.specs.Status.{status_by};
@@ -109,7 +111,7 @@ pub fn obey<'a, R: Files + Eprint + AllocGlobal, I: Read + Drop, W: Write>(
         CommandPlan::Format { rules, check } => {
             file_commands::format(rt, rules.as_slice(), check, input, out)
         }
-        CommandPlan::LanguageServer => language_server::serve(rt.alloc(), input, out),
+        CommandPlan::LanguageServer => serving::serve(rt.alloc(), input, out),
         CommandPlan::Export { stream, raw } => file_commands::export(rt, stream, raw),
         CommandPlan::Compare {
             schedule,
