@@ -2,39 +2,12 @@
 //! telemetry and the sample requests of the stream.
 
 ghost use Rattle.std.specs.Prelude.{◌≡◌, ◌≤◌, vec_capacity};
-ghost use Rattle.lc_model.specs.declared.kind.Kind.TheVariants.{Wdt, Adt};
 
+use crate::engine::engine_with;
 use flight_core::{Found, Records};
-use lc_model::{Body, Kind, Record, TABLE_ENTRIES, mids, packet, sample_request};
+use lc_model::{Body, Record, TABLE_ENTRIES, mids, packet, sample_request};
 use limit_engine::{Asked, Engine};
-use rpn_compiler::compile;
 use std::alloc::Global;
-use table_file::{open, preamble};
-use table_validator::{ValidImage, validate};
-
-/// Puts tables in force, where they belong together.
-fn put_in_force(engine: &mut Engine, wdt: &ValidImage<'_>, adt: &ValidImage<'_>)
-    requires wdt { wdt.now.kind ≡ Wdt }
-    requires adt { adt.now.kind ≡ Adt }
-{
-    let is_match = preamble::hash(wdt.image()) == preamble::hash(adt.image())
-        && preamble::watchpoint_count(wdt.image()) == preamble::watchpoint_count(adt.image());
-    if is_match {
-        engine.adopt(wdt, adt);
-    }
-}
-
-/// A Limit Checker's engine with the tables of a text.
-fn engine_with(alloc: Global, text: &[u8]) -> anyhow::Result<Engine> {
-    let pair = compile(alloc, text)?;
-    let wdt = open(pair.wdt.as_slice())?;
-    let adt = open(pair.adt.as_slice())?;
-    let wdt = validate(Kind::Wdt, wdt.image())?;
-    let adt = validate(Kind::Adt, adt.image())?;
-    let mut engine = Engine::new(alloc)?;
-    put_in_force(&mut engine, &wdt, &adt);
-    Ok(engine)
-}
 
 /// The engine sees a packet of telemetry, or takes a sample request.
 fn see(engine: &mut Engine, packet: &[u8], asked: &mut Vec<Asked>)

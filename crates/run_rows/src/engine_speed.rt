@@ -1,45 +1,15 @@
 //! Measures the calls of the Limit Checker's engine: telemetry packets, and samples of all rules.
 
-ghost use Rattle.std.specs.Prelude.{◌≡◌};
-ghost use Rattle.lc_model.specs.declared.kind.Kind.TheVariants.{Wdt, Adt};
-
+use crate::engine::engine_with;
 use crate::measuring::{Work, measure};
-use lc_model::{ALL_RULES, Kind, SampleRequest, TABLE_ENTRIES};
+use lc_model::{ALL_RULES, SampleRequest, TABLE_ENTRIES};
 use limit_engine::{Asked, Engine};
-use rpn_compiler::compile;
-use table_file::{open, preamble};
-use table_validator::{ValidImage, validate};
 
 /// The length of a packet in bytes.
 const PACKET: usize = 16;
 
 /// How often one measurement sees the packets, or samples all rules.
 const ROUNDS: usize = 1_000;
-
-/// Puts two tables in force if they have the same hash and number of watchpoints.
-fn put_in_force(engine: &mut Engine, wdt: &ValidImage<'_>, adt: &ValidImage<'_>)
-    requires wdt { wdt.now.kind ≡ Wdt }
-    requires adt { adt.now.kind ≡ Adt }
-{
-    let (watchpoints, actionpoints) = (wdt.image(), adt.image());
-    let is_match = preamble::hash(watchpoints) == preamble::hash(actionpoints)
-        && preamble::watchpoint_count(watchpoints) == preamble::watchpoint_count(actionpoints);
-    if is_match {
-        engine.adopt(wdt, adt);
-    }
-}
-
-/// Creates an engine with the tables of a rule text in force.
-fn engine_with(rt: &HostRuntime, text: &[u8]) -> anyhow::Result<Engine> {
-    let pair = compile(rt.alloc(), text)?;
-    let wdt = open(pair.wdt.as_slice())?;
-    let adt = open(pair.adt.as_slice())?;
-    let wdt = validate(Kind::Wdt, wdt.image())?;
-    let adt = validate(Kind::Adt, adt.image())?;
-    let mut engine = Engine::new(rt.alloc())?;
-    put_in_force(&mut engine, &wdt, &adt);
-    Ok(engine)
-}
 
 /// Gives one packet to the engine. It isn't inlined, so that the compiler knows nothing of the packet.
 #[inline(never)]
@@ -73,7 +43,7 @@ impl Work for Seeing<'_> {
 /// Measures `Engine::telemetry` with the tables of `text`, over packets of 16 bytes each; prints packets and time.
 /// The error is the text's or the system's.
 pub fn measure_telemetry(rt: &HostRuntime, text: &[u8], packets: &[u8]) -> anyhow::Result<()> {
-    let engine = engine_with(rt, text)?;
+    let engine = engine_with(rt.alloc(), text)?;
     measure(rt, &mut Seeing { engine, packets })
 }
 
@@ -112,7 +82,7 @@ impl Work for Sampling {
 /// Measures samples of all rules of `text` after the packets, of 16 bytes each, are seen; prints words and time.
 /// The error is the text's or the system's.
 pub fn measure_samples(rt: &HostRuntime, text: &[u8], packets: &[u8]) -> anyhow::Result<()> {
-    let mut engine = engine_with(rt, text)?;
+    let mut engine = engine_with(rt.alloc(), text)?;
     see_all(&mut engine, packets);
     let asked = Vec::with_capacity(rt.alloc(), TABLE_ENTRIES)?;
     measure(rt, &mut Sampling { engine, asked })
