@@ -11,7 +11,7 @@ use std::marker::Model;
 use tbl_service::TableError;
 
 /// At most two numbers. Contracts see the list.
-#[derive(Debug, Drop)]
+#[derive(Drop)]
 pub(crate) struct Numbers {
     numbers: [u16; 2],
     count: usize,

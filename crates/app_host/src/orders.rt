@@ -27,7 +27,7 @@ use lc_model::packet::function_code;
 use lc_model::{ByteSink, EventKind, Seat, name_in};
 
 /// What is to be done with an application.
-#[derive(Clone, Copy, Debug, PartialEq, Eq)]
+#[derive(Clone, Copy)]
 pub(crate) enum Order {
     Start,
     Stop,

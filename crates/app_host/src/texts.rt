@@ -10,7 +10,7 @@ ghost use Rattle.app_host.specs.Texts.{service_titled};
 use event_service::EventText;
 
 /// The services of the host that have commands.
-#[derive(Clone, Copy, Debug, PartialEq, Eq)]
+#[derive(Clone, Copy)]
 pub(crate) enum Service {
     Tables,
     Events,

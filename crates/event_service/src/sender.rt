@@ -22,7 +22,7 @@ use lc_model::{EventKind, Moment};
 use std::marker::Model;
 
 /// What changes the types or filters of a sender.
-#[derive(Clone, Copy, Debug)]
+#[derive(Clone, Copy)]
 pub(crate) enum Change {
     /// The mask of an id's filter is set, and its count begins again.
     Filter { id: u16, mask: u16 },

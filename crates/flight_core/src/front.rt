@@ -10,7 +10,7 @@ use lc_model::stream::{HALF, HEADER, NAME, body_size, fits_body};
 use lc_model::{Kind, u16_at};
 
 /// What a whole record brings.
-#[derive(Clone, Copy, Debug, PartialEq, Eq)]
+#[derive(Clone, Copy)]
 pub(crate) enum Shape {
     Packet,
     Tick,
@@ -20,7 +20,7 @@ pub(crate) enum Shape {
 }
 
 /// What stands at the front of some bytes.
-#[derive(Clone, Copy, Debug, PartialEq, Eq)]
+#[derive(Clone, Copy)]
 pub(crate) enum Front {
     /// Nothing, or the beginning of a record.
     Part,

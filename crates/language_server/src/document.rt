@@ -4,7 +4,7 @@ use diagnostics::Message;
 use std::alloc::{AllocError, Global};
 
 /// What a document is.
-#[derive(Clone, Copy, Debug, PartialEq, Eq)]
+#[derive(Clone, Copy, PartialEq, Eq)]
 pub enum Language {
     /// A rule text.
     Rules,

@@ -3,7 +3,7 @@
 use std::alloc::{AllocError, AllocFailed};
 
 /// The kind of an error (JSON-RPC 2.0, "Error object"; Language Server Protocol 3.17, "ErrorCodes").
-#[derive(Clone, Copy, Debug, PartialEq, Eq)]
+#[derive(Clone, Copy)]
 pub enum ErrorKind {
     /// The message is no JSON.
     NoJson,
@@ -34,7 +34,7 @@ impl ErrorKind {
 }
 
 /// Why a request has no result.
-#[derive(Clone, Copy, Debug, PartialEq, Eq)]
+#[derive(Clone, Copy)]
 pub enum Failure {
     /// It gets an error with this sentence.
     Told(ErrorKind, &'static str),

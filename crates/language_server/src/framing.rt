@@ -16,7 +16,7 @@ const LENGTH: &[u8] = b"content-length:";
 const END: &[u8] = b"\r\n\r\n";
 
 /// What stands in front of bytes that were read.
-#[derive(Clone, Copy, Debug, PartialEq, Eq)]
+#[derive(Clone, Copy)]
 pub enum Frame {
     /// A part of a message.
     Part,

@@ -17,7 +17,7 @@ use serde_json::Value;
 use std::alloc::{AllocError, Global};
 
 /// How far a session is.
-#[derive(Clone, Copy, Debug, PartialEq, Eq)]
+#[derive(Clone, Copy, PartialEq, Eq)]
 pub enum Phase {
     /// The client has not initialized it.
     New,

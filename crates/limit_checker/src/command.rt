@@ -14,7 +14,7 @@ use limit_engine::{Engine, StateRefusal};
 const HEADERS: usize = 8;
 
 /// A command, as it is read from a packet.
-#[derive(Clone, Copy, Debug, PartialEq, Eq)]
+#[derive(Clone, Copy)]
 pub(crate) enum Command {
     NoOperation,
     SetMode { number: u16 },
@@ -23,7 +23,7 @@ pub(crate) enum Command {
 }
 
 /// Why a command is refused.
-#[derive(Clone, Copy, Debug, PartialEq, Eq)]
+#[derive(Clone, Copy)]
 pub(crate) enum Refused {
     /// It can't be read.
     Unread(CommandRefusal),

@@ -31,7 +31,7 @@ use tbl_service::Slot;
 const HEADERS: usize = 8;
 
 /// What became of the two tables.
-#[derive(Clone, Copy, Debug, PartialEq, Eq)]
+#[derive(Clone, Copy)]
 pub(crate) struct Renewal {
     wdt: Verdict,
     adt: Verdict,

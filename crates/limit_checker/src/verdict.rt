@@ -21,7 +21,7 @@ use table_validator::{TableFault, validate};
 use tbl_service::{Slot, Stage, Tables};
 
 /// What was found of the image of a table.
-#[derive(Clone, Copy, Debug, PartialEq, Eq)]
+#[derive(Clone, Copy)]
 pub(crate) enum Verdict {
     /// No validation was asked for.
     Unasked,

@@ -3,7 +3,7 @@
 use lc_model::Term;
 
 /// The watchpoints of rules, and the words of each rule's condition.
-#[derive(Debug, Drop)]
+#[derive(Drop)]
 pub struct Lowered {
     /// The watchpoints that the rules mention, each once, in order of first mention.
     pub terms: Vec<Term>,

@@ -19,7 +19,7 @@ use lc_model::{Cond, Term};
 use std::alloc::{AllocError, Global};
 
 /// Whether values of its fields make a condition true.
-#[derive(Debug, Drop)]
+#[derive(Drop)]
 pub(crate) enum Decision {
     /// No values make it true.
     Never,

@@ -17,7 +17,7 @@ use lc_model::{Cond, Term};
 use std::alloc::{AllocError, Global};
 
 /// A condition over fields that have no bits yet.
-#[derive(Debug, Drop)]
+#[derive(Drop)]
 pub(crate) enum Open {
     /// One comparison, with the number of its field.
     Compare { field: usize, term: Term },
@@ -32,7 +32,7 @@ pub(crate) enum Open {
 }
 
 /// What is left of a condition.
-#[derive(Debug, Drop)]
+#[derive(Drop)]
 pub(crate) enum Left {
     /// Nothing: it has this result, whatever the other fields have.
     Known(bool),

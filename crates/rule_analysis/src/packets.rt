@@ -15,7 +15,7 @@ use std::alloc::{AllocError, Global};
 const HEADERS: usize = 12;
 
 /// A field, and the bits chosen for it.
-#[derive(Clone, Copy, Debug)]
+#[derive(Clone, Copy)]
 pub(crate) struct Chosen {
     pub(crate) field: Field,
     pub(crate) bits: u32,

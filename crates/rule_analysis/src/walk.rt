@@ -17,7 +17,7 @@ use lc_model::{Cond, Term, Truth};
 use std::alloc::{AllocError, Global};
 
 /// The result of a walk.
-#[derive(Clone, Copy, Debug, PartialEq, Eq)]
+#[derive(Clone, Copy)]
 pub(crate) enum Outcome {
     /// The chosen bits make the condition true.
     Found,
@@ -28,7 +28,7 @@ pub(crate) enum Outcome {
 }
 
 /// What was left of a condition at some part of a walk, and no values make true.
-#[derive(Debug, Drop)]
+#[derive(Drop)]
 pub(crate) struct DeadEnd {
     /// The number of the first field without bits.
     field: usize,

@@ -4,7 +4,7 @@
 use crate::outline::ScriptKind;
 
 /// Where a word stands: what came before it on its line.
-#[derive(Clone, Copy, Debug, PartialEq, Eq)]
+#[derive(Clone, Copy, PartialEq, Eq)]
 pub(crate) enum Stage {
     /// Nothing, in a schedule.
     Schedule,

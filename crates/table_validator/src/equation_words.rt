@@ -12,7 +12,7 @@ use lc_model::equation_words::EQUAL;
 use table_file::ActionpointEntry;
 
 /// What a pass over an entry's words has found so far.
-#[derive(Clone, Copy, Debug)]
+#[derive(Clone, Copy)]
 struct WordScan {
     /// Whether EQUAL was read.
     ended: bool,

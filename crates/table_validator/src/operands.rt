@@ -44,7 +44,7 @@ fn operands_of(word: u16) -> usize
 /// The operands after some words. Each mention adds one, and each binary operator turns two into one, so mentions less
 /// binary operators wait. If an operand was missing that number is meaningless, but the codes that it decides are
 /// greater than `MissingOperand` and aren't chosen.
-#[derive(Clone, Copy, Debug)]
+#[derive(Clone, Copy)]
 pub struct OperandCount {
     mentions: usize,
     /// The number of binary operators.

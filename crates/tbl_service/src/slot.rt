@@ -27,7 +27,7 @@ pub enum Stage {
 }
 
 /// A command to the waiting image of a table.
-#[derive(Clone, Copy, Debug, PartialEq, Eq)]
+#[derive(Clone, Copy)]
 pub(crate) enum Move {
     Validate,
     Activate,
