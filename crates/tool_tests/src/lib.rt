@@ -1,12 +1,9 @@
-//! The tests of what the tools' libraries say, by public calls alone: listings of table files, scripts and their streams, lines of
-//! packets, pages of runs, and the commands of the second program over files. Files, streams and packets are put together byte by
-//! byte, and expected texts come from the formats and the rule language, never from what a crate answers.
+//! The tests of the tools' libraries by public calls alone, where no command prints what they return: pages whose reader, writer or
+//! memory fails, their progress, and lines and sentences of the libraries' own. The rows of the commands stand in `tools/lib/programs/`.
 #![tactic(auto)]
 
 #[cfg(test)]
 mod claims;
-#[cfg(test)]
-mod commands;
 #[cfg(test)]
 mod packets;
 #[cfg(test)]
@@ -15,5 +12,3 @@ mod pages;
 mod results;
 #[cfg(test)]
 mod scripts;
-#[cfg(test)]
-mod tables;

@@ -2,7 +2,7 @@
 
 use crate::claims::same;
 use lc_model::{ByteSource, Pieces};
-use run_page::{Progress, ReportError, Run, Silent, Source, WHOLE, write_page};
+use run_page::{Progress, ReportError, Run, Source, WHOLE, write_page};
 use run_stepper::Ending;
 use schedules::parse_schedule;
 use std::alloc::{AllocError, Global};
@@ -22,8 +22,6 @@ pub const PASS: &[u8] = b"after 1\ntelemetry 0883 0 09600000\nafter 1\nsample 65
 
 /// The request for housekeeping.
 pub const ASK: &[u8] = b"after 1\nhousekeeping\n";
-
-pub const TICK: &[u8] = b"after 1\ntick\n";
 
 /// The bytes of a read, which are no whole records.
 pub const PIECE: usize = 7;
@@ -88,17 +86,6 @@ pub fn page_from<'n, 't, R: Abort + AllocGlobal, I: ByteSource, W: Write, P: Pro
     write_page(rt.alloc(), &schedule, &run, WHOLE, reader, out, progress)
 }
 
-/// The answer over a stream, and what is written.
-pub fn answer_over<R: Abort + AllocGlobal>(
-    rt: &R,
-    sources: &[Source<'_, '_>],
-    stream: &[u8],
-) -> (Result<Ending, ReportError>, Vec<u8>) {
-    let mut page = Vec::new(rt.alloc());
-    let answer = page_of(rt, sources, stream, &mut page, &mut Silent);
-    (answer, page)
-}
-
 /// How often this stands in a page.
 fn times(page: &[u8], wanted: &[u8]) -> usize {
     let mut count = 0usize;
@@ -115,16 +102,4 @@ pub fn says<R: Abort>(rt: &R, page: &[u8], wanted: &[(&str, usize)]) {
     for &(text, count) in wanted {
         same(rt, text, times(page, text.as_bytes()), count);
     }
-}
-
-/// The page over a stream says this.
-pub fn shows<R: Abort + AllocGlobal>(
-    rt: &R,
-    sources: &[Source<'_, '_>],
-    stream: &[u8],
-    wanted: &[(&str, usize)],
-) {
-    let (answer, page) = answer_over(rt, sources, stream);
-    same(rt, "a page", answer.is_ok(), true);
-    says(rt, page.as_slice(), wanted);
 }

@@ -62,6 +62,24 @@ class Holds:
 
 
 @dataclass(frozen=True)
+class Once:
+    """A file in which each of these texts stands once, and none of the others."""
+
+    texts: list
+    none_of: list = field(default_factory=list)
+
+    def unmet_in(self, found):
+        """What of this a file doesn't meet."""
+        return Once([text for text in self.texts if found.count(text) != 1], [text for text in self.none_of if text in found])
+
+    def is_met(self, found):
+        return self.unmet_in(found) == Once([])
+
+    def __str__(self):
+        return f"bytes among which each of {self.texts} stands once, and none of {self.none_of}"
+
+
+@dataclass(frozen=True)
 class Has:
     """A file that has these bytes at a place, counted from 0."""
 
@@ -79,7 +97,7 @@ class Has:
 class Row:
     """One call of a program, in a new folder that has the files of `before`.
 
-    A file is its bytes, FOLDER, a Link to a name, the Twin of a name before it, or, behind the call, Sized, Begins or Holds. `after` has the files that the call makes
+    A file is its bytes, FOLDER, a Link to a name, the Twin of a name before it, or, behind the call, Sized, Begins, Holds or Once. `after` has the files that the call makes
     or changes; all others stay as they were, and no further ones come. A name with `*` there is that of the one new file that it
     matches, and None says that a file is gone. `first` are calls before, which end with status 0.
     `prints_to` is a device in the place of standard output, and GONE one that nobody reads. `reads` is what stands on standard

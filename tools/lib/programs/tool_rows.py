@@ -148,6 +148,7 @@ cut behind packet 2: 1 bytes are no whole packet
 1 100 0 half wdt 0 /cf/lc_def_wdt.tbl
 2 is cut short
 """),
+    Row("a tick in words", ["flight_tools", "stream", "file"], {"file": bytes([2, 0, 0, 0, 100, 0, 0, 0, 0, 0, 0])}, output=b"1 100 0 tick\n"),
     Row(
         "a tick as a script",
         ["flight_tools", "stream", "--whole", "file"],
@@ -196,6 +197,13 @@ REPORTS = [
         "a schedule that is refused makes no page",
         REPORT,
         {**FILES, "schedule": b"# none\nslots 0\n"},
+        status=1,
+        error=NO_SLOTS,
+    ),
+    Row(
+        "a schedule that is refused is reported and not the text, which is refused, too",
+        REPORT,
+        {**FILES, "schedule": b"# none\nslots 0\n", "rules": b"packet BUS"},
         status=1,
         error=NO_SLOTS,
     ),
@@ -310,6 +318,32 @@ Options:
   -V, --version  Print version
 """
 
+HELP_OF_LIVE = b"""\
+Runs a stream from standard input as it comes, to standard output
+
+Usage: flight_tools live <SCHEDULE> <RULES>...
+
+Arguments:
+  <SCHEDULE>  The schedule
+  <RULES>...  The rule texts, numbered from 0
+
+Options:
+  -h, --help  Print help
+"""
+
+HELP_OF_TABLE = b"""\
+Says what a table file holds
+
+Usage: flight_tools table [OPTIONS] <FILE>
+
+Arguments:
+  <FILE>  A file of watchpoints or of actionpoints
+
+Options:
+      --watchpoints <watchpoints>  The watchpoints of these actionpoints, so that these are judged
+  -h, --help                       Print help
+"""
+
 WORDS = [
     Row("a version is no fault", ["flight_tools", "--version"], output=b"flight_tools %s\n" % VERSION),
     Row(
@@ -319,6 +353,8 @@ WORDS = [
         error=b"a word of the command line is no text (UTF-8)\n",
     ),
     Row("help is no fault", ["flight_tools", "--help"], output=HELP),
+    Row("help of a run as it comes", ["flight_tools", "help", "live"], output=HELP_OF_LIVE),
+    Row("a table's help", ["flight_tools", "table", "--help"], output=HELP_OF_TABLE),
     Row("a server whose client leaves without a request to shut down", ["flight_tools", "lsp", "--stdio"], status=1),
     Row("no command", ["flight_tools"], status=2, error=b"""\
 error: 'flight_tools' requires a subcommand but one was not provided
