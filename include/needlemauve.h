@@ -17,15 +17,16 @@
  * signal handler.
  *
  * What a call needs. Bytes may lie anywhere; lengths and the structures below lie as their types are aligned. What a call
- * writes to (`told`, `wdt`, `adt`, `output`) overlaps nothing else that the call is given. Bytes of length 0 may be NULL.
+ * writes to (`told`, `wdt`, `adt`, `output`, `host`) overlaps nothing else that the call is given. Bytes of length 0 may be NULL.
  *
  * What a call tests. The functions of this header test what they can see: for NULL in the place of something that has a length,
  * or is written to, they return NEEDLEMAUVE_NULL, and for a length above PTRDIFF_MAX NEEDLEMAUVE_TOO_LONG. Then only `told` is
- * written, unless it is NULL. No call can test that as many bytes are there as the length says, nor that NEEDLEMAUVE_WDT and
+ * written, unless it is NULL; needlemauve_host_rule and needlemauve_host_figures write nothing. No call can test that as many bytes are there as the length says, nor that NEEDLEMAUVE_WDT and
  * NEEDLEMAUVE_ADT bytes are at `wdt` and `adt`: the caller has to see to it.
  *
  * What a call promises is its contract, proved, in crates/needlemauve/src and crates/needlemauve_board/src; docs/LIBRARY.md
- * says it in plain words. */
+ * says it in plain words. No contract says what a call takes and gives back of memory, nor that applications retire: that is
+ * tested (docs/PROMISES.md). */
 #ifndef NEEDLEMAUVE_H
 #define NEEDLEMAUVE_H
 
@@ -44,7 +45,7 @@ extern "C" {
   (NEEDLEMAUVE_VERSION_MAJOR * 1000000L + NEEDLEMAUVE_VERSION_MINOR * 1000L + NEEDLEMAUVE_VERSION_PATCH)
 #define NEEDLEMAUVE_VERSION "0.10.0"
 
-/* The lengths in bytes of the file of a table of watchpoints, and of one of actionpoints. */
+/* The lengths in bytes of the files that needlemauve_compile writes, of watchpoints and of actionpoints. */
 #define NEEDLEMAUVE_WDT 4380u
 #define NEEDLEMAUVE_ADT 19516u
 
@@ -52,8 +53,8 @@ extern "C" {
 #define NEEDLEMAUVE_WATCHPOINTS 1u
 #define NEEDLEMAUVE_ACTIONPOINTS 2u
 
-/* The codes that calls return. 0: done. Below 245: the refusals of docs/RULES.md and docs/FORMATS.md, by their
- * numbers. */
+/* The codes that calls return. 0: done. Below 245: the refusals of docs/RULES.md and docs/FORMATS.md, and the ends of a run of
+ * docs/TOOLS.md, by their numbers. */
 #define NEEDLEMAUVE_DONE 0u
 #define NEEDLEMAUVE_NO_CHECKER 245u /* no Limit Checker runs */
 #define NEEDLEMAUVE_NO_RULE 246u   /* the tables in force have no rule of that number */
@@ -71,10 +72,11 @@ extern "C" {
 #define NEEDLEMAUVE_NOTHING 0u
 #define NEEDLEMAUVE_BYTES 1u   /* the bytes of the text before the fault */
 #define NEEDLEMAUVE_RULES 2u   /* the rules of the text before the one at fault */
-#define NEEDLEMAUVE_RECORDS 3u /* records of the stream, from 1; all that were handled where the code is 0 */
+#define NEEDLEMAUVE_RECORDS 3u /* records of the stream, from 1; all that were handled where the code is 0; 0 where it is 144 */
 #define NEEDLEMAUVE_NOT_RUN 4u /* nothing was run; the schedule's line at fault, from 1, or 0 */
 
-/* The verdict on a table file. code 0: sound; 51 to 56: its headers; 61 to 81: its image. entry: the entry of the image that
+/* The verdict on a table file. code 0: sound; 51 to 56: its headers; 61 to 81: its image; NEEDLEMAUVE_NO_TABLE, or a code of the
+ * header's own. entry: the entry of the image that
  * is at fault, from 0, or 65,535. */
 struct needlemauve_verdict {
   uint32_t code;
@@ -150,7 +152,8 @@ struct needlemauve_figures {
 /* The version of the archive, as NEEDLEMAUVE_VERSION_NUMBER is that of this header. */
 uint32_t needlemauve_version(void);
 
-/* Judges a table file as the host does on board, and returns told->code. */
+/* Judges a table file as the host does on board, but for the table's name in it, which decides on board which table it is for.
+ * Returns told->code. */
 uint32_t needlemauve_validate(uint32_t kind, const uint8_t *file, size_t length, struct needlemauve_verdict *told);
 
 /* Compiles a rule text into the files of its two tables, and returns told->refusal.code. If that isn't 0, both files are as they
@@ -160,24 +163,25 @@ uint32_t needlemauve_compile(const uint8_t *text, size_t length, uint8_t wdt[NEE
 
 /* Runs rule texts over a stream of records, with four Limit Checkers, two schedulers and two counters in stock, and returns
  * told->ending.code. The texts lie one after the other: the first has lengths[0] bytes, and all together `size`. The first
- * told->written bytes of the output are the packets that were sent, and the bytes after them are as they were. 0: the stream's
- * end; 1 to 42: a text doesn't compile; 131 to 133: the schedule is invalid; 141: no record; 142: the stream ends inside one;
- * 144: the output has no room for more. */
+ * told->written bytes of the output are the packets that were sent (with 144 the last one may be cut), and the bytes after them
+ * are as they were. 0: the stream's end; 1 to 42: a text doesn't compile; 131 to 133: the schedule is invalid; 141: no record;
+ * 142: the stream ends inside one; 144: the output has no room for more; NEEDLEMAUVE_LENGTHS, NEEDLEMAUVE_NO_MEMORY, or a code of
+ * the header's own. */
 uint32_t needlemauve_run(const uint8_t *texts, size_t size, const size_t *lengths, size_t count, const uint8_t *schedule,
                          size_t schedule_length, const uint8_t *stream, size_t stream_length, uint8_t *output, size_t room,
                          struct needlemauve_outcome *told);
 
 /* Makes a host of rule texts (given as to needlemauve_run), with the same stock, and returns told->refusal.code: 0, or why it
  * isn't made. `room` is how many bytes one record may lead to: an event has 168, a sequence request 12, so that 65,536 hold
- * a sample of 176 rules that each request a sequence and send two events. A record that leads to more closes the host (144). All
- * memory is taken here. */
+ * a sample of 176 rules that each request a sequence and send two events, and 524,288 a tick with eight such samples. After a
+ * record that leads to more, the host handles none any more (144). All memory is taken here. */
 uint32_t needlemauve_host_new(const uint8_t *texts, size_t size, const size_t *lengths, size_t count, const uint8_t *schedule,
                               size_t schedule_length, size_t room, struct needlemauve_host *host,
                               struct needlemauve_made *told);
 
 /* Takes bytes of the stream, as they come, and handles one record, in the time of that record; returns told->code. The first
  * told->taken bytes were taken, to be held after those that are held (73,739 at most); what the record leads to are the first
- * told->written bytes of the output, which has `size` bytes, no fewer than the host's room. 0: a record was handled, and another
+ * told->written bytes of the output (with 144 cut), which has `size` bytes, no fewer than the host's room. 0: a record was handled, and another
  * may be held: call again, with the bytes that weren't taken, or with none. NEEDLEMAUVE_MORE: no whole record is held. 141: what
  * comes next is no record, and nothing after it is handled. 144: the record leads to more than the room takes; the host handles
  * no record any more. */
@@ -196,8 +200,8 @@ void needlemauve_host_close(struct needlemauve_host *host);
 
 /* ---- records of a stream, whose layout is in docs/FORMATS.md */
 
-/* The bytes of a record's header, of the name in a file's and a half's record, and of a half's body; the most bytes that a
- * packet may have, and a file without its name. */
+/* The bytes of a record's header, of the name in a file's and a half's record, and of a half's body; the most bytes that a record
+ * may hold of a packet, and of a file without its name. A host refuses packets over 2,048 bytes and files over 32,768. */
 #define NEEDLEMAUVE_RECORD 11u
 #define NEEDLEMAUVE_NAME 40u
 #define NEEDLEMAUVE_HALF 43u
