@@ -1,4 +1,4 @@
-"""How an archive of the library for C is built over what `rt ci` left."""
+"""What `rt ci` left: its libraries, and how an archive of the library for C is built over them."""
 
 import os
 import re
@@ -30,18 +30,33 @@ def processor_words(target):
     return ["--target", TARGETS[target], "--cpu", PROCESSORS[target]]
 
 
-def archive_words(top, name, target, to, kept):
-    """The command that proves a crate over the libraries that `rt ci` proved and left, and builds its archive for a target. It
-    runs in the crate's folder; what it proves lies in the folder `kept`."""
-    page = subprocess.run(["rt", "doc"], stdout=subprocess.PIPE, text=True, check=True).stdout
-    kit, every = os.path.dirname(page.strip()), crates(top)
-    words = [f"{kit}/bin/rattle", "build", "--crate-name", name, "src/lib.rt"]
+def is_left_by_ci(top, names):
+    """Whether the libraries of these crates are those that `rt ci` left: what `rt check` builds has a stamp."""
+    folders = [(it, f"{top}/crates/{it}/out/rlib") for it in names]
+    return all(os.path.isfile(f"{at}/{it}.rlib/format") and not os.path.exists(f"{at}/stamp") for it, at in folders)
+
+
+def kit():
+    """The folder of the kit, as `rt doc` names its first page."""
+    return os.path.dirname(subprocess.run(["rt", "doc"], stdout=subprocess.PIPE, text=True, check=True).stdout.strip())
+
+
+def library_words(top, name):
+    """The words of `rattle` that name a crate, its libraries (the kit's, and those that `rt ci` proved and left) and the logic."""
+    at_kit, every = kit(), crates(top)
+    words = ["--crate-name", name, "src/lib.rt"]
     for it in ["std", *(it for it in every[name] if it not in every)]:
-        words += ["--extern", f"{it}={kit}/rlibs/{it}.rlib"]
-    words += ["-L", f"dependency={kit}/rlibs"]
+        words += ["--extern", f"{it}={at_kit}/rlibs/{it}.rlib"]
+    words += ["-L", f"dependency={at_kit}/rlibs"]
     for it in below(name, every):
         at = f"{top}/crates/{it}/out/rlib"
         words += ["--extern", f"{it}={at}/{it}.rlib"] * (it in every[name]) + ["-L", f"dependency={at}"]
-    words += ["--antt-project", f"{kit}/rattle/logic/antt-project.json", "--logic-built", f"{kit}/logic_built"]
+    return [*words, "--antt-project", f"{at_kit}/rattle/logic/antt-project.json", "--logic-built", f"{at_kit}/logic_built"]
+
+
+def archive_words(top, name, target, to, kept):
+    """The command that proves a crate over the libraries that `rt ci` proved and left, and builds its archive for a target. It
+    runs in the crate's folder; what it proves lies in the folder `kept`."""
+    words = [f"{kit()}/bin/rattle", "build", *library_words(top, name)]
     words += ["--incremental", kept, "--links", f"{name}=", "--crate-type", "staticlib", *processor_words(target)]
-    return [*words, "--toolchain", f"{kit}/toolchain", "--backend", "llvm", "-o", to]
+    return [*words, "--toolchain", f"{kit()}/toolchain", "--backend", "llvm", "-o", to]

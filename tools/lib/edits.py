@@ -1,4 +1,5 @@
-"""What an edit is: a file of `must-fail/` or `edits/` of a crate, which puts a wrong body in the place of a right one.
+"""What an edit is: a file of `edits/` or `edits/gate/` of a crate, which puts a wrong body in the place of a right one. The gate
+tries those of `edits/gate/`.
 
 Its lines: `file: src/NAME.rt`, then pairs of `old: TEXT` and `new: TEXT`, where the old text stands in that file once; and
 `refused-by: FUNCTION CLAUSE`, the function that the check must refuse and the clause that must refuse it. FUNCTION is the
@@ -18,7 +19,8 @@ import re
 from repository import ROOT
 
 FUNCTION = re.compile(r"\s*(?:pub(?:\([a-z]+\))?\s+)?(?:const\s+)?(?:unsafe\s+)?fn\s+([a-z_0-9]+)")
-FOLDERS = ("must-fail", "edits")
+IN_GATE = "edits/gate"
+FOLDERS = (IN_GATE, "edits")
 
 
 class Bad(Exception):
@@ -50,7 +52,7 @@ class Edit:
     def __init__(self, crate, path):
         self.crate, self.path = crate, path
         self.name = os.path.basename(path).removesuffix(".edit")
-        self.is_kept_in_gate = os.path.basename(os.path.dirname(path)) == "must-fail"
+        self.is_kept_in_gate = os.path.dirname(path).endswith(IN_GATE)
         self.pairs, self.refused_by = [], None
         file = old = None
         with open(path, encoding="utf-8") as it:
@@ -95,10 +97,10 @@ class Edit:
         return found
 
 
-def edits_of(crate, root=ROOT):
+def edits_of(crate, root=ROOT, folders=FOLDERS):
     """The files of a crate's edits."""
     found = []
-    for folder in FOLDERS:
+    for folder in folders:
         at = f"{root}/crates/{crate}/{folder}"
         if os.path.isdir(at):
             found += [f"{at}/{it}" for it in sorted(os.listdir(at)) if it.endswith(".edit")]

@@ -42,7 +42,7 @@ def copied(folder, names, is_built=False):
     for name in sorted(wanted):
         for part in ("src", "specs", "proofs"):
             shutil.rmtree(f"{folder}/crates/{name}/{part}", ignore_errors=True)
-        shutil.copytree(f"{ROOT}/crates/{name}", f"{folder}/crates/{name}", ignore=shutil.ignore_patterns("out", "must-fail", "edits"), dirs_exist_ok=True)
+        shutil.copytree(f"{ROOT}/crates/{name}", f"{folder}/crates/{name}", ignore=shutil.ignore_patterns("out", "edits"), dirs_exist_ok=True)
         if is_built:
             take_over(folder, name, ["incremental"] if name in names else ["rlib"])
     shutil.copy(f"{ROOT}/HANDLES", folder)

@@ -6,7 +6,7 @@ import re
 import sys
 
 from documents.links import unfenced
-from edits import edits_of
+from edits import IN_GATE, edits_of
 from repository import crates_of
 
 WORDS = "no one two three four five six seven eight nine ten eleven twelve".split()
@@ -28,8 +28,8 @@ def counts_of(root):
     messages = f"{root}/tools/lib/programs/messages"
     return [
         (rf"{NUMBER} crates\b(?! (?:of|below|above))", "lines of crates.txt", len(crates)),
-        (rf"{NUMBER} (?:must-fail )?edits (?:are |is )?(?:tried by the gate|in `must-fail/`|that the gate tries)", "edits in must-fail/", sum("/must-fail/" in it for it in edits)),
-        (rf"{NUMBER} edits\b(?! (?:are |is )?(?:tried by the gate|in `must-fail/`|that the gate tries))", "edits", len(edits)),
+        (rf"{NUMBER} edits (?:are |is )?(?:tried by the gate|in `edits/gate/`|that the gate tries)", "edits in edits/gate/", sum(f"/{IN_GATE}/" in it for it in edits)),
+        (rf"{NUMBER} edits\b(?! (?:are |is )?(?:tried by the gate|in `edits/gate/`|that the gate tries))", "edits", len(edits)),
         (rf"{NUMBER} whole runs\b", "folders with a row.txt in crates/run_rows/data", counted(root, "crates/run_rows/data/**/row.txt")),
         (rf"{NUMBER} rule texts with (?:a )?mistakes?\b", "rule texts in tools/lib/programs/messages", len(glob.glob(f"{messages}/*.rules"))),
         (rf"{NUMBER} schedules with (?:a )?mistakes?\b", "schedules in tools/lib/programs/messages", len(glob.glob(f"{messages}/*.schedule"))),

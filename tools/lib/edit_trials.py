@@ -1,0 +1,199 @@
+"""How edits are tried: several in one check of a copy of their crate, whose words are read function by function."""
+import os
+import re
+import subprocess
+
+from edits import Bad, Edit, function_at
+from repository import ROOT
+
+# What the checker says where a proof names something that an edit took away.
+BY_NAME = re.compile(r"has no field|is not in scope|has no `|was not admitted|is not a field")
+
+
+def plain(parts):
+    """A function's module and name, of the parts of its path: types are left out, and a closure is the function that it stands in."""
+    if "fn" in parts:
+        at = parts.index("fn")
+        parts = parts[:at] + parts[at + 1 : at + 2]
+    return "::".join(it for it in parts if not it[:1].isupper())
+
+
+def clause_of(goal):
+    """The clause that a goal shows, as an edit names it. Of functions that call each other the function's name stands in front."""
+    if re.search(r"(?:^|-)returns(?:-|$)", goal):
+        found = re.search(r"clause-(\w+)", goal)
+        return f"ensures {found[1]}" if found else "ensures"
+    found = re.search(r"(?:^|-)loop-(\w+)-", goal)
+    if found:
+        return f"loop {found[1]}"
+    found = re.match(r"(.+?)-requires", goal)
+    if found:
+        return f"requires {found[1]}"
+    return goal
+
+
+class Said:
+    """What a check says: by function, the clauses that it could not show, in order."""
+
+    def __init__(self, status, text, text_of):
+        self.is_proved, self.text = status == 0 and bool(re.search(r"logic=proved|^only=(\d+) (?:proved=\1|holes=0)$", text, re.M)), text
+        self.is_uncompiled = bool(re.search(r"\berror\[[\w-]+\]", text))
+        self.is_uncovered = "ahead of the check: " in text
+        self.is_limit = status == 3 or bool(re.search(r"antt ran out of|outgrew the memory limit|stopped at the step limit", text))
+        self.clauses, self.named = {}, set()
+        for line in text.split("\n"):
+            self.read(line, text_of)
+
+    def note(self, function, goal):
+        if "+" in function:
+            function = f"{function.rpartition('::')[0]}::{goal.split('-')[0]}"
+        clauses = self.clauses.setdefault(function, [])
+        if clause_of(goal) not in clauses:
+            clauses.append(clause_of(goal))
+
+    def clauses_of(self, function):
+        """Those of a function; where its proof stands with its type's, in another module, those of the one function of its name."""
+        if function in self.clauses:
+            return self.clauses[function]
+        alike = [its for name, its in self.clauses.items() if name.split("::")[-1] == function.split("::")[-1]]
+        return alike[0] if len(alike) == 1 else []
+
+    def read(self, line, text_of):
+        found = re.match(r"(?:note: )?(?:\./)?proofs/(.+)/(?:Answers|Invariants|Proof)\.antt:\d+:\d+: error: (?:`([^`]+)`: )?(.*)", line)
+        if found:
+            function = plain(found[1].split("/"))
+            if BY_NAME.search(found[3]):
+                self.named.add(function)
+            elif found[2]:
+                self.note(function, found[2])
+            return
+        found = re.match(r"(?:\./)?(proofs/[A-Z]\S*)\.antt:(\d+):\d+: error: ", line)
+        if found:
+            # (a law has no body to edit: what is tried is an example that would be false)
+            above = text_of(f"{found[1]}.antt").split("\n")[: int(found[2])]
+            names = [it[1] for it in (re.match(r"(?:pub )?([a-z]\w*) :", text) for text in above) if it]
+            self.note(found[1].replace("/", "::"), f"example {names[-1]}" if names else "example")
+            return
+        found = re.match(r"(?:note: )?(src/\S+?):(\d+):\d+: .*?\(`([^`]+)`\)", line)
+        if found:
+            function = function_at(found[1], text_of(found[1]), int(found[2]) - 1)
+            if function:
+                self.note(function, found[3])
+            return
+        found = re.match(r"fn [a-z0-9_]+::(\S+): no proof: .*?did not prove ([^;]*)", line)
+        if found:
+            for goal in re.findall(r"`([^`]+)`", found[2]):
+                self.note(plain(found[1].split("::")), goal)
+
+
+class Trial:
+    """A crate in a copy of the repository, in which its edits are tried."""
+
+    def __init__(self, root, crate):
+        self.folder, self.crate = f"{root}/crates/{crate}", crate
+
+    def text_of(self, path):
+        with open(f"{ROOT}/crates/{self.crate}/{path}", encoding="utf-8") as it:
+            return it.read()
+
+    def texts_with(self, edits):
+        """The texts that these edits change, with all of them."""
+        made = {}
+        for edit in edits:
+            made.update(edit.applied(lambda path: made.get(path, self.text_of(path))))
+        return made
+
+    def go_together(self, edits):
+        """Whether each edit's text still stands once where the others are applied."""
+        try:
+            return bool(self.texts_with(edits))
+        except Bad:
+            return False
+
+    def words(self, edits):
+        """The check of the crate with these edits."""
+        return ["rt", "check", "--jobs", "1", *(["--allow-holes"] if edits else [])]
+
+    def check(self, edits):
+        made = self.texts_with(edits)
+        try:
+            for path, text in made.items():
+                with open(f"{self.folder}/{path}", "w", encoding="utf-8") as it:
+                    it.write(text)
+            ran = subprocess.run(self.words(edits), cwd=self.folder, stdout=subprocess.PIPE, stderr=subprocess.STDOUT, stdin=subprocess.DEVNULL, text=True, errors="replace")
+            return Said(ran.returncode, ran.stdout, self.text_of)
+        finally:
+            for path in made:
+                with open(f"{self.folder}/{path}", "w", encoding="utf-8") as it:
+                    it.write(self.text_of(path))
+
+    def groups(self, edits):
+        """Parts the edits so that in each part no two touch one function, and none changes what stands outside functions of another's file."""
+        parts = []
+        for edit in edits:
+            touched = edit.functions(self.text_of)
+            files = {path for path, _, _ in edit.pairs}
+            if edit.refused_by:
+                touched.add(edit.refused_by[0])
+            for part in parts:
+                apart = all(
+                    not (touched - {None} & functions - {None}) and not ((None in touched or None in functions) and files & others)
+                    for _, functions, others in part
+                )
+                if apart and self.go_together([*(it for it, _, _ in part), edit]):
+                    part.append((edit, touched, files))
+                    break
+            else:
+                parts.append([(edit, touched, files)])
+        return [[edit for edit, _, _ in part] for part in parts]
+
+    def judge(self, edit, said, is_alone):
+        """A row of the table: whether the edit is refused as it says, the function, and by what; or None where it is to be tried alone."""
+        touched = edit.functions(self.text_of) - {None}
+        wanted = [edit.refused_by[0]] if edit.refused_by else sorted(touched)
+        clauses = [it for function in wanted for it in said.clauses_of(function)]
+        function = ", ".join(wanted) or "(none)"
+        if clauses and not said.is_uncompiled:
+            if edit.refused_by:
+                is_right = edit.refused_by[1] in clauses
+                return is_right, function, edit.refused_by[1] if is_right else f"another clause: {', '.join(clauses)}"
+            return False, function, f"unnamed: {', '.join(clauses)}"
+        if not is_alone:
+            return None
+        if said.is_uncompiled:
+            return False, function, "it does not compile: " + next(it for it in said.text.split("\n") if "error[" in it)[:160]
+        if said.is_proved:
+            return False, function, "NOT REFUSED"
+        if said.clauses:
+            return False, function, "elsewhere: " + "; ".join(f"{name} {', '.join(its)}" for name, its in said.clauses.items())
+        if said.named:
+            return False, function, f"by names alone, in {', '.join(sorted(said.named))}"
+        if said.is_limit:
+            return False, function, "by a limit of the prover alone"
+        if said.is_uncovered:
+            return False, function, "no contract was tried: the borrow checker does not cover the edited body"
+        return False, function, "not judged: " + " / ".join(said.text.strip().split("\n")[-3:])[:300]
+
+    def rows(self, paths, is_known_proved=False):
+        """A row of each of these edits: its name, whether it is refused as it says, the function, and by what."""
+        edits, bad = [], []
+        for path in paths:
+            try:
+                edit = Edit(self.crate, path)
+                edit.applied(self.text_of)
+                edits.append(edit)
+            except Bad as error:
+                bad.append((os.path.basename(path).removesuffix(".edit"), False, "", str(error)))
+        if not edits:
+            return bad
+        if not is_known_proved and not self.check([]).is_proved:
+            return [(it.name, False, "", "the crate is not proved without an edit") for it in edits] + bad
+        judged = {}
+        for group in self.groups(edits):
+            said = self.check(group)
+            for edit in group:
+                row = self.judge(edit, said, len(group) == 1)
+                if row is None:
+                    row = self.judge(edit, self.check([edit]), True)
+                judged[edit.name] = row
+        return [(it.name, *judged[it.name]) for it in edits] + bad
