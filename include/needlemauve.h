@@ -25,8 +25,8 @@
  * NEEDLEMAUVE_ADT bytes are at `wdt` and `adt`: the caller has to see to it.
  *
  * What a call promises is its contract, proved, in crates/needlemauve/src and crates/needlemauve_board/src; docs/LIBRARY.md
- * says it in plain words. No contract says what a call takes and gives back of memory, nor that applications retire: that is
- * tested (docs/PROMISES.md). */
+ * says it in plain words. No contract says what a call takes and gives back of memory, which is tested, nor that applications
+ * retire (docs/PROMISES.md). */
 #ifndef NEEDLEMAUVE_H
 #define NEEDLEMAUVE_H
 

@@ -1,4 +1,4 @@
-//! The public interface as it was asked for: each call, variant, field and number by its name, in the crate that has it.
+//! The public interface as it was asked for: calls, variants, fields and numbers by their names, in the crates that have them.
 //! Contracts say that the calls do what they should; here the calls are made, also at the limits of the services.
 #![tactic(auto)]
 

@@ -37,6 +37,20 @@ fn add_pipes(bus: &mut Bus, all: u16) -> Result<(), BusError> {
     Ok(())
 }
 
+/// The eighth pipe alone, subscribed to its own message id.
+fn add_eighth(bus: &mut Bus) -> Result<(), BusError> {
+    bus.add_pipe(Seat::new(7))?;
+    bus.subscribe(Seat::new(7), 0x0907)
+}
+
+/// Each of the eight pipes takes 72 packets of its own message id.
+fn fill_pipes<R: Abort>(rt: &R, bus: &mut Bus) {
+    for number in 0..8u16 {
+        let packet = telemetry(0x0900 + number);
+        same(rt, "72 fit", publish_often(bus, &packet, 72), Ok(()));
+    }
+}
+
 /// Each of the first `seats` seats receives one packet of 16 bytes.
 fn receive_each<R: Abort>(rt: &R, bus: &mut Bus, seats: u8) {
     let mut room = [0; 2048];
@@ -65,16 +79,8 @@ fn a_slot_is_free_with_its_last_reader(rt: HostRuntime) {
         Ok(()),
     );
     same(&rt, "none waits", bus.free(), 576);
-}
-
-#[test]
-fn all_slots(rt: HostRuntime) {
-    let mut bus = Bus::new(rt.alloc()).expect(&rt, "a bus");
-    same(&rt, "eight pipes", add_pipes(&mut bus, 0x0883), Ok(()));
-    for number in 0..8u16 {
-        let packet = telemetry(0x0900 + number);
-        same(&rt, "72 fit", publish_often(&mut bus, &packet, 72), Ok(()));
-    }
+    same(&rt, "it comes again", add_eighth(&mut bus), Ok(()));
+    fill_pipes(&rt, &mut bus);
     same(&rt, "no slot is free", bus.free(), 0);
 }
 

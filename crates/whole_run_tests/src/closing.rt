@@ -1,6 +1,6 @@
-//! A run closes its host however it ends: what runs then retires, once.
+//! A run closes its host however it ends, and so does the close of a fed host: what runs then retires, once.
 
-use crate::leaving::retirements_of;
+use crate::leaving::{retirements_of, retirements_when_fed};
 use crate::two_failures::NO_ENTRIES;
 use flight_core::{Report, RunError};
 use lc_model::{Limited, Pieces};
@@ -73,4 +73,13 @@ fn retire<R: Abort + AllocGlobal>(rt: &R, rows: &[ClosingRow]) {
 #[test]
 fn what_runs_retires_however_the_run_ends(rt: HostRuntime) {
     retire(&rt, ROWS);
+}
+
+#[test]
+fn what_runs_retires_when_a_fed_host_closes(rt: HostRuntime) {
+    let schedule = parse_schedule(rt.alloc(), NO_ENTRIES).expect(&rt, "a schedule");
+    let mut room = [0; 168];
+    let mut sink = Limited::new(&mut room, 168);
+    let found = retirements_when_fed(rt.alloc(), &schedule, START, &mut sink).expect(&rt, "memory");
+    assert_eq!(rt; found, 1, "retirements");
 }

@@ -1,10 +1,10 @@
-//! A run whose counter reports how often it retired.
+//! A run, and a fed host, whose counter reports how often it retired.
 
 ghost use Rattle.std.specs.Prelude.{◌≡◌, false, None};
 
 use app_host::{App, Services};
 use command_counter::Counter;
-use flight_core::{Report, RunError, run_within};
+use flight_core::{FedHost, Report, RunError, run_within};
 use flight_profile::add;
 use lc_model::{Limited, Pieces, Seat};
 use schedules::Schedule;
@@ -73,4 +73,25 @@ pub fn retirements_of(
     add(&mut stock, schedule, b"COUNTER", counter)?;
     let answer = run_within(alloc, &[], schedule, stock, source, sink, u64::from(reads));
     Ok((answer, retirements.get()))
+}
+
+/// Feeds a host without texts, with a counter in stock, a stream, handles its first record, and closes the host. Returns how often the
+/// counter retired. Out of memory for the host is the only error.
+pub fn retirements_when_fed(
+    alloc: Global,
+    schedule: &Schedule,
+    stream: &[u8],
+    sink: &mut Limited<'_>,
+) -> Result<u32, AllocError> {
+    let retirements = Rc::new(alloc, Cell::new(0))?;
+    let mut stock: Vec<Box<Watched>> = Vec::new(alloc);
+    let counter = Box::new(alloc, Watched::new(retirements.clone()?))?;
+    add(&mut stock, schedule, b"COUNTER", counter)?;
+    let Ok(mut fed) = FedHost::new(alloc, &[], stock) else {
+        return Err(AllocError);
+    };
+    fed.feed(stream);
+    let _handled = fed.handle(sink);
+    fed.close();
+    Ok(retirements.get())
 }
