@@ -7,7 +7,7 @@ from edits import Bad, Edit, function_at
 from repository import ROOT
 
 # What the checker says where a proof names something that an edit took away.
-BY_NAME = re.compile(r"has no field|is not in scope|has no `|was not admitted|is not a field")
+BY_NAME = re.compile(r"has no field|is not in scope|has no `|was not admitted|is not a field|is no name")
 
 
 def plain(parts):
@@ -36,7 +36,7 @@ class Said:
     """What a check says: by function, the clauses that it could not show, in order."""
 
     def __init__(self, status, text, text_of):
-        self.is_proved, self.text = status == 0 and bool(re.search(r"logic=proved|^only=(\d+) (?:proved=\1|holes=0)$", text, re.M)), text
+        self.is_proved, self.text = status == 0 and bool(re.search(r"logic=proved|^only=(\d+) (?:proved=\1|holes=0)$|^holes=0$", text, re.M)), text
         self.is_uncompiled = bool(re.search(r"\berror\[[\w-]+\]", text))
         self.is_uncovered = "ahead of the check: " in text
         self.is_limit = status == 3 or bool(re.search(r"antt ran out of|outgrew the memory limit|stopped at the step limit", text))
@@ -51,10 +51,11 @@ class Said:
         if clause_of(goal) not in clauses:
             clauses.append(clause_of(goal))
 
-    def clauses_of(self, function):
-        """Those of a function; where its proof stands with its type's, in another module, those of the one function of its name."""
-        if function in self.clauses:
-            return self.clauses[function]
+    def clauses_of(self, function, is_alone):
+        """Those of a function; of an edit that is tried alone, where its proof stands with its type's, in another module, those of the
+        one function of its name."""
+        if function in self.clauses or not is_alone:
+            return self.clauses.get(function, [])
         alike = [its for name, its in self.clauses.items() if name.split("::")[-1] == function.split("::")[-1]]
         return alike[0] if len(alike) == 1 else []
 
@@ -110,33 +111,45 @@ class Trial:
         except Bad:
             return False
 
-    def words(self, edits):
-        """The check of the crate with these edits."""
+    def words(self, edits, looked_at):
+        """The check of the crate with these edits, which looks at least at the functions that those `looked_at` name."""
         return ["rt", "check", "--jobs", "1", *(["--allow-holes"] if edits else [])]
 
-    def check(self, edits):
+    def check(self, edits, looked_at):
         made = self.texts_with(edits)
         try:
             for path, text in made.items():
                 with open(f"{self.folder}/{path}", "w", encoding="utf-8") as it:
                     it.write(text)
-            ran = subprocess.run(self.words(edits), cwd=self.folder, stdout=subprocess.PIPE, stderr=subprocess.STDOUT, stdin=subprocess.DEVNULL, text=True, errors="replace")
+            ran = subprocess.run(self.words(edits, looked_at), cwd=self.folder, stdout=subprocess.PIPE, stderr=subprocess.STDOUT, stdin=subprocess.DEVNULL, text=True, errors="replace")
             return Said(ran.returncode, ran.stdout, self.text_of)
         finally:
             for path in made:
                 with open(f"{self.folder}/{path}", "w", encoding="utf-8") as it:
                     it.write(self.text_of(path))
 
+    def is_far_reaching(self, edit):
+        """Whether it changes more outside functions than what a file uses: functions of other files may depend on that."""
+        outside = []
+        for path, old, _ in edit.pairs:
+            text = self.text_of(path)
+            if function_at(path, text, text[: text.find(old)].count("\n")) is None:
+                outside.append(old.strip())
+        return any(not old.startswith(("use ", "ghost use ")) for old in outside)
+
     def groups(self, edits):
         """Parts the edits so that in each part no two touch one function, and none changes what stands outside functions of another's file."""
         parts = []
         for edit in edits:
             touched = edit.functions(self.text_of)
+            if self.is_far_reaching(edit):
+                parts.append([(edit, {None, *touched}, {None})])
+                continue
             files = {path for path, _, _ in edit.pairs}
             if edit.refused_by:
                 touched.add(edit.refused_by[0])
             for part in parts:
-                apart = all(
+                apart = not any(None in others for _, _, others in part) and all(
                     not (touched - {None} & functions - {None}) and not ((None in touched or None in functions) and files & others)
                     for _, functions, others in part
                 )
@@ -151,9 +164,9 @@ class Trial:
         """A row of the table: whether the edit is refused as it says, the function, and by what; or None where it is to be tried alone."""
         touched = edit.functions(self.text_of) - {None}
         wanted = [edit.refused_by[0]] if edit.refused_by else sorted(touched)
-        clauses = [it for function in wanted for it in said.clauses_of(function)]
+        clauses = [it for function in wanted for it in said.clauses_of(function, is_alone)]
         function = ", ".join(wanted) or "(none)"
-        if clauses and not said.is_uncompiled:
+        if clauses and not said.is_uncompiled and not said.is_proved:
             if edit.refused_by:
                 is_right = edit.refused_by[1] in clauses
                 return is_right, function, edit.refused_by[1] if is_right else f"another clause: {', '.join(clauses)}"
@@ -174,7 +187,7 @@ class Trial:
             return False, function, "no contract was tried: the borrow checker does not cover the edited body"
         return False, function, "not judged: " + " / ".join(said.text.strip().split("\n")[-3:])[:300]
 
-    def rows(self, paths, is_known_proved=False):
+    def rows(self, paths):
         """A row of each of these edits: its name, whether it is refused as it says, the function, and by what."""
         edits, bad = [], []
         for path in paths:
@@ -186,14 +199,14 @@ class Trial:
                 bad.append((os.path.basename(path).removesuffix(".edit"), False, "", str(error)))
         if not edits:
             return bad
-        if not is_known_proved and not self.check([]).is_proved:
-            return [(it.name, False, "", "the crate is not proved without an edit") for it in edits] + bad
+        if not self.check([], edits).is_proved:
+            return [(it.name, False, "", "it is not proved without an edit") for it in edits] + bad
         judged = {}
         for group in self.groups(edits):
-            said = self.check(group)
+            said = self.check(group, group)
             for edit in group:
                 row = self.judge(edit, said, len(group) == 1)
                 if row is None:
-                    row = self.judge(edit, self.check([edit]), True)
+                    row = self.judge(edit, self.check([edit], [edit]), True)
                 judged[edit.name] = row
         return [(it.name, *judged[it.name]) for it in edits] + bad

@@ -18,7 +18,7 @@ import re
 
 from repository import ROOT
 
-FUNCTION = re.compile(r"\s*(?:pub(?:\([a-z]+\))?\s+)?(?:const\s+)?(?:unsafe\s+)?fn\s+([a-z_0-9]+)")
+FUNCTION = re.compile(r'\s*(?:pub(?:\([a-z]+\))?\s+)?(?:const\s+)?(?:unsafe\s+)?(?:extern\s+"C"\s+)?fn\s+([a-z_0-9]+)')
 IN_GATE = "edits/gate"
 FOLDERS = (IN_GATE, "edits")
 
