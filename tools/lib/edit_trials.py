@@ -51,10 +51,10 @@ class Said:
         if clause_of(goal) not in clauses:
             clauses.append(clause_of(goal))
 
-    def clauses_of(self, function, is_alone):
-        """Those of a function; of an edit that is tried alone, where its proof stands with its type's, in another module, those of the
-        one function of its name."""
-        if function in self.clauses or not is_alone:
+    def clauses_of(self, function, is_only_name):
+        """Those of a function; where no other edit of the check names one of its name, and its proof stands with its type's, in another
+        module, those of the one function of its name."""
+        if function in self.clauses or not is_only_name:
             return self.clauses.get(function, [])
         alike = [its for name, its in self.clauses.items() if name.split("::")[-1] == function.split("::")[-1]]
         return alike[0] if len(alike) == 1 else []
@@ -160,11 +160,12 @@ class Trial:
                 parts.append([(edit, touched, files)])
         return [[edit for edit, _, _ in part] for part in parts]
 
-    def judge(self, edit, said, is_alone):
+    def judge(self, edit, said, group):
         """A row of the table: whether the edit is refused as it says, the function, and by what; or None where it is to be tried alone."""
         touched = edit.functions(self.text_of) - {None}
-        wanted = [edit.refused_by[0]] if edit.refused_by else sorted(touched)
-        clauses = [it for function in wanted for it in said.clauses_of(function, is_alone)]
+        wanted, is_alone = [edit.refused_by[0]] if edit.refused_by else sorted(touched), len(group) == 1
+        names = [it.refused_by[0].split("::")[-1] for it in group if it.refused_by]
+        clauses = [it for function in wanted for it in said.clauses_of(function, is_alone or names.count(function.split("::")[-1]) == 1)]
         function = ", ".join(wanted) or "(none)"
         if clauses and not said.is_uncompiled and not said.is_proved:
             if edit.refused_by:
@@ -187,7 +188,7 @@ class Trial:
             return False, function, "no contract was tried: the borrow checker does not cover the edited body"
         return False, function, "not judged: " + " / ".join(said.text.strip().split("\n")[-3:])[:300]
 
-    def rows(self, paths):
+    def rows(self, paths, has_control=True):
         """A row of each of these edits: its name, whether it is refused as it says, the function, and by what."""
         edits, bad = [], []
         for path in paths:
@@ -199,14 +200,14 @@ class Trial:
                 bad.append((os.path.basename(path).removesuffix(".edit"), False, "", str(error)))
         if not edits:
             return bad
-        if not self.check([], edits).is_proved:
+        if has_control and not self.check([], edits).is_proved:
             return [(it.name, False, "", "it is not proved without an edit") for it in edits] + bad
         judged = {}
         for group in self.groups(edits):
             said = self.check(group, group)
             for edit in group:
-                row = self.judge(edit, said, len(group) == 1)
+                row = self.judge(edit, said, group)
                 if row is None:
-                    row = self.judge(edit, self.check([edit], [edit]), True)
+                    row = self.judge(edit, self.check([edit], [edit]), [edit])
                 judged[edit.name] = row
         return [(it.name, *judged[it.name]) for it in edits] + bad
