@@ -21,8 +21,9 @@
  *
  * What a call tests. The functions of this header test what they can see: for NULL in the place of something that has a length,
  * or is written to, they return NEEDLEMAUVE_NULL, and for a length above PTRDIFF_MAX NEEDLEMAUVE_TOO_LONG. Then only `told` is
- * written, unless it is NULL; needlemauve_host_rule and needlemauve_host_figures write nothing. No call can test that as many bytes are there as the length says, nor that NEEDLEMAUVE_WDT and
- * NEEDLEMAUVE_ADT bytes are at `wdt` and `adt`: the caller has to see to it.
+ * written, unless it is NULL; needlemauve_host_rule and needlemauve_host_figures write nothing. No call can test that as many
+ * bytes are there as the length says, nor that NEEDLEMAUVE_WDT and NEEDLEMAUVE_ADT bytes are at `wdt` and `adt`: the caller has
+ * to see to it.
  *
  * What a call promises is its contract, proved, in crates/needlemauve/src and crates/needlemauve_board/src; docs/LIBRARY.md
  * says it in plain words. No contract says what a call takes and gives back of memory, which is tested, nor that applications
@@ -75,9 +76,8 @@ extern "C" {
 #define NEEDLEMAUVE_RECORDS 3u /* records of the stream, from 1; all that were handled where the code is 0; 0 where it is 144 */
 #define NEEDLEMAUVE_NOT_RUN 4u /* nothing was run; the schedule's line at fault, from 1, or 0 */
 
-/* The verdict on a table file. code 0: sound; 51 to 56: its headers; 61 to 81: its image; NEEDLEMAUVE_NO_TABLE, or a code of the
- * header's own. entry: the entry of the image that
- * is at fault, from 0, or 65,535. */
+/* The verdict on a table file. code 0: sound; 51 to 56: its headers; 61 to 81: its image; NEEDLEMAUVE_NO_TABLE, or a code of this
+ * header's tests. entry: the entry of the image that is at fault, from 0, or 65,535. */
 struct needlemauve_verdict {
   uint32_t code;
   uint32_t entry;
@@ -166,7 +166,7 @@ uint32_t needlemauve_compile(const uint8_t *text, size_t length, uint8_t wdt[NEE
  * told->written bytes of the output are the packets that were sent (with 144 the last one may be cut), and the bytes after them
  * are as they were. 0: the stream's end; 1 to 42: a text doesn't compile; 131 to 133: the schedule is invalid; 141: no record;
  * 142: the stream ends inside one; 144: the output has no room for more; NEEDLEMAUVE_LENGTHS, NEEDLEMAUVE_NO_MEMORY, or a code of
- * the header's own. */
+ * this header's tests. */
 uint32_t needlemauve_run(const uint8_t *texts, size_t size, const size_t *lengths, size_t count, const uint8_t *schedule,
                          size_t schedule_length, const uint8_t *stream, size_t stream_length, uint8_t *output, size_t room,
                          struct needlemauve_outcome *told);
@@ -181,10 +181,10 @@ uint32_t needlemauve_host_new(const uint8_t *texts, size_t size, const size_t *l
 
 /* Takes bytes of the stream, as they come, and handles one record, in the time of that record; returns told->code. The first
  * told->taken bytes were taken, to be held after those that are held (73,739 at most); what the record leads to are the first
- * told->written bytes of the output (with 144 cut), which has `size` bytes, no fewer than the host's room. 0: a record was handled, and another
+ * told->written bytes of the output, which has `size` bytes, no fewer than the host's room. 0: a record was handled, and another
  * may be held: call again, with the bytes that weren't taken, or with none. NEEDLEMAUVE_MORE: no whole record is held. 141: what
- * comes next is no record, and nothing after it is handled. 144: the record leads to more than the room takes; the host handles
- * no record any more. */
+ * comes next is no record, and nothing after it is handled. 144: the record leads to more than the room takes, so that the last
+ * packet may be cut; the host handles no record any more. */
 uint32_t needlemauve_host_feed(struct needlemauve_host *host, const uint8_t *bytes, size_t length, uint8_t *output, size_t size,
                                struct needlemauve_handled *told);
 
