@@ -189,60 +189,58 @@ fn flag_word<'a>(alloc: Global, name: &'a str, help: &'a str) -> Arg<'a> {
         .help(help)
 }
 
+/// The options of an import's times, each with its help.
+const TIMES: [(&str, &str); 5] = [
+    (
+        "time-at",
+        "The byte of each packet at which its time stands [6]",
+    ),
+    ("epoch", "The seconds that are taken from each time [0]"),
+    (
+        "step",
+        "The seconds from packet to packet, where they have no time",
+    ),
+    (
+        "tick",
+        "The seconds from tick to tick; no ticks where it isn't given",
+    ),
+    (
+        "start",
+        "The rule text whose tables and start stand in front",
+    ),
+];
+
+/// The flags of an import that choose packets, each with its help.
+const CHOICES: [(&str, &str); 4] = [
+    ("marked", "A marker (1ACFFC1D) stands before each packet"),
+    (
+        "resync",
+        "Skips bytes that begin no plausible packet, and says which",
+    ),
+    ("keep-idle", "Idle packets become records, too"),
+    ("keep-faulty", "Packets with a fault become records, too"),
+];
+
 /// An import with the options that choose packets.
 fn with_choices<'a>(alloc: Global, command: Command<'a>) -> Result<Command<'a>, AllocError> {
-    command
-        .arg(flag_word(
-            alloc,
-            "marked",
-            "A marker (1ACFFC1D) stands before each packet",
-        ))?
-        .arg(flag_word(
-            alloc,
-            "resync",
-            "Skips bytes that begin no plausible packet, and says which",
-        ))?
-        .arg(flag_word(alloc, "keep-idle", "Idle packets become records, too"))?
-        .arg(flag_word(
-            alloc,
-            "keep-faulty",
-            "Packets with a fault become records, too",
-        ))?
-        .arg(option_word(
-            alloc,
-            "only",
-            "Packets of these message ids alone, parted by commas",
-        ))
+    let mut command = command;
+    for (name, help) in &CHOICES {
+        command = command.arg(flag_word(alloc, name, help))?;
+    }
+    command.arg(option_word(
+        alloc,
+        "only",
+        "Packets of these message ids alone, parted by commas",
+    ))
 }
 
 /// An import with the options of times.
 fn with_times<'a>(alloc: Global, command: Command<'a>) -> Result<Command<'a>, AllocError> {
-    command
-        .arg(option_word(
-            alloc,
-            "time-at",
-            "The byte of each packet at which its time stands [6]",
-        ))?
-        .arg(option_word(
-            alloc,
-            "epoch",
-            "The seconds that are taken from each time [0]",
-        ))?
-        .arg(option_word(
-            alloc,
-            "step",
-            "The seconds from packet to packet, where they have no time",
-        ))?
-        .arg(option_word(
-            alloc,
-            "tick",
-            "The seconds from tick to tick; no ticks where it isn't given",
-        ))?
-        .arg(option_word(
-            alloc,
-            "start",
-            "The rule text whose tables and start stand in front",
-        ))
+    let mut command = command;
+    for (name, help) in &TIMES {
+        command = command.arg(option_word(alloc, name, help))?;
+    }
+    Ok(command)
 }
 
 /// The instant of second 0.

@@ -8,6 +8,7 @@ mod Leaving
 mod Stands
 pub mod Judging
 pub mod TwoTables
+mod SameIds
 pub mod Adopting
 pub mod DefaultTables
 pub mod TablesBegun

@@ -1,22 +1,28 @@
 //! Adoption: tables come into force when an image is activated and belongs together with that of the other table (cFS Limit
 //! Checker user's guide, tables).
 
-ghost use Rattle.std.specs.Prelude.{◌≡◌, ◌||◌, IfSome, IsTrue, is_some, if◌then◌else◌, option_map};
+ghost use Rattle.std.specs.Prelude.{◌≡◌, ◌||◌, true, IfSome, IsSomeAnd, IsTrue, is_some, if◌then◌else◌, option_map};
 ghost use Rattle.lc_model.specs.declared.kind.Kind.TheVariants.{Wdt, Adt};
 ghost use Rattle.lc_model.specs.LimitChecker.Steps.{pair_to_adopt};
+ghost use Rattle.lc_model.specs.Tables.Half.{IsMatch};
+ghost use Rattle.lc_model.specs.Tables.InForce.{layouts};
 ghost use Rattle.lc_model.specs.Tables.Slot as model;
 ghost use Rattle.lc_model.specs.Tables.Slot.{Activated, taken, waiting_at};
+ghost use Rattle.lc_model.specs.Tables.Spelled.{spelled_rules, spelled_terms};
 ghost use Rattle.lc_model.specs.Kept.GoesWith.{subscriptions_of};
 ghost use Rattle.lc_model.specs.Kept.Summary.{LcState};
 ghost use Rattle.lc_model.specs.Services.Bus.{Queue, pipe_at, with_pipe};
 ghost use Rattle.lc_model.specs.Services.Tables.{slot_at, slot_changed, table_at};
+ghost use Rattle.app_host.specs.Resubscribing.{mids_of};
 ghost use Rattle.app_host.specs.Shared.{on_board};
 ghost use Rattle.limit_checker.specs.Housekeeping.{both_taken, own_adopted, pair_at, MayRenew};
 ghost use Rattle.limit_checker.specs.Adoption.{are_matching, pair_of, HasSoundSlot, IsSoundPair};
+ghost use Rattle.limit_engine.specs.Engine.{with_tables};
 
 use app_host::{Services, subscribe_to, unsubscribe_from};
-use lc_model::{Kind, Seat, mids};
+use lc_model::{Kind, Seat, Term, mids};
 use limit_engine::Engine;
+use packet_bus::Bus;
 use table_file::preamble;
 use table_validator::{ValidImage, judged_before};
 use tbl_service::{Slot, Stage, Tables};
@@ -126,6 +132,51 @@ fn take_activated(tables: &mut Tables, slot: Slot)
     }
 }
 
+/// Whether the watchpoints of a table have the message ids of these, in the same order.
+fn has_ids_of(wdt: &ValidImage<'_>, terms: &[Term]) -> bool
+    requires { wdt.now.kind ≡ Wdt }
+    ensures { result ≡ true → mids_of (spelled_terms wdt.now.bytes) ≡ mids_of terms.now }
+{
+    if preamble::own_count(wdt.image()) as usize != terms.len() {
+        return false;
+    }
+    for number in 0..terms.len() {
+        if wdt.watchpoint(number).message_id() != terms[number].mid {
+            return false;
+        }
+    }
+    true
+}
+
+/// Puts a pair of tables in force: the pipe hears the message ids of requests and of the new watchpoints alone. New tables mostly
+/// watch the packets that the old ones watched; then no subscription changes.
+fn put_in_force(
+    engine: &mut Engine,
+    bus: &mut Bus,
+    seat: Seat,
+    wdt: &ValidImage<'_>,
+    adt: &ValidImage<'_>,
+)
+    requires wdt { wdt.now.kind ≡ Wdt }
+    requires adt { adt.now.kind ≡ Adt }
+    requires matching { IsMatch wdt.now.bytes adt.now.bytes }
+    requires pipe { IsSomeAnd (pipe_at seat bus.old)
+        (λ (queue : Queue). queue.subscriptions ≡ subscriptions_of (LcState engine.old)) }
+    ensures engine { engine.new ≡ with_tables (spelled_terms wdt.now.bytes)
+        (spelled_rules layouts wdt.now.bytes adt.now.bytes) engine.old }
+    ensures bus { IfSome (pipe_at seat bus.old)
+        (λ (queue : Queue). bus.new ≡ with_pipe seat bus.old
+        (record queue { subscriptions = subscriptions_of (LcState engine.new) })) }
+{
+    if has_ids_of(wdt, engine.watchpoints()) {
+        engine.adopt(wdt, adt);
+        return;
+    }
+    unsubscribe_from(bus, seat, &REQUESTS, engine.watchpoints());
+    engine.adopt(wdt, adt);
+    subscribe_to(bus, seat, &REQUESTS, engine.watchpoints());
+}
+
 /// Adopts the pair of images of a seat (`pair_to_adopt`), and returns whether there is one: the engine has these tables,
 /// without any history, what waits activated is taken, and the pipe hears the message ids of requests and of the new
 /// watchpoints alone.
@@ -146,9 +197,7 @@ pub(crate) fn adopt(engine: &mut Engine, services: &mut Services, seat: Seat) ->
     let Some((wdt, adt)) = pair_to_adopt(&services.tables, wdt_slot, adt_slot) else {
         return false;
     };
-    unsubscribe_from(&mut services.bus, seat, &REQUESTS, engine.watchpoints());
-    engine.adopt(&wdt, &adt);
-    subscribe_to(&mut services.bus, seat, &REQUESTS, engine.watchpoints());
+    put_in_force(engine, &mut services.bus, seat, &wdt, &adt);
     take_activated(&mut services.tables, wdt_slot);
     take_activated(&mut services.tables, adt_slot);
     true

@@ -175,7 +175,7 @@ impl Engine {
         self.mode
     }
 
-    /// The words that the last sample evaluated, EQUAL included: at most 32 for each of 176 rules.
+    /// The words of the equations that the last sample took, EQUAL included: at most 32 for each of 176 rules.
     pub fn steps(&self) -> usize
         ensures steps { result ≡ self.now.effort.steps }
         ensures few { result ≤ most_steps }

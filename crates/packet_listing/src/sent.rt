@@ -10,6 +10,7 @@ ghost use Rattle.packet_listing.specs.Told.{before_rules, event_of, event_told, 
 use crate::event::EVENT_SIZE;
 use lc_model::packet::{REQUEST_SIZE, message_id};
 use lc_model::{EventKind, LcMode, Moment, mids, u16_at, u32_at};
+use memchr::memchr;
 
 /// The number of bytes in a housekeeping packet before those of the rules.
 const BEFORE_RULES: usize = 16;
@@ -48,7 +49,10 @@ pub enum Sent<'a> {
 fn text_length(field: &[u8]) -> usize
     ensures { result ≡ position_or_len (λ b. b == 0) field.now }
 {
-    field.iter().take_while(|byte| **byte != 0).count()
+    match memchr(0, field) {
+        Some(place) => place,
+        None => field.len(),
+    }
 }
 
 /// The bytes before the first zero byte.

@@ -8,13 +8,13 @@ use std::io::Read;
 /// A source over a reader. Contracts know its bytes where they know the reader's, so not those of a file. Each error of the
 /// reader is a fault, that of an interrupted call too.
 #[derive(Drop)]
-pub struct Reading<R: Drop> {
+pub struct Reading<R> {
     reader: R,
     reads: u64,
     failed: bool,
 }
 
-impl<R: Read + Drop> Reading<R> {
+impl<R: Read> Reading<R> {
     /// A source over this reader, before its first read.
     pub fn new(reader: R) -> Reading<R>
         ensures { ⟦<Reading<R> as ByteSource>⟧.source result ≡
@@ -28,7 +28,7 @@ impl<R: Read + Drop> Reading<R> {
     }
 }
 
-impl<R: Read + Drop> ByteSource for Reading<R> {
+impl<R: Read> ByteSource for Reading<R> {
     ghost source = { λ reading.
         record {
           rest = R.remaining reading.reader;

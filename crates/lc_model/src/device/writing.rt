@@ -8,12 +8,12 @@ use std::io::Write;
 /// A sink over a writer. Contracts know its bytes where they know the writer's, so not those of a file. Each error of the
 /// writer is a fault, that of an interrupted call too, and so is a write that takes no byte.
 #[derive(Drop)]
-pub struct Writing<W: Drop> {
+pub struct Writing<W> {
     writer: W,
     failed: bool,
 }
 
-impl<W: Write + Drop> Writing<W> {
+impl<W: Write> Writing<W> {
     /// A sink over this writer, before its first write.
     pub fn new(writer: W) -> Writing<W>
         ensures { ⟦<Writing<W> as ByteSink>⟧.sink result ≡
@@ -26,7 +26,7 @@ impl<W: Write + Drop> Writing<W> {
     }
 }
 
-impl<W: Write + Drop> ByteSink for Writing<W> {
+impl<W: Write> ByteSink for Writing<W> {
     ghost sink = { λ writing.
         record { gained = W.contents writing.writer; failed = writing.failed } };
 
