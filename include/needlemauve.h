@@ -7,7 +7,7 @@
  * it with your program, or put a pool of your own into it. They also call memcpy, memmove and memset.
  *
  * Processors. The archives for x86-64 run on every processor of that kind: they use SSE2 and nothing that came after it. Those for
- * aarch64 run on every ARMv8-A. There is none for a processor of 32 bits.
+ * aarch64 are built for every ARMv8-A; no test of ours runs them. There is none for a processor of 32 bits.
  *
  * Who owns what. All memory that a call is given stays the caller's. A call reads and writes it while it runs and keeps no pointer
  * to it afterwards; it gives back what it took by memory.c before it returns. There is one exception: a host that was made holds
@@ -20,10 +20,11 @@
  * writes to (`told`, `wdt`, `adt`, `output`, `host`) overlaps nothing else that the call is given. Bytes of length 0 may be NULL.
  *
  * What a call tests. The functions of this header test what they can see: for NULL in the place of something that has a length,
- * or is written to, they return NEEDLEMAUVE_NULL, and for a length above PTRDIFF_MAX NEEDLEMAUVE_TOO_LONG. Then only `told` is
- * written, unless it is NULL; needlemauve_host_rule and needlemauve_host_figures write nothing. No call can test that as many
- * bytes are there as the length says, nor that NEEDLEMAUVE_WDT and NEEDLEMAUVE_ADT bytes are at `wdt` and `adt`: the caller has
- * to see to it.
+ * or is written to, they return NEEDLEMAUVE_NULL; for a length above PTRDIFF_MAX (of `lengths`, its bytes) NEEDLEMAUVE_TOO_LONG;
+ * for a handle that already holds a host, or holds none, NEEDLEMAUVE_HAS_HOST or NEEDLEMAUVE_NO_HOST. Then only `told` is
+ * written, unless it is NULL; needlemauve_host_rule and needlemauve_host_figures write nothing, and needlemauve_host_close, which
+ * returns nothing, does nothing. No call can test that as many bytes are there as the length says, nor that NEEDLEMAUVE_WDT and
+ * NEEDLEMAUVE_ADT bytes are at `wdt` and `adt`: the caller has to see to it.
  *
  * What a call promises is its contract, proved, in crates/needlemauve/src and crates/needlemauve_board/src; docs/LIBRARY.md
  * says it in plain words. No contract says what a call takes and gives back of memory, which is tested, nor that applications
@@ -141,8 +142,8 @@ struct needlemauve_rule {
 };
 
 /* The figures of a host: the records that were handled and the bytes that were written; the number of the rule text in force, from
- * 0, or NEEDLEMAUVE_NO_TEXT; the mode of its Limit Checker, active (1), passive (2), disabled (3), or 0 if none runs; and how many
- * rules are in force. */
+ * 0, which is the first whose two compiled images are active, byte for byte, or NEEDLEMAUVE_NO_TEXT; the mode of its Limit Checker,
+ * active (1), passive (2), disabled (3), or 0 if none runs; and how many rules are in force. */
 #define NEEDLEMAUVE_NO_TEXT UINT64_MAX
 struct needlemauve_figures {
   uint64_t records, written, text;
@@ -152,8 +153,8 @@ struct needlemauve_figures {
 /* The version of the archive, as NEEDLEMAUVE_VERSION_NUMBER is that of this header. */
 uint32_t needlemauve_version(void);
 
-/* Judges a table file as the host does on board, but for the table's name in it, which decides on board which table it is for.
- * Returns told->code. */
+/* Judges a table file: it accepts those that the host accepts on board, but for the table's name in it, which decides there which
+ * table it is for. (An image of a wrong size is 63 here, and 114 on board.) Returns told->code. */
 uint32_t needlemauve_validate(uint32_t kind, const uint8_t *file, size_t length, struct needlemauve_verdict *told);
 
 /* Compiles a rule text into the files of its two tables, and returns told->refusal.code. If that isn't 0, both files are as they
@@ -165,8 +166,8 @@ uint32_t needlemauve_compile(const uint8_t *text, size_t length, uint8_t wdt[NEE
  * told->ending.code. The texts lie one after the other: the first has lengths[0] bytes, and all together `size`. The first
  * told->written bytes of the output are the packets that were sent (with 144 the last one may be cut), and the bytes after them
  * are as they were. 0: the stream's end; 1 to 42: a text doesn't compile; 131 to 133: the schedule is invalid; 141: no record;
- * 142: the stream ends inside one; 144: the output has no room for more; NEEDLEMAUVE_LENGTHS, NEEDLEMAUVE_NO_MEMORY, or a code of
- * this header's tests. */
+ * 142: the stream ends inside one; 144: the output has no room for more; 145: the stream has not ended after 2^32 reads of 8,192
+ * bytes; NEEDLEMAUVE_LENGTHS, NEEDLEMAUVE_NO_MEMORY, or a code of this header's tests. */
 uint32_t needlemauve_run(const uint8_t *texts, size_t size, const size_t *lengths, size_t count, const uint8_t *schedule,
                          size_t schedule_length, const uint8_t *stream, size_t stream_length, uint8_t *output, size_t room,
                          struct needlemauve_outcome *told);
@@ -179,23 +180,25 @@ uint32_t needlemauve_host_new(const uint8_t *texts, size_t size, const size_t *l
                               size_t schedule_length, size_t room, struct needlemauve_host *host,
                               struct needlemauve_made *told);
 
-/* Takes bytes of the stream, as they come, and handles one record, in the time of that record; returns told->code. The first
- * told->taken bytes were taken, to be held after those that are held (73,739 at most); what the record leads to are the first
- * told->written bytes of the output, which has `size` bytes, no fewer than the host's room. 0: a record was handled, and another
- * may be held: call again, with the bytes that weren't taken, or with none. NEEDLEMAUVE_MORE: no whole record is held. 141: what
- * comes next is no record, and nothing after it is handled. 144: the record leads to more than the room takes, so that the last
- * packet may be cut; the host handles no record any more. */
+/* Takes bytes of the stream, as they come, and handles one record at most; now and then it also moves what is held. Returns
+ * told->code. The first told->taken bytes were taken, to be held after those that are held (73,739 at most); what the record leads
+ * to are the first told->written bytes of the output, which has `size` bytes, no fewer than the host's room. 0: a record was
+ * handled, and another may be held: call again, with the bytes that weren't taken, or with none. NEEDLEMAUVE_MORE: no whole record
+ * is held. 141: what comes next is no record, and nothing after it is handled. 144: the record leads to more than the room takes,
+ * so that the last packet may be cut; the host handles no record any more. NEEDLEMAUVE_SMALL: the output is smaller than the room,
+ * and nothing was done; or a code of this header's tests. */
 uint32_t needlemauve_host_feed(struct needlemauve_host *host, const uint8_t *bytes, size_t length, uint8_t *output, size_t size,
                                struct needlemauve_handled *told);
 
 /* How the rule with this number, from 0, stands at the Limit Checker that runs (of several the one on the lowest seat). Returns 0;
- * or NEEDLEMAUVE_NO_CHECKER or NEEDLEMAUVE_NO_RULE, and writes nothing. */
+ * or NEEDLEMAUVE_NO_CHECKER, NEEDLEMAUVE_NO_RULE, or a code of this header's tests, and writes nothing. */
 uint32_t needlemauve_host_rule(const struct needlemauve_host *host, uint16_t rule, struct needlemauve_rule *told);
 
-/* The figures of a host, after the records so far. Returns 0. */
+/* The figures of a host, after the records so far. Returns 0; or NEEDLEMAUVE_NO_HOST or NEEDLEMAUVE_NULL, and writes nothing. */
 uint32_t needlemauve_host_figures(const struct needlemauve_host *host, struct needlemauve_figures *told);
 
-/* Closes a host: all applications retire, and all its memory is given back. The handle holds nothing afterwards. */
+/* Closes a host: all applications retire (no contract or test of ours says it), and all its memory is given back. The handle holds
+ * nothing afterwards. */
 void needlemauve_host_close(struct needlemauve_host *host);
 
 /* ---- records of a stream, whose layout is in docs/FORMATS.md */

@@ -210,6 +210,29 @@ static void begin(void)
   record(2, start, 0);
 }
 
+/* The same of a host that was made: it stays as it was, and handles what comes next. */
+static void misuse_of_a_host(const uint8_t *text, size_t size, const uint8_t *plan)
+{
+  struct needlemauve_host host = NEEDLEMAUVE_NOTHING_YET;
+  struct needlemauve_made made;
+  struct needlemauve_handled told;
+  struct needlemauve_figures figures;
+  uint8_t *output = filled(2048);
+  CHECK(101, needlemauve_host_new(text, size, &size, 1, plan, sizeof schedule - 1, 2048, &host, &made) == 0);
+  CHECK(102, needlemauve_host_feed(&host, NULL, 1, output, 2048, &told) == NEEDLEMAUVE_NULL && told.code == NEEDLEMAUVE_NULL);
+  CHECK(103, needlemauve_host_feed(&host, stream, 1, NULL, 2048, &told) == NEEDLEMAUVE_NULL);
+  CHECK(104, needlemauve_host_feed(&host, stream, SIZE_MAX, output, 2048, &told) == NEEDLEMAUVE_TOO_LONG);
+  CHECK(105, needlemauve_host_feed(&host, stream, 1, output, SIZE_MAX, &told) == NEEDLEMAUVE_TOO_LONG);
+  CHECK(106, told.taken == 0 && told.written == 0 && is_filled(output, 2048));
+  CHECK(107, needlemauve_host_rule(&host, 0, NULL) == NEEDLEMAUVE_NULL && needlemauve_host_figures(&host, NULL) == NEEDLEMAUVE_NULL);
+  CHECK(108, needlemauve_host_feed(&host, NULL, 0, output, 2048, &told) == NEEDLEMAUVE_MORE && told.written == 0);
+  CHECK(109, needlemauve_host_feed(&host, stream, stream_length, output, 2048, &told) == 0 && told.written > 0);
+  CHECK(110, needlemauve_host_figures(&host, &figures) == 0 && figures.records == 1 && figures.written == told.written);
+  needlemauve_host_close(&host);
+  CHECK(111, host.at == NULL && needlemauve_host_figures(&host, &figures) == NEEDLEMAUVE_NO_HOST);
+  free(output);
+}
+
 /* NULL for something, and lengths that no object has, are refused by name, and nothing is written. */
 static void misuse(void)
 {
@@ -239,6 +262,14 @@ static void misuse(void)
   CHECK(59, strcmp(told.sentence.bytes, "NULL in the place of something") == 0 && is_sentence(&told.sentence));
   CHECK(57, needlemauve_run(text, one, &one, SIZE_MAX / 8, plan, 8, stream, 9, room, 8, &told) == NEEDLEMAUVE_TOO_LONG);
   CHECK(58, needlemauve_run(text, one, &one, 1, plan, 8, NULL, 0, NULL, 0, &told) == 0 && is_filled(room, sizeof room));
+  CHECK(81, needlemauve_compile(text, one, first, second, NULL) == NEEDLEMAUVE_NULL);
+  CHECK(82, needlemauve_run(text, one, &one, 1, plan, 8, stream, stream_length, room, 8, NULL) == NEEDLEMAUVE_NULL);
+  CHECK(83, needlemauve_run(text, SIZE_MAX, &one, 1, plan, 8, stream, 9, room, 8, &told) == NEEDLEMAUVE_TOO_LONG);
+  CHECK(84, needlemauve_run(text, one, &one, 1, plan, SIZE_MAX, stream, 9, room, 8, &told) == NEEDLEMAUVE_TOO_LONG);
+  CHECK(85, needlemauve_run(text, one, &one, 1, plan, 8, stream, SIZE_MAX, room, 8, &told) == NEEDLEMAUVE_TOO_LONG);
+  CHECK(86, needlemauve_run(text, one, &one, 1, plan, 8, stream, 9, room, SIZE_MAX, &told) == NEEDLEMAUVE_TOO_LONG);
+  CHECK(87, told.ending.of == NEEDLEMAUVE_NOT_RUN && told.written == 0 && is_filled(room, sizeof room));
+  CHECK(88, needlemauve_compile(NULL, 0, first, second, &compiled) == 0 && compiled.rules == 0);
   {
     struct needlemauve_host host = NEEDLEMAUVE_NOTHING_YET;
     struct needlemauve_made made;
@@ -249,7 +280,14 @@ static void misuse(void)
     CHECK(74, needlemauve_host_new(text, one, &one, 1, plan, 8, 8, &host, NULL) == NEEDLEMAUVE_NULL && host.at == NULL);
     CHECK(75, needlemauve_host_feed(NULL, stream, 1, room, 8, &handled) == NEEDLEMAUVE_NULL);
     CHECK(76, needlemauve_host_feed(&host, stream, 1, room, 8, NULL) == NEEDLEMAUVE_NULL);
+    CHECK(89, needlemauve_host_new(text, one, NULL, 1, plan, 8, 8, &host, &made) == NEEDLEMAUVE_NULL);
+    CHECK(90, needlemauve_host_new(text, one, &one, 1, NULL, 8, 8, &host, &made) == NEEDLEMAUVE_NULL);
+    CHECK(91, needlemauve_host_new(text, SIZE_MAX, &one, 1, plan, 8, 8, &host, &made) == NEEDLEMAUVE_TOO_LONG);
+    CHECK(92, needlemauve_host_new(text, one, &one, SIZE_MAX / 8, plan, 8, 8, &host, &made) == NEEDLEMAUVE_TOO_LONG);
+    CHECK(93, needlemauve_host_new(text, one, &one, 1, plan, SIZE_MAX, 8, &host, &made) == NEEDLEMAUVE_TOO_LONG);
+    CHECK(94, host.at == NULL && made.refusal.code == NEEDLEMAUVE_TOO_LONG && is_sentence(&made.sentence));
     needlemauve_host_close(NULL);
+    misuse_of_a_host(text, one, plan);
   }
   free(first);
   free(second);
