@@ -41,10 +41,10 @@ def kit():
     return os.path.dirname(subprocess.run(["rt", "doc"], stdout=subprocess.PIPE, text=True, check=True).stdout.strip())
 
 
-def library_words(top, name):
+def library_words(top, name, root="src/lib.rt"):
     """The words of `rattle` that name a crate, its libraries (the kit's, and those that `rt ci` proved and left) and the logic."""
     at_kit, every = kit(), crates(top)
-    words = ["--crate-name", name, "src/lib.rt"]
+    words = ["--crate-name", name, root]
     for it in ["std", *(it for it in every[name] if it not in every)]:
         words += ["--extern", f"{it}={at_kit}/rlibs/{it}.rlib"]
     words += ["-L", f"dependency={at_kit}/rlibs"]

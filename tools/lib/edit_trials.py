@@ -1,10 +1,15 @@
 """How edits are tried: several in one check of a copy of their crate, whose words are read function by function."""
 import os
 import re
+import shutil
 import subprocess
 
-from edits import Bad, Edit, function_at
+from archives import kit, library_words
+from edits import FUNCTION, Bad, Edit, function_at
 from repository import ROOT
+
+# The head of an impl or a trait, whose methods the prover names by the type and then by the trait.
+HEAD = re.compile(r"\s*(?:unsafe )?(?:impl(?:<.*?>)? (?:(?P<of>[A-Za-z]\w*)(?:<.*>)? for )?(?:&\S+ |&)?(?P<type>[A-Z]\w*)|(?:pub )?trait (?P<trait>\w+))")
 
 # What the checker says where a proof names something that an edit took away.
 BY_NAME = re.compile(r"has no field|is not in scope|has no `|was not admitted|is not a field|is no name")
@@ -87,8 +92,30 @@ class Said:
                 self.note(plain(found[1].split("::")), goal)
 
 
+def path_of(function, text_of):
+    """The path by which the prover knows a function that an edit names by module and name: its type stands between. Where it is not
+    the one of its name, the whole module."""
+    module, _, name = function.rpartition("::")
+    lines = text_of(f"src/{module.replace('::', '/') or 'lib'}.rt").split("\n")
+    places = [at for at, line in enumerate(lines) if (found := FUNCTION.match(line)) and found[1] == name]
+    if len(places) != 1:
+        return module
+    own = len(lines[places[0]]) - len(lines[places[0]].lstrip())
+    if own == 0:
+        return function
+    for line in reversed(lines[: places[0]]):
+        if line.strip() and len(line) - len(line.lstrip()) < own:
+            head = HEAD.match(line)
+            if head:
+                return "::".join(filter(None, (module, head["trait"] or head["type"] + (head["of"] or ""), name)))
+    return module
+
+
 class Trial:
     """A crate in a copy of the repository, in which its edits are tried."""
+
+    # Whether an edit may leave open by which clause it is refused.
+    takes_any_clause = False
 
     def __init__(self, root, crate):
         self.folder, self.crate = f"{root}/crates/{crate}", crate
@@ -171,7 +198,7 @@ class Trial:
             if edit.refused_by:
                 is_right = edit.refused_by[1] in clauses
                 return is_right, function, edit.refused_by[1] if is_right else f"another clause: {', '.join(clauses)}"
-            return False, function, f"unnamed: {', '.join(clauses)}"
+            return self.takes_any_clause, function, f"{'' if self.takes_any_clause else 'unnamed: '}{', '.join(clauses)}"
         if not is_alone:
             return None
         if said.is_uncompiled:
@@ -211,3 +238,28 @@ class Trial:
                     row = self.judge(edit, self.check([edit], [edit]), [edit])
                 judged[edit.name] = row
         return [(it.name, *judged[it.name]) for it in edits] + bad
+
+
+class TrialOverLibraries(Trial):
+    """A copy of a crate, of which only the functions are checked that must be refused, over the libraries that `rt ci` left in a clone."""
+
+    def __init__(self, root, crate, clone=ROOT):
+        super().__init__(root, crate)
+        self.clone = clone
+        for part in ("src", "specs", "proofs"):
+            if os.path.isdir(f"{ROOT}/crates/{crate}/{part}"):
+                shutil.copytree(f"{ROOT}/crates/{crate}/{part}", f"{self.folder}/{part}")
+        os.mkdir(f"{self.folder}/kept")
+
+    def looked_at(self, edit):
+        """The functions of an edit, by the prover's paths; none where an example must be refused: then all is checked."""
+        wanted = [edit.refused_by[0]] if edit.refused_by else sorted(edit.functions(self.text_of) - {None})
+        return [path_of(it, self.text_of) for it in wanted if not it.startswith("proofs::")]
+
+    def words(self, edits, looked_at):
+        # (what the first check keeps of definitions and proofs, the others take over)
+        root = "src/lib.rt" if os.path.isfile(f"{self.folder}/src/lib.rt") else "src/main.rt"
+        words = [f"{kit()}/bin/rattle", "check", *library_words(self.clone, self.crate, root), "--incremental", f"{self.folder}/kept", "--jobs", "1", "--allow-holes"]
+        paths = [self.looked_at(it) for it in looked_at]
+        named = dict.fromkeys(path for its in paths for path in its) if all(paths) else []
+        return [*words, *(word for it in named for word in ("--only", it))]
