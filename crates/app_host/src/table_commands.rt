@@ -1,16 +1,16 @@
 //! Commands to the table services (cFE user's guide, table services).
 
-ghost use Rattle.std.specs.Prelude.{◌≡◌, ◌≤◌, length, OnErr};
-ghost use Rattle.lc_model.specs.Name.{name_in, name_size};
+ghost use Rattle.std.specs.Prelude.{◌≡◌, ◌≤◌, ℕ, List, length, OnErr};
 ghost use Rattle.lc_model.specs.Packet.{function_code, payload, command_header_size};
-ghost use Rattle.lc_model.specs.Tables.Slot.{Validate, Activate, Abort};
-ghost use Rattle.lc_model.specs.Command.{Load, Manage, of_length, table_command};
+ghost use Rattle.lc_model.specs.Command.{table_command};
+ghost use Rattle.lc_model.specs.Services.Tables.{table_commanded};
+ghost use Rattle.tbl_service.specs.Error.{answered};
 ghost use Rattle.app_host.specs.Hosted.{shown};
 ghost use Rattle.app_host.specs.Whole.{IsWhole, IsQuiet};
 ghost use Rattle.app_host.specs.Told.{ObeysTables};
 ghost use Rattle.app_host.specs.Response.{obeying_tables, RespondsCounted};
 ghost use Rattle.app_host.specs.Obeyed.{obeyed_by};
-ghost use Rattle.app_host.specs.ObeyedTables.{tables_by};
+ghost use Rattle.app_host.specs.ObeyedTables.{command_by, command_of, tables_by};
 
 use crate::app::App;
 use crate::error::WriteFault;
@@ -20,73 +20,50 @@ use crate::texts::{self, Service};
 use host_refinement::table_commands_go_by_names;
 use lc_model::packet::function_code;
 use lc_model::{ByteSink, EventKind, name_in};
-use tbl_service::Tables;
+use tbl_service::{TableError, Tables};
 
-/// Loads a file. Payload: 40 bytes of its name.
-fn load(tables: &mut Tables, payload: &[u8]) -> Result<(), Numbers>
-    ensures answer { obeyed_by result tables.new ≡
-        tables_by (of_length name_size payload.now (Load (name_in payload.now))) tables.old }
-    ensures refused { OnErr result (tables.new ≡ tables.old) }
+/// What a command does with the file or the table that it names.
+#[derive(Clone, Copy)]
+enum Action {
+    /// Loads a file.
+    Load,
+    /// Asks for the validation of a table's waiting image.
+    Validate,
+    /// Activates a table's waiting image.
+    Activate,
+    /// Drops a table's waiting image.
+    Abort,
+}
+
+/// The action of a function code.
+fn action_of(code: u8) -> Option<Action>
+    ensures { (bytes : List ℕ) → table_command code bytes ≡ command_by result bytes }
 {
-    if payload.len() != 40 {
-        return Err(Numbers::one(152));
-    }
-    match tables.load(name_in(payload)) {
-        Ok(()) => Ok(()),
-        Err(error) => Err(of_tables(error)),
+    match code {
+        1 => Some(Action::Load),
+        2 => Some(Action::Validate),
+        3 => Some(Action::Activate),
+        4 => Some(Action::Abort),
+        _ => None,
     }
 }
 
-/// Asks for the validation of a table's waiting image. Payload: 40 bytes of the table's name.
-fn validate(tables: &mut Tables, payload: &[u8]) -> Result<(), Numbers>
-    ensures answer { obeyed_by result tables.new ≡
-        tables_by (of_length name_size payload.now (Manage Validate (name_in payload.now)))
+/// Does this with the file or the table of this name.
+fn act(tables: &mut Tables, action: Action, name: &[u8]) -> Result<(), TableError>
+    ensures answer { answered result tables.new ≡ table_commanded (command_of action name.now)
         tables.old }
     ensures refused { OnErr result (tables.new ≡ tables.old) }
 {
-    if payload.len() != 40 {
-        return Err(Numbers::one(152));
-    }
-    match tables.request_validate(name_in(payload)) {
-        Ok(()) => Ok(()),
-        Err(error) => Err(of_tables(error)),
-    }
-}
-
-/// Activates a table's waiting image. Payload: 40 bytes of the table's name.
-fn activate(tables: &mut Tables, payload: &[u8]) -> Result<(), Numbers>
-    ensures answer { obeyed_by result tables.new ≡
-        tables_by (of_length name_size payload.now (Manage Activate (name_in payload.now)))
-        tables.old }
-    ensures refused { OnErr result (tables.new ≡ tables.old) }
-{
-    if payload.len() != 40 {
-        return Err(Numbers::one(152));
-    }
-    match tables.request_activate(name_in(payload)) {
-        Ok(()) => Ok(()),
-        Err(error) => Err(of_tables(error)),
+    match action {
+        Action::Load => tables.load(name),
+        Action::Validate => tables.request_validate(name),
+        Action::Activate => tables.request_activate(name),
+        Action::Abort => tables.abort(name),
     }
 }
 
-/// Drops a table's waiting image. Payload: 40 bytes of the table's name.
-fn abort(tables: &mut Tables, payload: &[u8]) -> Result<(), Numbers>
-    ensures answer { obeyed_by result tables.new ≡
-        tables_by (of_length name_size payload.now (Manage Abort (name_in payload.now)))
-        tables.old }
-    ensures refused { OnErr result (tables.new ≡ tables.old) }
-{
-    if payload.len() != 40 {
-        return Err(Numbers::one(152));
-    }
-    match tables.abort(name_in(payload)) {
-        Ok(()) => Ok(()),
-        Err(error) => Err(of_tables(error)),
-    }
-}
-
-/// Obeys a command to the table services. It is refused with 151 for its code, 152 for its length, and then for the services'
-/// own reasons; a refused command changes nothing.
+/// Obeys a command to the table services, whose payload is 40 bytes of a name. It is refused with 151 for its code, 152 for its
+/// length, and then for the services' own reasons; a refused command changes nothing.
 pub(crate) fn obey(tables: &mut Tables, packet: &[u8]) -> Result<(), Numbers>
     requires { command_header_size ≤ length packet.now }
     ensures answer { obeyed_by result tables.new ≡
@@ -94,12 +71,15 @@ pub(crate) fn obey(tables: &mut Tables, packet: &[u8]) -> Result<(), Numbers>
     ensures refused { OnErr result (tables.new ≡ tables.old) }
 {
     let payload = &packet[8..];
-    match function_code(packet) {
-        1 => load(tables, payload),
-        2 => validate(tables, payload),
-        3 => activate(tables, payload),
-        4 => abort(tables, payload),
-        _ => Err(Numbers::one(151)),
+    let Some(action) = action_of(function_code(packet)) else {
+        return Err(Numbers::one(151));
+    };
+    if payload.len() != 40 {
+        return Err(Numbers::one(152));
+    }
+    match act(tables, action, name_in(payload)) {
+        Ok(()) => Ok(()),
+        Err(error) => Err(of_tables(error)),
     }
 }
 
