@@ -13,8 +13,8 @@
  * to it afterwards; it gives back what it took by memory.c before it returns. There is one exception: a host that was made holds
  * memory of its own, all of which needlemauve_host_new takes and needlemauve_host_close gives back; feeding takes none and gives
  * none back, whichever applications stop. There is no other state between calls: calls may run in several threads at the same time,
- * each with arguments of its own (where memory.c's functions may), and one host in one thread at a time. None may be made from a
- * signal handler.
+ * each with arguments of its own (where memory.c's functions may), and a host stays in the thread that made it. No call may be made
+ * from a signal handler, or from the forked child of a process with threads.
  *
  * What a call needs. Bytes may lie anywhere; lengths and the structures below lie as their types are aligned. What a call
  * writes to (`told`, `wdt`, `adt`, `output`, `host`) overlaps nothing else that the call is given. Bytes of length 0 may be NULL.
@@ -28,7 +28,7 @@
  *
  * What a call promises is its contract, proved, in crates/needlemauve/src and crates/needlemauve_board/src; docs/LIBRARY.md
  * says it in plain words. No contract says what a call takes and gives back of memory, which is tested, nor that applications
- * retire (docs/PROMISES.md). */
+ * retire at a close (docs/PROMISES.md). */
 #ifndef NEEDLEMAUVE_H
 #define NEEDLEMAUVE_H
 
@@ -74,7 +74,7 @@ extern "C" {
 #define NEEDLEMAUVE_NOTHING 0u
 #define NEEDLEMAUVE_BYTES 1u   /* the bytes of the text before the fault */
 #define NEEDLEMAUVE_RULES 2u   /* the rules of the text before the one at fault */
-#define NEEDLEMAUVE_RECORDS 3u /* records of the stream, from 1; all that were handled where the code is 0; 0 where it is 144 */
+#define NEEDLEMAUVE_RECORDS 3u /* the record at fault, from 1; how many were handled if the code is 0; 0 if it is 144 or 145 */
 #define NEEDLEMAUVE_NOT_RUN 4u /* nothing was run; the schedule's line at fault, from 1, or 0 */
 
 /* The verdict on a table file. code 0: sound; 51 to 56: its headers; 61 to 81: its image; NEEDLEMAUVE_NO_TABLE, or a code of this
@@ -141,9 +141,9 @@ struct needlemauve_rule {
   uint16_t fails, quiet;
 };
 
-/* The figures of a host: the records that were handled and the bytes that were written; the number of the rule text in force, from
- * 0, which is the first whose two compiled images are active, byte for byte, or NEEDLEMAUVE_NO_TEXT; the mode of its Limit Checker,
- * active (1), passive (2), disabled (3), or 0 if none runs; and how many rules are in force. */
+/* The figures of a host: how many records were handled, that of a 144 among them, and bytes written; the number of the rule text
+ * in force, from 0, which is the first whose two compiled images are active, byte for byte, or NEEDLEMAUVE_NO_TEXT; the mode of its
+ * Limit Checker, active (1), passive (2), disabled (3), or 0 if none runs; and how many rules are in force. */
 #define NEEDLEMAUVE_NO_TEXT UINT64_MAX
 struct needlemauve_figures {
   uint64_t records, written, text;
@@ -166,8 +166,8 @@ uint32_t needlemauve_compile(const uint8_t *text, size_t length, uint8_t wdt[NEE
  * told->ending.code. The texts lie one after the other: the first has lengths[0] bytes, and all together `size`. The first
  * told->written bytes of the output are the packets that were sent (with 144 the last one may be cut), and the bytes after them
  * are as they were. 0: the stream's end; 1 to 42: a text doesn't compile; 131 to 133: the schedule is invalid; 141: no record;
- * 142: the stream ends inside one; 144: the output has no room for more; 145: the stream has not ended after 2^32 reads of 8,192
- * bytes; NEEDLEMAUVE_LENGTHS, NEEDLEMAUVE_NO_MEMORY, or a code of this header's tests. */
+ * 142: the stream ends inside one; 144: the output has no room for more; 145: the stream has not ended after 2^32 reads;
+ * NEEDLEMAUVE_LENGTHS, NEEDLEMAUVE_NO_MEMORY, or a code of this header's tests. */
 uint32_t needlemauve_run(const uint8_t *texts, size_t size, const size_t *lengths, size_t count, const uint8_t *schedule,
                          size_t schedule_length, const uint8_t *stream, size_t stream_length, uint8_t *output, size_t room,
                          struct needlemauve_outcome *told);
@@ -184,9 +184,9 @@ uint32_t needlemauve_host_new(const uint8_t *texts, size_t size, const size_t *l
  * told->code. The first told->taken bytes were taken, to be held after those that are held (73,739 at most); what the record leads
  * to are the first told->written bytes of the output, which has `size` bytes, no fewer than the host's room. 0: a record was
  * handled, and another may be held: call again, with the bytes that weren't taken, or with none. NEEDLEMAUVE_MORE: no whole record
- * is held. 141: what comes next is no record, and nothing after it is handled. 144: the record leads to more than the room takes,
- * so that the last packet may be cut; the host handles no record any more. NEEDLEMAUVE_SMALL: the output is smaller than the room,
- * and nothing was done; or a code of this header's tests. */
+ * is held. 141: what comes next is no record; the host takes and handles nothing any more. 144: the record leads to more than the
+ * room takes, so that the last packet may be cut; the host handles no record any more. NEEDLEMAUVE_SMALL: the output is smaller
+ * than the room, and nothing was done; or a code of this header's tests. */
 uint32_t needlemauve_host_feed(struct needlemauve_host *host, const uint8_t *bytes, size_t length, uint8_t *output, size_t size,
                                struct needlemauve_handled *told);
 
@@ -197,7 +197,7 @@ uint32_t needlemauve_host_rule(const struct needlemauve_host *host, uint16_t rul
 /* The figures of a host, after the records so far. Returns 0; or NEEDLEMAUVE_NO_HOST or NEEDLEMAUVE_NULL, and writes nothing. */
 uint32_t needlemauve_host_figures(const struct needlemauve_host *host, struct needlemauve_figures *told);
 
-/* Closes a host: all applications retire (no contract or test of ours says it), and all its memory is given back. The handle holds
+/* Closes a host: all applications retire (no contract or test of C says so), and all its memory is given back. The handle holds
  * nothing afterwards. */
 void needlemauve_host_close(struct needlemauve_host *host);
 
@@ -242,7 +242,7 @@ static inline uint32_t needlemauve_tick_record(uint8_t header[NEEDLEMAUVE_RECORD
   return needlemauve_record(header, 2, seconds, subseconds, 0);
 }
 
-/* A file of `length` bytes: its name follows the header, NEEDLEMAUVE_NAME bytes with zeros after it, and then its bytes. */
+/* A file of `length` bytes: its name follows the header, filled with zeros to NEEDLEMAUVE_NAME bytes, and then its bytes. */
 static inline uint32_t needlemauve_file_record(uint8_t header[NEEDLEMAUVE_RECORD], uint32_t seconds, uint16_t subseconds,
                                                size_t length)
 {
@@ -251,19 +251,26 @@ static inline uint32_t needlemauve_file_record(uint8_t header[NEEDLEMAUVE_RECORD
 }
 
 /* Half of a rule text, to be stored as a file: NEEDLEMAUVE_HALF bytes follow, the name, NEEDLEMAUVE_WATCHPOINTS or
- * NEEDLEMAUVE_ACTIONPOINTS in one byte, and the text's number in two. */
+ * NEEDLEMAUVE_ACTIONPOINTS in one byte, and the text's number in two, high byte first. */
 static inline uint32_t needlemauve_half_record(uint8_t header[NEEDLEMAUVE_RECORD], uint32_t seconds, uint16_t subseconds)
 {
   return needlemauve_record(header, 4, seconds, subseconds, NEEDLEMAUVE_HALF);
 }
 
-/* ---- what the archives can't see: NULL, lengths that no object has, and a handle that is in use */
+/* ---- what the archives can't see: NULL, lengths that no object has, and a handle that holds a host, or none */
 
 static inline uint32_t needlemauve_misused(const void *at, size_t length)
 {
   if (length > PTRDIFF_MAX) return NEEDLEMAUVE_TOO_LONG;
   if (at == NULL && length > 0) return NEEDLEMAUVE_NULL;
   return NEEDLEMAUVE_DONE;
+}
+
+/* The archives are given an address for bytes of length 0, too. */
+static inline void *needlemauve_address(const void *at)
+{
+  static size_t none;
+  return at == NULL ? (void *)&none : (void *)at;
 }
 
 static inline void needlemauve_tell(uint32_t code, uint32_t of, struct needlemauve_refusal *told,
@@ -287,6 +294,7 @@ static inline uint32_t needlemauve_validate_tested(uint32_t kind, const uint8_t 
 {
   uint32_t code = needlemauve_misused(file, length);
   if (told == NULL) return NEEDLEMAUVE_NULL;
+  file = (const uint8_t *)needlemauve_address(file);
   if (code == NEEDLEMAUVE_DONE) return needlemauve_validate(kind, file, length, told);
   told->code = code;
   told->entry = 65535u;
@@ -299,6 +307,7 @@ static inline uint32_t needlemauve_compile_tested(const uint8_t *text, size_t le
   uint32_t code = needlemauve_misused(text, length);
   if (told == NULL) return NEEDLEMAUVE_NULL;
   if (code == NEEDLEMAUVE_DONE && (wdt == NULL || adt == NULL)) code = NEEDLEMAUVE_NULL;
+  text = (const uint8_t *)needlemauve_address(text);
   if (code == NEEDLEMAUVE_DONE) return needlemauve_compile(text, length, wdt, adt, told);
   needlemauve_tell(code, NEEDLEMAUVE_NOTHING, &told->refusal, &told->sentence);
   told->watchpoints = 0;
@@ -318,6 +327,11 @@ static inline uint32_t needlemauve_run_tested(const uint8_t *texts, size_t size,
   if (code == NEEDLEMAUVE_DONE) code = needlemauve_misused(schedule, schedule_length);
   if (code == NEEDLEMAUVE_DONE) code = needlemauve_misused(stream, stream_length);
   if (code == NEEDLEMAUVE_DONE) code = needlemauve_misused(output, room);
+  texts = (const uint8_t *)needlemauve_address(texts);
+  lengths = (const size_t *)needlemauve_address(lengths);
+  schedule = (const uint8_t *)needlemauve_address(schedule);
+  stream = (const uint8_t *)needlemauve_address(stream);
+  output = (uint8_t *)needlemauve_address(output);
   if (code == NEEDLEMAUVE_DONE)
     return needlemauve_run(texts, size, lengths, count, schedule, schedule_length, stream, stream_length, output, room, told);
   needlemauve_tell(code, NEEDLEMAUVE_NOT_RUN, &told->ending, &told->sentence);
@@ -337,6 +351,9 @@ static inline uint32_t needlemauve_host_new_tested(const uint8_t *texts, size_t 
   if (code == NEEDLEMAUVE_DONE && room > PTRDIFF_MAX) code = NEEDLEMAUVE_TOO_LONG;
   if (code == NEEDLEMAUVE_DONE && host == NULL) code = NEEDLEMAUVE_NULL;
   if (code == NEEDLEMAUVE_DONE && host->at != NULL) code = NEEDLEMAUVE_HAS_HOST;
+  texts = (const uint8_t *)needlemauve_address(texts);
+  lengths = (const size_t *)needlemauve_address(lengths);
+  schedule = (const uint8_t *)needlemauve_address(schedule);
   if (code == NEEDLEMAUVE_DONE)
     return needlemauve_host_new(texts, size, lengths, count, schedule, schedule_length, room, host, told);
   needlemauve_tell(code, NEEDLEMAUVE_NOT_RUN, &told->refusal, &told->sentence);
@@ -351,6 +368,8 @@ static inline uint32_t needlemauve_host_feed_tested(struct needlemauve_host *hos
   if (code == NEEDLEMAUVE_DONE) code = needlemauve_misused(output, size);
   if (code == NEEDLEMAUVE_DONE && host == NULL) code = NEEDLEMAUVE_NULL;
   if (code == NEEDLEMAUVE_DONE && host->at == NULL) code = NEEDLEMAUVE_NO_HOST;
+  bytes = (const uint8_t *)needlemauve_address(bytes);
+  output = (uint8_t *)needlemauve_address(output);
   if (code == NEEDLEMAUVE_DONE) return needlemauve_host_feed(host, bytes, length, output, size, told);
   told->code = code;
   told->taken = 0;
@@ -382,7 +401,8 @@ static inline void needlemauve_host_close_tested(struct needlemauve_host *host)
   if (host != NULL && host->at != NULL) needlemauve_host_close(host);
 }
 
-/* C calls the tested functions by the names above; other languages find the archives' own under these names. */
+/* C calls the tested functions by the names above; other languages find the archives' own under these names, and give them no NULL,
+ * not even for bytes of length 0. */
 #define needlemauve_validate needlemauve_validate_tested
 #define needlemauve_compile needlemauve_compile_tested
 #define needlemauve_run needlemauve_run_tested

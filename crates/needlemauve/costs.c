@@ -1,13 +1,13 @@
 /* What each call needs: the stack that it touches, on a stack that was filled before, and the memory that it has at once and asks
- * for in all. Prints a line a call. Wants pthreads, and stands in the place of memory.c. */
+ * for in all. Prints a line a call. Needs ucontext.h, since a host stays in its thread, and stands in the place of memory.c. */
 #define _GNU_SOURCE
 #include "memory.h"
 #include "needlemauve.h"
 
-#include <pthread.h>
 #include <stdio.h>
 #include <stdlib.h>
 #include <string.h>
+#include <ucontext.h>
 
 enum { STACK = 1 << 20, FILLED = 0xA5 };
 
@@ -107,20 +107,33 @@ static void *close_it(void *result)
   return result;
 }
 
+static ucontext_t caller, callee;
+static void *(*entered)(void *);
+static uint32_t *answered;
+
+static void enter(void)
+{
+  entered(answered);
+}
+
 /* Calls on a stack of its own, and returns how much of it was touched. */
 static size_t stack_of(void *(*call)(void *), uint32_t *answer)
 {
   static uint8_t *stack;
   size_t untouched = 0;
-  pthread_attr_t attributes;
-  pthread_t thread;
   if (stack == NULL && posix_memalign((void **)&stack, 4096, STACK) != 0) exit(99);
   memset(stack, FILLED, STACK);
   kept = held;
   most = held;
   asked = 0;
-  if (pthread_attr_init(&attributes) != 0 || pthread_attr_setstack(&attributes, stack, STACK) != 0) exit(99);
-  if (pthread_create(&thread, &attributes, call, answer) != 0 || pthread_join(thread, NULL) != 0) exit(99);
+  entered = call;
+  answered = answer;
+  if (getcontext(&callee) != 0) exit(99);
+  callee.uc_stack.ss_sp = stack;
+  callee.uc_stack.ss_size = STACK;
+  callee.uc_link = &caller;
+  makecontext(&callee, enter, 0);
+  if (swapcontext(&caller, &callee) != 0) exit(99);
   while (untouched < STACK && stack[untouched] == FILLED) untouched++;
   return STACK - untouched;
 }

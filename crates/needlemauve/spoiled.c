@@ -144,6 +144,23 @@ static void spoil_run(void)
   free(output);
 }
 
+/* A host that met what is no record takes and handles nothing any more, whatever comes. */
+static void feed_after_no_record(struct needlemauve_host *host, size_t room)
+{
+  uint8_t *output = filled(room + 8);
+  struct needlemauve_figures before, after;
+  struct needlemauve_handled told;
+  int n;
+  needlemauve_host_figures(host, &before);
+  for (n = 0; n < 3; n++) {
+    CHECK(69, needlemauve_host_feed(host, stream, n > 0 ? stream_length : 0, output, room, &told) == 141 && told.code == 141);
+    CHECK(70, told.taken == 0 && told.written == 0 && is_filled(output, room + 8));
+  }
+  needlemauve_host_figures(host, &after);
+  CHECK(77, after.records == before.records && after.written == before.written);
+  free(output);
+}
+
 /* A host is made of spoiled texts, and where it is made it is fed with spoiled records in pieces of any length, into an output
  * that is now and then too small. */
 static void spoil_host(void)
@@ -175,6 +192,7 @@ static void spoil_host(void)
     answered[told.code] += 1;
     at += (size_t)told.taken;
     free(output);
+    if (told.code == 141) feed_after_no_record(&host, room);
     if (told.code == 141 || (told.code == NEEDLEMAUVE_MORE && at == records_length)) break;
   }
   needlemauve_host_close(&host);
@@ -233,6 +251,29 @@ static void misuse_of_a_host(const uint8_t *text, size_t size, const uint8_t *pl
   free(output);
 }
 
+/* A record of an unknown kind comes between good ones, in one piece with them: the record before it is handled, and none after it. */
+static void no_record(const uint8_t *text, size_t size, const uint8_t *plan)
+{
+  static const uint8_t none[NEEDLEMAUVE_RECORD] = {9};
+  const size_t first = NEEDLEMAUVE_RECORD + NEEDLEMAUVE_HALF, length = stream_length + sizeof none;
+  struct needlemauve_host host = NEEDLEMAUVE_NOTHING_YET;
+  struct needlemauve_made made;
+  struct needlemauve_handled told;
+  struct needlemauve_figures figures;
+  uint8_t *output = filled(2048), *records = filled(length);
+  memcpy(records, stream, first);
+  memcpy(records + first, none, sizeof none);
+  memcpy(records + first + sizeof none, stream + first, stream_length - first);
+  CHECK(112, needlemauve_host_new(text, size, &size, 1, plan, sizeof schedule - 1, 2048, &host, &made) == 0);
+  CHECK(113, needlemauve_host_feed(&host, records, length, output, 2048, &told) == 0 && told.taken == length);
+  CHECK(114, needlemauve_host_feed(&host, NULL, 0, output, 2048, &told) == 141 && told.written == 0);
+  feed_after_no_record(&host, 2048);
+  CHECK(115, needlemauve_host_figures(&host, &figures) == 0 && figures.records == 1);
+  needlemauve_host_close(&host);
+  free(records);
+  free(output);
+}
+
 /* NULL for something, and lengths that no object has, are refused by name, and nothing is written. */
 static void misuse(void)
 {
@@ -288,6 +329,7 @@ static void misuse(void)
     CHECK(94, host.at == NULL && made.refusal.code == NEEDLEMAUVE_TOO_LONG && is_sentence(&made.sentence));
     needlemauve_host_close(NULL);
     misuse_of_a_host(text, one, plan);
+    no_record(text, one, plan);
   }
   free(first);
   free(second);

@@ -15,6 +15,10 @@ use Rattle.schedules.specs.declared.error.ScheduleError.TheVariants as schedule
 use Rattle.flight_core.specs.declared.error.RunError.{RunError}
 use Rattle.flight_core.specs.declared.error.RunError.TheVariants as run
 
+-- the words of a rule text's or a schedule's error are at most so many bytes
+abbrev pub longest_words : ℕ
+longest_words = 200
+
 abbrev pub out_of_memory : List ℕ
 out_of_memory = codes "out of memory"
 

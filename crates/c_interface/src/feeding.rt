@@ -200,6 +200,7 @@ fn handle_into<S: Size>(
     ensures ready { IsReady (feeding_of lasting_meaning host.new) }
     ensures one { HandlesInto (feeding_of lasting_meaning host.old) (feeding_of lasting_meaning host.new)
         output.new S.size result.1 result.0 }
+    ensures within { result.1 ≤ length output.new }
     ensures gone { (feeding_of lasting_meaning host.old).host.is_closed ≡ false →
         LeavesForFront lasting_meaning (boxes_on host.old) (feeding_of lasting_meaning host.old).host
         (front_of (feeding_of lasting_meaning host.old).held) }
@@ -228,7 +229,8 @@ fn in_number(answer: Result<Option<u64>, Halt>) -> u32
 fn feed_fed(fed: &mut Fed, bytes: &[u8], output: &mut [u8]) -> Handled
     requires ready { IsFed fed.old }
     requires fits { length fed.old.room.items ≤ length output.old }
-    ensures { Feeds bytes.now output.new fed.old fed.new result }
+    ensures fed { Feeds bytes.now output.new fed.old fed.new result }
+    ensures within { result.written ≤ length output.new }
 {
     let taken = fed.host.feed(bytes) as u64;
     let room = fed.room.as_mut_slice();
@@ -254,7 +256,10 @@ pub fn feed_host(handle: &mut Handle, bytes: &[u8], output: &mut [u8], told: &mu
         (handle.new.value ≡ handle.old.value) × (output.new ≡ output.old) }
     ensures smaller { result ≡ too_small → IsSomeAnd handle.old.value
         (λ fed. length output.old < length fed.room.items) }
+    ensures refused { IsSomeAnd handle.old.value
+        (λ fed. length output.old < length fed.room.items → result ≡ too_small) }
     ensures untaken { result ≡ too_small → (told.new.taken ≡ 0) × (told.new.written ≡ 0) }
+    ensures within { told.new.written ≤ length output.new }
 {
     let fed = handle.lend();
     if output.len() < fed.room.len() {

@@ -7,6 +7,7 @@ mod asking;
 mod compiling;
 mod ending;
 mod error_sentences;
+mod expected_words;
 mod feeding;
 mod handle;
 mod lasting;
@@ -17,6 +18,7 @@ mod running;
 mod sentence;
 mod stream;
 mod texts;
+mod wording;
 
 pub use asking::{Figures, RuleReading, tell_figures, tell_rule};
 pub use compiling::{ADT, Compiled, WDT, compile_files};

@@ -27,8 +27,8 @@ pub struct Refusal {
     pub code: u32,
     /// What `at` counts: 0 nothing, 1 bytes of the text, 2 rules of the text, 3 records, 4 a schedule's lines, where nothing was run.
     pub of: u32,
-    /// The bytes or rules before the fault; the record's number from 1, or all records if the code is 0; or the schedule's line
-    /// from 1, or 0.
+    /// The bytes or rules before the fault; the number of the record at fault from 1, of all records if the code is 0, and 0 if it
+    /// is 144 or 145; or the schedule's line from 1, or 0.
     pub at: u64,
     /// The number of the refused text, from 0.
     pub text: u64,

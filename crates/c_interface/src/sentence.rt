@@ -1,15 +1,10 @@
 //! A sentence for people, in a caller's room.
 
-ghost use Rattle.std.specs.Prelude.{◌≡◌, ◌-◌, ◌<◌, length, take, drop, replicate, IfSome};
-ghost use Rattle.std.specs.Fmt.Cut.{IsTextOrCut};
-ghost use Rattle.c_interface.specs.Said.{no_sentence};
-
-use std::fmt::{Display, InlineText};
+ghost use Rattle.std.specs.Prelude.{◌≡◌, ◌-◌, ◌<◌, ◌≤◌, length, take, drop, replicate};
+ghost use Rattle.c_interface.specs.Said.{most_said, no_sentence};
 
 /// The bytes of a sentence's room; the last one stays 0.
 pub const ROOM: usize = 252;
-
-const MOST: usize = ROOM - 1;
 
 /// A sentence in English, as C sees it, with zeros after its bytes.
 #[repr(C)]
@@ -32,19 +27,17 @@ impl Sentence {
         }
     }
 
-    /// Writes the value's `Display`, with dots at its end if it is longer than the room.
-    pub fn of<D: Display + Drop>(value: D) -> Sentence
+    /// Creates the sentence with these words. Condition: at most 251 bytes.
+    pub fn of(words: &[u8]) -> Sentence
+        requires { length words.now ≤ most_said }
         ensures ends { result.length < ROOM }
         ensures zeros { drop result.length result.bytes ≡ replicate (ROOM - result.length) 0 }
-        ensures said { IfSome (D.output value) (λ text.
-            IsTextOrCut MOST text (take result.length result.bytes)) }
+        ensures said { take result.length result.bytes ≡ words.now }
     {
-        let text = InlineText::<MOST>::of(value);
-        let said = text.as_str().as_bytes();
         let mut bytes = [0; ROOM];
-        bytes[..said.len()].copy_from_slice(said);
+        bytes[..words.len()].copy_from_slice(words);
         Sentence {
-            length: said.len() as u32,
+            length: words.len() as u32,
             bytes,
         }
     }

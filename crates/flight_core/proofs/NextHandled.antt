@@ -1,5 +1,5 @@
 -- The next record of those that are held, as it was found, brought to the host and handled.
-use Rattle.std.proofs.Common.{◌≡◌, refl, sym, ◌∙◌, ap, subst, ℕ, ◌<◌, List, ◌++◌, length, Option, Some, None, Result, Ok, Err}
+use Rattle.std.proofs.Common.{◌≡◌, refl, sym, ◌∙◌, ap, subst, ℕ, ◌<◌, true, List, ◌++◌, length, Option, Some, None, Result, Ok, Err}
 use Rattle.std.specs.Prelude.{IfSome}
 use Rattle.lc_model.specs.declared.record.Body.{Body}
 use Rattle.lc_model.specs.declared.record.Body.TheVariants as body
@@ -21,11 +21,11 @@ use Rattle.app_host.specs.Response.{response_to, response_to_packet, filing, ask
 use Rattle.app_host.specs.Step.{input_by, party_of, IsBetween, called_for, StepsWhole, StepsPart}
 use Rattle.flight_core.specs.declared.found.Found.{Found}
 use Rattle.flight_core.specs.declared.found.Found.TheVariants as found
-use Rattle.flight_core.specs.Answer.{Entry}
+use Rattle.flight_core.specs.Answer.{Entry, Bad}
 use Rattle.flight_core.specs.Found.{answer_of}
 use Rattle.flight_core.specs.Records.{Held, first_record, front_of, next_number, answer_by, after_by, next_answer, after_next, IsRecord}
 use Rattle.flight_core.specs.Brought.{meanings_of, IsTaken, IsBrought}
-use Rattle.flight_core.specs.Going.{IsNext, IsHandled, IsCutShort}
+use Rattle.flight_core.specs.Going.{IsNext, IsHandled, IsCutShort, MeetsNone}
 use Rattle.flight_core.specs.Leaving.{seat_left_for, LeavesForFront}
 
 -- ---- what was brought is a record
@@ -157,6 +157,30 @@ module _ (pairs : List TablePair) (held after : Held) (f : Found) (given : Given
       };
       gains = responds.gains;
     }
+
+-- ---- what was brought is no record
+
+number_by : (pairs : List TablePair) (f : Found) (result : Option Given) → result ≡ None → IsBrought pairs f result → (number : ℕ) × (answer_of f ≡ Bad number)
+number_by pairs (found.Bad number) result is brought = (number, refl)
+number_by pairs (found.Record entry) result is brought = absurd (subst (IsBrought pairs (found.Record entry)) is brought)
+number_by pairs (found.Half moment name kind text) result is brought = absurd (subst (IsBrought pairs (found.Half moment name kind text)) is brought)
+
+-- then none is in front, and what is held is marked as bad
+none_by : (held after : Held) (number : ℕ) → Some (Bad number) ≡ next_answer held → after ≡ after_next held → (front_of held ≡ NoRecord) × (after ≡ record held { is_bad = true })
+none_by held after number answer goes = by_front (front_of held) refl
+  where
+    by_front : (f : Front) → front_of held ≡ f → (front_of held ≡ NoRecord) × (after ≡ record held { is_bad = true })
+    by_front NoRecord is = (is, goes ∙ ap (after_by held) is)
+    by_front (Record entry rest) is = let none : Some (Bad number) ≡ Some (Entry entry) = answer ∙ ap (answer_by held) is in absurd (cc none)
+    by_front EndOfStream is = let none : Some (Bad number) ≡ None = answer ∙ ap (answer_by held) is in absurd (cc none)
+    by_front CutRecord is = let none : Some (Bad number) ≡ None = answer ∙ ap (answer_by held) is in absurd (cc none)
+
+pub meets_none : (pairs : List TablePair) (held after : Held) (f : Found) (result : Option Given) → IsBrought pairs f result → result ≡ None → Some (answer_of f) ≡ next_answer held → after ≡ after_next held →
+    (old : Hosted) (before : Sink) → MeetsNone (meanings_of pairs) held after old old before before
+meets_none pairs held after f result brought is answer goes old before =
+    let bad : (number : ℕ) × (answer_of f ≡ Bad number) = number_by pairs f result is brought in
+    let none : (front_of held ≡ NoRecord) × (after ≡ record held { is_bad = true }) = none_by held after bad.0 (ap Some (sym bad.1) ∙ answer) goes in
+    record { front = none.0; goes = none.1; host = refl; idle = refl }
 
 -- whatever comes, as many texts stay as there were
 texts_by : (held : Held) (there : Front) → (after_by held there).texts ≡ held.texts

@@ -22,7 +22,7 @@ pub record FitsWithFewWaiting (source : List ℕ) : Type 0 where
   pub fits : Fits source
   pub few : AllByRecursion (λ (rule : NamedRule). need (arranged rule.action.condition) ≤ 5) fits.rules
 
--- why a text does not fit: it says no rules, or they are too much for the tables, or one of them has too many words
+-- why a text does not fit: it has no reading, or its rules are too many for the tables, or one of them has too many words
 pub data IsUnfit (source : List ℕ) : TextRefusal → Type 0 where
   unreadable : {why : TextRefusal} → IsUnreadable source why → IsUnfit source why
   watchpoints : {rules : List NamedRule} → Reads source rules → 176 < length (terms_of rules) → IsUnfit source (ForText 31)

@@ -55,9 +55,10 @@ module _ (meanings : FileMeanings (List ℕ)) (held after : Held) (old new : Hos
     pub host : new ≡ old
     pub idle : now ≡ before
 
-  -- what is held begins with what is no record
+  -- what is held begins with what is no record; the bytes stay, and no more are taken
   pub record MeetsNone : Type 0 where
     pub front : front_of held ≡ NoRecord
+    pub goes : after ≡ record held { is_bad = true }
     pub host : new ≡ old
     pub idle : now ≡ before
 

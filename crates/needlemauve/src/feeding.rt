@@ -1,6 +1,6 @@
 //! A host that is fed.
 
-ghost use Rattle.std.specs.Prelude.{◌≡◌, ◌≢◌, ◌<◌, ◌⊎◌, length, None, IsSomeAnd};
+ghost use Rattle.std.specs.Prelude.{◌≡◌, ◌≢◌, ◌<◌, ◌≤◌, ◌⊎◌, length, None, IsSomeAnd};
 ghost use Rattle.c_interface.specs.Feeding.{AreFed, IsFed, IsMade, IsUnmade, too_small};
 ghost use Rattle.std.specs.List.{sum};
 ghost use Rattle.c_interface.specs.Refusing.{unfit};
@@ -57,7 +57,10 @@ pub extern "C" fn needlemauve_host_feed(
         (host.new.value ≡ host.old.value) × (output.new ≡ output.old) }
     ensures smaller { result ≡ too_small → IsSomeAnd host.old.value
         (λ fed. length output.old < length fed.room.items) }
+    ensures refused { IsSomeAnd host.old.value
+        (λ fed. length output.old < length fed.room.items → result ≡ too_small) }
     ensures untaken { result ≡ too_small → (told.new.taken ≡ 0) × (told.new.written ≡ 0) }
+    ensures within { told.new.written ≤ length output.new }
 {
     feed_host(host, bytes, output, told)
 }

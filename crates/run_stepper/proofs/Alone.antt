@@ -116,13 +116,17 @@ module _ (old new : Feeding) (written : List ℕ) (goes : GoesOn old) (failed fa
   held_taken : (taking old.held.bytes).held.bytes ≡ old.held.bytes
   held_taken = taken old.held.bytes goes.few
 
+  -- and found to begin with no record
+  abbrev found_bad : Feeding
+  found_bad = let it : Feeding = taking old.held.bytes in record it { held = record it.held { is_bad = true } }
+
   meets : Handles old new (Err halt.NoRecord) → MeetsNoRecord old written
   meets one =
       let none : MeetsNone (meanings_of old.files) old.held new.held old.host new.host (record { gained = Some []; failed = failed }) (record { gained = Some written; failed = fails }) =
       one.where_open goes.is_open in
       record {
         front = none.front;
-        now = taking old.held.bytes;
+        now = found_bad;
         alone = record {
           answer = Err halt.NoRecord;
           failed = failed;
@@ -131,6 +135,7 @@ module _ (old new : Feeding) (written : List ℕ) (goes : GoesOn old) (failed fa
             files = refl;
             where_open = λ still. record {
               front = ap (front all_kinds texts) held_taken ∙ none.front;
+              goes = refl;
               host = refl;
               idle = none.idle;
             };

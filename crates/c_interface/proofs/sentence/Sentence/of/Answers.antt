@@ -3,4 +3,4 @@ use Rattle.c_interface.proofs.Sentences.{zeros_behind}
 use Rattle.c_interface.proofs.sentence.Sentence.of.Goals as goal
 
 pub returns-clause-zeros : goal.returns-clause-zeros
-returns-clause-zeros g c = zeros_behind c.copy_from_slice.new.self (length c.as_bytes-said.result.now) 252 (search rules)
+returns-clause-zeros c = zeros_behind c.copy_from_slice.new.self (length c.args.words.now) 252 (search rules)
