@@ -4,8 +4,9 @@ ghost use Rattle.std.specs.Prelude.{◌≡◌};
 ghost use Rattle.run_commands.specs.Cause.{IsOfLine, IsOfTrial, ending_of};
 
 use crate::line_error::line_error_fault;
-use diagnostics::{Message, warnings_page_of};
+use diagnostics::{Message, around, warnings_page_of};
 use program_io::Noting;
+use rpn_compiler::RuleText;
 use run_stepper::{RunInputs, read_texts};
 use scenario_errors::LineError;
 use scenario_trial::{TrialError, TrialOutcome, TrialWarning, try_scenario};
@@ -81,43 +82,130 @@ fn trial_fault<'a>(
     }
 }
 
-/// The message for a warning about a script.
-fn warning_message(
-    alloc: Global,
-    text: &[u8],
-    warning: TrialWarning,
-) -> Result<Message, AllocError> {
-    let (name, n, head) = match warning {
-        TrialWarning::ManyNumbers { n } => (
-            "rule-number",
-            n,
-            "the rule texts give this rule different numbers: the text in force decides",
-        ),
-        TrialWarning::NothingRan { n } => (
-            "nothing-ran",
-            n,
-            "nothing came of the Limit Checker, of which this expects something",
-        ),
-        TrialWarning::NothingTried => ("nothing-tried", 1, "nothing is expected, and nothing came"),
-    };
-    let head = String::from_str(alloc, head)?;
-    Ok(Message::warning(alloc, name, head, line_mark(alloc, text, n)))
+/// The name of the rule with this number in the rule text with this number, if there is one.
+fn rule_name<'r>(texts: &'r [RuleText<'_>], text: usize, rule: u16) -> Option<&'r [u8]> {
+    let text = texts.get(text)?;
+    let rule = text.rules.rules.as_slice().get(usize::from(rule))?;
+    Some(rule.name.as_slice())
 }
 
-/// Writes the warnings about the script in a file with this name, and those of its trial, to standard error. Returns whether there are
-/// warnings about the script itself.
+/// The end of the sentence about a rule of another text than this one, which is in force: its rule of the same number.
+fn rule_taken(
+    alloc: Global,
+    texts: &[RuleText<'_>],
+    force: usize,
+    rule: u16,
+) -> Result<String, AllocError> {
+    match rule_name(texts, force, rule) {
+        Some(name) => {
+            let front = format!(in alloc; ": its rule {rule}, ")?;
+            around(alloc, front.as_str(), name, ", is taken instead")
+        }
+        None => format!(in alloc; ", and has no rule {rule}"),
+    }
+}
+
+/// The sentence about this rule of a text, where another text is in force.
+fn other_text_head(
+    alloc: Global,
+    texts: &[RuleText<'_>],
+    text: usize,
+    force: usize,
+    rule: u16,
+) -> Result<String, AllocError> {
+    let name = rule_name(texts, text, rule).unwrap_or_default();
+    let behind = format!(in alloc; " is a rule of text {text}, but text {force} is in force here")?;
+    let mut head = around(alloc, "", name, behind.as_str())?;
+    let taken = rule_taken(alloc, texts, force, rule)?;
+    head.push_str(taken.as_str())?;
+    Ok(head)
+}
+
+/// The sentence of a warning about a script that was tried with these rule texts.
+fn warning_head(
+    alloc: Global,
+    texts: &[RuleText<'_>],
+    warning: TrialWarning,
+) -> Result<String, AllocError> {
+    match warning {
+        TrialWarning::ManyNumbers { n: _ } => String::from_str(
+            alloc,
+            "the rule texts give this rule different numbers: the text in force decides",
+        ),
+        TrialWarning::OtherText {
+            n: _,
+            text,
+            force,
+            rule,
+        } => other_text_head(alloc, texts, text, force, rule),
+        TrialWarning::NothingRan { n: _ } => String::from_str(
+            alloc,
+            "nothing came of the Limit Checker, of which this expects something",
+        ),
+        TrialWarning::NothingTried => {
+            String::from_str(alloc, "nothing is expected, and nothing came")
+        }
+    }
+}
+
+/// The name of a warning, and its line.
+fn name_and_line(warning: TrialWarning) -> (&'static str, usize) {
+    match warning {
+        TrialWarning::ManyNumbers { n } => ("rule-number", n),
+        TrialWarning::OtherText {
+            n,
+            text: _,
+            force: _,
+            rule: _,
+        } => ("rule-text", n),
+        TrialWarning::NothingRan { n } => ("nothing-ran", n),
+        TrialWarning::NothingTried => ("nothing-tried", 1),
+    }
+}
+
+/// The message for a warning about a script that was tried with these rule texts.
+fn warning_message(
+    alloc: Global,
+    script: &[u8],
+    texts: &[RuleText<'_>],
+    warning: TrialWarning,
+) -> Result<Message, AllocError> {
+    let (name, n) = name_and_line(warning);
+    let head = warning_head(alloc, texts, warning)?;
+    Ok(Message::warning(alloc, name, head, line_mark(alloc, script, n)))
+}
+
+/// The messages for the warnings about a script that was tried with these rule texts, after those so far.
+fn with_messages(
+    alloc: Global,
+    told: Vec<Message>,
+    script: &[u8],
+    texts: &[&[u8]],
+    warnings: &[TrialWarning],
+) -> Result<Vec<Message>, AllocError> {
+    let Ok(texts) = read_texts(alloc, texts) else {
+        return Err(AllocError);
+    };
+    let mut told = told;
+    for warning in warnings {
+        told.push(warning_message(alloc, script, texts.as_slice(), *warning)?)?;
+    }
+    Ok(told)
+}
+
+/// Writes the warnings about a script, a file's name and text, and those of its trial with these rule texts, to standard error. Returns
+/// whether there are warnings about the script itself.
 fn warn<R: Eprint + AllocGlobal>(
     rt: &R,
-    script: &str,
-    text: &[u8],
+    script: (&str, &[u8]),
+    texts: &[&[u8]],
     warnings: &[TrialWarning],
 ) -> Result<bool, AllocError> {
-    let mut told = script_warnings(rt.alloc(), text)?;
+    let (name, text) = script;
+    let told = script_warnings(rt.alloc(), text)?;
     let has_own = !told.is_empty();
-    for warning in warnings {
-        told.push(warning_message(rt.alloc(), text, *warning)?)?;
-    }
-    let page = warnings_page_of(rt.alloc(), script, text, told.as_slice())?;
+    let told = with_messages(rt.alloc(), told, text, texts, warnings)?;
+    let page = warnings_page_of(rt.alloc(), name, text, told.as_slice())?;
     let _said = eprint!(rt; "{page}");
     Ok(has_own)
 }
@@ -162,7 +250,8 @@ pub fn try_out<'a, R: Files + Eprint + AllocGlobal, W: Write>(
     match try_scenario(rt.alloc(), script, text.as_slice(), plan, &mut noted) {
         Ok(outcome) => {
             listing_result(noted.flush())?;
-            let has_own = warn(rt, script, text.as_slice(), outcome.warnings.as_slice())?;
+            let warnings = outcome.warnings.as_slice();
+            let has_own = warn(rt, (script, text.as_slice()), slices.as_slice(), warnings)?;
             ending_of(&outcome, strict)?;
             if strict && has_own {
                 return Err(Fault::Warned);

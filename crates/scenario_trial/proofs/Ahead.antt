@@ -123,17 +123,16 @@ pub nearer : (place before : ℕ) (starts : List ℕ) (ps : List Placed) → bef
 nearer place before starts [] on is = tt
 nearer place before starts (p ∷ ps) on is = (is.0, is.1, omega (arith, on, is.2), is.3)
 
-pub found_there : (sources : List (List ℕ)) (schedule : Schedule) (declared : Declarations) (script stream starts : List ℕ) (pairs : List TablePair) (placed : Placed) (now : Executive (List ℕ)) (found : RuleStanding) →
+pub found_there : (sources : List (List ℕ)) (schedule : Schedule) (declared : Declarations) (script stream starts : List ℕ) (pairs : List TablePair) (placed : Placed) (now : Executive (List ℕ)) (force : Option ℕ) (found : RuleStanding) →
     AreStarts script stream starts → AreAllCompiled sources pairs → placed.n - 1 < length starts → StandsBehind sources schedule (take (slice_index starts (placed.n - 1)) stream) now →
-    found ≡ standing_named declared (text_in_force pairs now) (engine_in now.seats) (rule_in (expected_of placed.expectation)) →
-    IsFound sources schedule declared script (record { placed = placed; found = found })
-found_there sources schedule declared script stream starts pairs placed now found begin compiled inside behind stands = record {
+    force ≡ text_in_force pairs now → found ≡ standing_named declared force (engine_in now.seats) (rule_in (expected_of placed.expectation)) →
+    IsFound sources schedule declared script (record { placed = placed; force = force; found = found })
+found_there sources schedule declared script stream starts pairs placed now force found begin compiled inside behind is_force stands = record {
   stream = take (slice_index starts (placed.n - 1)) stream;
   says = begin.front (placed.n - 1) inside;
   now = now;
   behind = behind;
-  force = text_in_force pairs now;
-  in_force = (pairs, compiled, refl);
+  in_force = (pairs, compiled, is_force);
   stands = stands;
 }
 
@@ -152,15 +151,15 @@ pub record Further (P : Judged → Type 0) (starts : List ℕ) (ps left : List P
   pub each : map placed_in judged ++ left ≡ ps
   pub found : AllByRecursion P judged
 
-pub one_judged : (P : Judged → Type 0) (starts : List ℕ) (ps : List Placed) (k place now : ℕ) (d : Placed) (judged after : List Judged) (found : RuleStanding) →
+pub one_judged : (P : Judged → Type 0) (starts : List ℕ) (ps : List Placed) (k place now : ℕ) (d : Placed) (judged after : List Judged) (force : Option ℕ) (found : RuleStanding) →
     k < length ps → AreAhead place starts (drop k ps) → map placed_in judged ++ drop k ps ≡ ps → AllByRecursion P judged →
-    after ≡ judged ++ record { placed = get_or ps k d; found = found } ∷ [] →
+    after ≡ judged ++ record { placed = get_or ps k d; force = force; found = found } ∷ [] →
     (let at : ℕ = slice_index starts ((get_or ps k d).n - 1) in place ≤ at → now ≤ at) →
-    (let n : ℕ = (get_or ps k d).n in n - 1 < length starts → place ≤ slice_index starts (n - 1) → P (record { placed = get_or ps k d; found = found })) →
+    (let n : ℕ = (get_or ps k d).n in n - 1 < length starts → place ≤ slice_index starts (n - 1) → P (record { placed = get_or ps k d; force = force; found = found })) →
     Further P starts ps (drop (k + 1) ps) now after
-one_judged P starts ps k place now d judged after found less is each all items near this =
+one_judged P starts ps k place now d judged after force found less is each all items near this =
     let p : Placed = get_or ps k d in
-    let one : Judged = record { placed = p; found = found } in
+    let one : Judged = record { placed = p; force = force; found = found } in
     let parts : drop k ps ≡ p ∷ drop (k + 1) ps = drop_more ps k d less in
     let here : AreAhead place starts (p ∷ drop (k + 1) ps) = subst (AreAhead place starts) parts is in
     let there : now ≤ slice_index starts (p.n - 1) = near here.2 in
@@ -174,20 +173,20 @@ one_judged P starts ps k place now d judged after found less is each all items n
 
 -- the same of a run of these texts over this stream, which stands behind what the script says before the expectation's line
 pub one_found : (sources : List (List ℕ)) (schedule : Schedule) (declared : Declarations) (script stream starts : List ℕ) (pairs : List TablePair) (course : Course) (ps : List Placed) (k place now : ℕ) (d : Placed)
-    (judged after : List Judged) (standing : Executive (List ℕ)) (found : RuleStanding) →
+    (judged after : List Judged) (standing : Executive (List ℕ)) (force : Option ℕ) (found : RuleStanding) →
     AreStarts script stream starts → AreAllCompiled sources pairs → course ≡ record { sources = sources; schedule = schedule; stream = stream } →
     k < length ps → AreAhead place starts (drop k ps) → map placed_in judged ++ drop k ps ≡ ps → AllByRecursion (IsFound sources schedule declared script) judged →
-    after ≡ judged ++ record { placed = get_or ps k d; found = found } ∷ [] →
+    after ≡ judged ++ record { placed = get_or ps k d; force = force; found = found } ∷ [] →
     (let at : ℕ = slice_index starts ((get_or ps k d).n - 1) in place ≤ at → now ≤ at) →
     (let at : ℕ = slice_index starts ((get_or ps k d).n - 1) in place ≤ at → StandsBehind course.sources course.schedule (take at course.stream) standing) →
-    found ≡ standing_named declared (text_in_force pairs standing) (engine_in standing.seats) (rule_in (expected_of (get_or ps k d).expectation)) →
+    force ≡ text_in_force pairs standing → found ≡ standing_named declared force (engine_in standing.seats) (rule_in (expected_of (get_or ps k d).expectation)) →
     Further (IsFound sources schedule declared script) starts ps (drop (k + 1) ps) now after
-one_found sources schedule declared script stream starts pairs course ps k place now d judged after standing found begin compiled same less is each all items near stands named =
+one_found sources schedule declared script stream starts pairs course ps k place now d judged after standing force found begin compiled same less is each all items near stands is_force named =
     let p : Placed = get_or ps k d in
     let at : ℕ = slice_index starts (p.n - 1) in
-    one_judged (IsFound sources schedule declared script) starts ps k place now d judged after found less is each all items near
-    (λ inside on. found_there sources schedule declared script stream starts pairs p standing found begin compiled inside
-    (subst (λ (it : Course). StandsBehind it.sources it.schedule (take at it.stream) standing) same (stands on)) named)
+    one_judged (IsFound sources schedule declared script) starts ps k place now d judged after force found less is each all items near
+    (λ inside on. found_there sources schedule declared script stream starts pairs p standing force found begin compiled inside
+    (subst (λ (it : Course). StandsBehind it.sources it.schedule (take at it.stream) standing) same (stands on)) is_force named)
 
 -- where the script is given without its expectations, and the two lists by other names
 pub ahead_of : (script quiet stream starts starts' : List ℕ) (found found' : List Placed) → expectations_in script ≡ Ok (map placed_of found) → AreStarts quiet stream starts →

@@ -32,9 +32,8 @@ module _ (sources : List (List ℕ)) (schedule : Schedule) (declared : Declarati
   pub guessed : (round : ℕ) (plain : PlainScript) → InRound round plain → IsGuessed sources schedule declared text plain
   guessed round plain here = record { round = round; changes = here.changes; guess = here.guess; said = here.said }
 
-  pub settled : (plain again : PlainScript) (changes : List ForceChange) → AreShown sources schedule (silenced_in plain.script) changes → plain_in declared changes text ≡ Ok again → again ≡ plain → IsSettled sources schedule declared text again
+  pub settled : (plain again : PlainScript) (changes : List ForceChange) → AreShown sources schedule (silenced_in plain.script) changes → plain_in declared changes text ≡ Ok again → again ≡ plain → IsSettled sources schedule declared text again changes
   settled plain again changes shown said same = record {
-    changes = changes;
     shown = subst (λ (it : PlainScript). AreShown sources schedule (silenced_in it.script) changes) (sym same) shown;
     said = said;
   }

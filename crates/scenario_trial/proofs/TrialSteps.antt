@@ -5,7 +5,10 @@ use Rattle.std.specs.List.{AllByRecursion}
 use Rattle.std.proofs.lemmas.List.{length-map}
 use Rattle.lc_model.specs.Host.Schedule.{Schedule}
 use Rattle.scenarios.specs.Declarations.{Declarations, AreDeclared, nothing_declared}
+use Rattle.rpn_compiler.specs.TextParts.{AreTextsOf}
+use Rattle.rpn_compiler.specs.declared.rule_text.RuleText.{RuleText}
 use Rattle.scenarios.specs.Plain.{PlainScript}
+use Rattle.scenarios.specs.declared.force.ForceChange.{ForceChange}
 use Rattle.scenario_trial.specs.declared.error.TrialError.{TrialError}
 use Rattle.scenario_trial.specs.declared.error.TrialError.TheVariants as trial
 use Rattle.scenario_trial.specs.declared.trial.TrialOutcome.{TrialOutcome}
@@ -27,12 +30,12 @@ each_placed [] = refl
 each_placed (one ∷ others) = ap (λ rest. placed_of one.placed ∷ rest) (each_placed others)
 
 -- what a run and its expectations come to
-pub tried_by : (sources : List (List ℕ)) (schedule : Schedule) (declared : Declarations) (plain : PlainScript) (stream : List ℕ) (expectations : List Placed) (judged : List Judged) (trace : Traced) (outcome : TrialOutcome) →
+pub tried_by : (sources : List (List ℕ)) (schedule : Schedule) (texts : List RuleText) (declared : Declarations) (plain : PlainScript) (stream : List ℕ) (expectations : List Placed) (judged : List Judged) (trace : Traced) (outcome : TrialOutcome) →
     expectations_in plain.script ≡ Ok (map placed_of expectations) → find (has_no_rule declared) (map placed_of expectations) ≡ None → script_in (silenced_in plain.script) ≡ Ok stream →
     IsTraced sources schedule stream trace → is_whole trace.ending ≡ true → map placed_in judged ≡ expectations → AllByRecursion (IsFound sources schedule declared (silenced_in plain.script)) judged →
     outcome.tried ≡ record { expected = length judged; unmet = length (unmet_of (arrivals_of trace) judged) } →
-    outcome.warnings.items ≡ warnings_of declared plain.lines (map placed_of expectations) (arrived_from 0 trace.parts) → IsPlainTried sources schedule declared plain outcome
-tried_by sources schedule declared plain stream expectations judged trace outcome expects known says traced whole each found counts warned = record {
+    outcome.warnings.items ≡ warnings_of texts declared plain.lines judged (map placed_of expectations) (arrived_from 0 trace.parts) → IsPlainTried sources schedule texts declared plain outcome
+tried_by sources schedule texts declared plain stream expectations judged trace outcome expects known says traced whole each found counts warned = record {
   expectations = map placed_of expectations;
   expects = expects;
   stream = stream;
@@ -70,13 +73,16 @@ untried sources schedule text declared plain (Ok tried) declares short why = tt
 untried sources schedule text declared plain (Err error) declares short why = untried_for sources schedule text declared plain error declares short why
 
 -- what a plain script comes to, with the warnings of the scenario's lines, is what the scenario comes to that is short for it
-pub tried_so : (sources : List (List ℕ)) (schedule : Schedule) (text : List ℕ) (declared : Declarations) (plain : PlainScript) (run outcome : TrialOutcome) →
-    AreDeclared sources nothing_declared declared → IsSettled sources schedule declared text plain → IsPlainTried sources schedule declared plain run →
-    IsWarnedBefore (state_warnings declared text) run outcome → IsTried sources schedule text outcome
-tried_so sources schedule text declared plain run outcome declares settled tries warned = record {
+pub tried_so : (sources : List (List ℕ)) (schedule : Schedule) (text : List ℕ) (texts : List RuleText) (declared : Declarations) (plain : PlainScript) (changes : List ForceChange) (run outcome : TrialOutcome) →
+    AreTextsOf sources texts → AreDeclared sources nothing_declared declared → IsSettled sources schedule declared text plain changes → IsPlainTried sources schedule texts declared plain run →
+    IsWarnedBefore (state_warnings texts declared plain.lines changes text) run outcome → IsTried sources schedule text outcome
+tried_so sources schedule text texts declared plain changes run outcome read declares settled tries warned = record {
+  texts = texts;
+  read = read;
   declared = declared;
   declares = declares;
   plain = plain;
+  changes = changes;
   settled = settled;
   run = run;
   tries = tries;
@@ -84,17 +90,17 @@ tried_so sources schedule text declared plain run outcome declares settled tries
 }
 
 -- the same by the answer, where what is the same has several names
-pub outcome_so : (sources : List (List ℕ)) (schedule : Schedule) (declared : Declarations) (plain : PlainScript) (quiet quiet' stream stream' : List ℕ) (ps asked run_with warned_of : List Placed)
+pub outcome_so : (sources : List (List ℕ)) (schedule : Schedule) (texts : List RuleText) (declared : Declarations) (plain : PlainScript) (quiet quiet' stream stream' : List ℕ) (ps asked run_with warned_of : List Placed)
     (judged counted_of : List Judged) (trace : Traced) (result : Result TrialOutcome TrialError) →
     quiet ≡ silenced_in plain.script → quiet' ≡ silenced_in plain.script → stream' ≡ stream → asked ≡ ps → run_with ≡ ps → warned_of ≡ ps → counted_of ≡ judged →
     expectations_in plain.script ≡ Ok (map placed_of ps) → find (has_no_rule declared) (map placed_of asked) ≡ None → script_in quiet ≡ Ok stream → IsTraced sources schedule stream' trace →
     is_whole trace.ending ≡ true → map placed_in judged ≡ run_with → AllByRecursion (IsFound sources schedule declared quiet') judged →
     IfOk result (λ (outcome : TrialOutcome). outcome.tried ≡ record { expected = length counted_of; unmet = length (unmet_of (arrivals_of trace) counted_of) }) →
-    IfOk result (λ (outcome : TrialOutcome). outcome.warnings.items ≡ warnings_of declared plain.lines (map placed_of warned_of) (arrived_from 0 trace.parts)) →
-    IfOk result (IsPlainTried sources schedule declared plain)
-outcome_so sources schedule declared plain quiet quiet' stream stream' ps asked run_with warned_of judged counted_of trace (Err error) q q' s a r w j expects known says traced whole each found counts warned = counts
-outcome_so sources schedule declared plain quiet quiet' stream stream' ps asked run_with warned_of judged counted_of trace (Ok outcome) q q' s a r w j expects known says traced whole each found counts warned =
-    tried_by sources schedule declared plain stream ps judged trace outcome expects
+    IfOk result (λ (outcome : TrialOutcome). outcome.warnings.items ≡ warnings_of texts declared plain.lines counted_of (map placed_of warned_of) (arrived_from 0 trace.parts)) →
+    IfOk result (IsPlainTried sources schedule texts declared plain)
+outcome_so sources schedule texts declared plain quiet quiet' stream stream' ps asked run_with warned_of judged counted_of trace (Err error) q q' s a r w j expects known says traced whole each found counts warned = counts
+outcome_so sources schedule texts declared plain quiet quiet' stream stream' ps asked run_with warned_of judged counted_of trace (Ok outcome) q q' s a r w j expects known says traced whole each found counts warned =
+    tried_by sources schedule texts declared plain stream ps judged trace outcome expects
     (ap (λ them. find (has_no_rule declared) (map placed_of them)) (sym a) ∙ known)
     (ap script_in (sym q) ∙ says)
     (subst (λ (it : List ℕ). IsTraced sources schedule it trace) s traced)
@@ -102,4 +108,6 @@ outcome_so sources schedule declared plain quiet quiet' stream stream' ps asked 
     (each ∙ r)
     (subst (λ (it : List ℕ). AllByRecursion (IsFound sources schedule declared it) judged) q' found)
     (counts ∙ ap (λ them. record { expected = length them; unmet = length (unmet_of (arrivals_of trace) them) }) j)
-    (warned ∙ ap (λ them. warnings_of declared plain.lines (map placed_of them) (arrived_from 0 trace.parts)) w)
+    (warned
+    ∙ ap (λ them. warnings_of texts declared plain.lines them (map placed_of warned_of) (arrived_from 0 trace.parts)) j
+    ∙ ap (λ them. warnings_of texts declared plain.lines judged (map placed_of them) (arrived_from 0 trace.parts)) w)

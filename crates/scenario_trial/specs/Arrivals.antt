@@ -92,19 +92,18 @@ AreAhead place starts (p ∷ ps) =
     (0 < p.n) × (p.n - 1 < length starts) × (place ≤ slice_index starts (p.n - 1)) × AreAhead (slice_index starts (p.n - 1)) starts ps
 
 module _ (sources : List (List ℕ)) (schedule : Schedule) (declared : Declarations) (script : List ℕ) where
-  -- Behind what the script says before this line a rule text is in force, or none, and the rule stands so that an expectation names there.
-  pub record StandsThere (line : ℕ) (name : Option (List ℕ)) (found : RuleStanding) : Type 0 where
+  -- Behind what the script says before this line this rule text is in force, or none, and the rule stands so that an expectation names there.
+  pub record StandsThere (line : ℕ) (name : Option (List ℕ)) (force : Option ℕ) (found : RuleStanding) : Type 0 where
     pub stream : List ℕ
     pub says : script_in (take (line_start (line - 1) (lines_of script)) script) ≡ Ok stream
     pub now : Executive (List ℕ)
     pub behind : StandsBehind sources schedule stream now
-    pub force : Option ℕ
     pub in_force : IsInForce sources now force
     pub stands : found ≡ standing_named declared force (engine_in now.seats) name
 
-  -- what is found of an expectation's rule is how it stands where the expectation is
+  -- what is found of an expectation is the text in force where it is, and how its rule stands there
   abbrev pub IsFound : Judged → Type 0
-  IsFound judged = StandsThere judged.placed.n (rule_in (expected_of judged.placed.expectation)) judged.found
+  IsFound judged = StandsThere judged.placed.n (rule_in (expected_of judged.placed.expectation)) judged.force judged.found
 
   -- Expectations are judged by what came, and by how each one's rule stands behind what the script says before it. No rule is named that
   -- no text has.

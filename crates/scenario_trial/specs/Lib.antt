@@ -4,6 +4,7 @@ pub mod Reading
 pub mod Judged
 pub mod Arrivals
 pub mod Settled
+pub mod Origin
 pub mod Untried
 pub mod Telling
 pub mod Warned

@@ -85,8 +85,8 @@ module _ (sources : List (List ℕ)) (schedule : Schedule) (declared : Declarati
     pub guess : IsGuess round changes
     pub said : plain_in declared changes scenario ≡ Ok plain
 
-  -- A plain script is settled: where the text in force is taken to be as its own run shows it, the scenario says this plain script.
-  pub record IsSettled (plain : PlainScript) : Type 0 where
-    pub changes : List ForceChange
+  -- A plain script is settled with these texts in force at its commands: its own run shows them, and with them the scenario says this plain
+  -- script.
+  pub record IsSettled (plain : PlainScript) (changes : List ForceChange) : Type 0 where
     pub shown : AreShown sources schedule (silenced_in plain.script) changes
     pub said : plain_in declared changes scenario ≡ Ok plain

@@ -1,58 +1,98 @@
 -- What is to be looked at in a script that was tried. This project's own.
-use Rattle.std.specs.Prelude.{◌≡◌, ℕ, ◌+◌, ◌==◌, Bool, true, false, not, List, [], ◌∷◌, ◌++◌, filter_map, find, bytes_eq, codes, Option, Some, None, if◌then◌else◌}
+use Rattle.std.specs.Prelude.{◌≡◌, ℕ, ◌+◌, ◌==◌, Bool, true, false, not, ◌&&◌, List, [], ◌∷◌, ◌++◌, filter_map, find, bytes_eq, codes, Option, Some, None, if◌then◌else◌}
 use Rattle.std.specs.List.{list_any}
 use Rattle.lc_model.specs.Host.ScheduleText.{lines_of, words_of}
+use Rattle.rpn_compiler.specs.declared.rule_text.RuleText.{RuleText}
 use Rattle.scenarios.specs.Declarations.{Declarations}
+use Rattle.scenarios.specs.Orders.{is_all}
 use Rattle.scenarios.specs.Plain.{line_of}
-use Rattle.scenarios.specs.Rules.{numbers_differ}
+use Rattle.scenarios.specs.Rules.{numbers_differ, rule_numbered}
+use Rattle.scenarios.specs.declared.force.ForceChange.{ForceChange}
 use Rattle.run_stepper.specs.Trace.{Arrived}
 use Rattle.scenario_trial.specs.declared.expectation.Arrival.{Arrival}
 use Rattle.scenario_trial.specs.declared.expectation.ArrivalKind.{ArrivalKind}
 use Rattle.scenario_trial.specs.declared.trial.TrialOutcome.{TrialOutcome}
+use Rattle.scenario_trial.specs.declared.verdict.Judged.{Judged}
 use Rattle.scenario_trial.specs.declared.warning.TrialWarning.{TrialWarning}
-use Rattle.scenario_trial.specs.declared.warning.TrialWarning.TheVariants.{ManyNumbers, NothingRan, NothingTried}
+use Rattle.scenario_trial.specs.declared.warning.TrialWarning.TheVariants.{ManyNumbers, NothingRan, NothingTried, OtherText}
 use Rattle.scenario_trial.specs.Arrivals.{arrival_of, rule_in}
-use Rattle.scenario_trial.specs.Expected.{Absent, Comes, Expected, LastResult, State}
+use Rattle.scenario_trial.specs.Expected.{Absent, Comes, Expected, LastResult, State, expected_of}
 use Rattle.scenario_trial.specs.Judged.{kind_number}
+use Rattle.scenario_trial.specs.Origin.{text_named}
 use Rattle.scenario_trial.specs.Reading.{PlacedExpected}
 
--- ---- rules to which the texts give different numbers
+-- ---- the rule that a line names
 
-abbrev pub are_many : Declarations → Option (List ℕ) → Bool
-are_many declared None = false
-are_many declared (Some name) = numbers_differ declared name
+-- the rule of a line is of this text and has this number, where another text is in force
+abbrev pub of_other_text : (n force : ℕ) → (text rule : Option ℕ) → Option TrialWarning
+of_other_text n force None rule = None
+of_other_text n force (Some text) None = None
+of_other_text n force (Some text) (Some rule) = if text == force then None else Some (OtherText n text force rule)
 
-abbrev pub has_many_numbers : Declarations → PlacedExpected → Bool
-has_many_numbers declared placed = are_many declared (rule_in placed.expected)
-
--- the warning of an expectation, at the scenario's line that says it
-abbrev pub numbers_warning : Declarations → List ℕ → PlacedExpected → Option TrialWarning
-numbers_warning declared lines placed = if has_many_numbers declared placed then Some (ManyNumbers (line_of lines placed.n)) else None
-
-abbrev pub numbers_warnings : Declarations → List ℕ → List PlacedExpected → List TrialWarning
-numbers_warnings declared lines expectations = filter_map (numbers_warning declared lines) expectations
-
--- ---- lines of a scenario that set the state of such a rule
+-- the warning of a line that names a rule, or else that the texts give this rule different numbers
+abbrev pub or_many : Declarations → (n : ℕ) → (name : List ℕ) → Option TrialWarning → Option TrialWarning
+or_many declared n name (Some warning) = Some warning
+or_many declared n name None = if numbers_differ declared name then Some (ManyNumbers n) else None
 
 -- the rule of `state RULE STATE`
 abbrev pub state_rule : List (List ℕ) → Option (List ℕ)
-state_rule (verb ∷ name ∷ state ∷ []) = if bytes_eq verb (codes "state") then Some name else None
+state_rule (verb ∷ name ∷ words) = if bytes_eq verb (codes "state") && not (is_all name) then Some name else None
 state_rule words = None
 
-abbrev pub state_warning : Declarations → ℕ → List ℕ → Option TrialWarning
-state_warning declared n line = if are_many declared (state_rule (words_of line)) then Some (ManyNumbers n) else None
+-- the first of two warnings
+abbrev pub or_later : Option TrialWarning → Option TrialWarning → Option TrialWarning
+or_later (Some warning) later = Some warning
+or_later None later = later
 
 abbrev pub warned_before : Option TrialWarning → List TrialWarning → List TrialWarning
 warned_before None warnings = warnings
 warned_before (Some warning) warnings = warning ∷ warnings
 
--- those of lines of which the first has this number
-abbrev pub state_warnings_from : Declarations → ℕ → List (List ℕ) → List TrialWarning
-state_warnings_from declared n [] = []
-state_warnings_from declared n (line ∷ lines) = warned_before (state_warning declared n line) (state_warnings_from declared (n + 1) lines)
+module _ (texts : List RuleText) (declared : Declarations) where
+  -- a line names a rule by this word, which is of another text than the one in force there
+  abbrev pub other_text : (n : ℕ) → (force : Option ℕ) → (word : List ℕ) → Option TrialWarning
+  other_text n None word = None
+  other_text n (Some force) word = of_other_text n force (text_named texts force word) (rule_numbered declared (Some force) word)
 
-abbrev pub state_warnings : Declarations → List ℕ → List TrialWarning
-state_warnings declared scenario = state_warnings_from declared 1 (lines_of scenario)
+  -- ---- expectations
+
+  -- the warning of an expectation about a rule, at the scenario's line that says it
+  abbrev pub named_warning : (n : ℕ) → (force : Option ℕ) → (name : Option (List ℕ)) → Option TrialWarning
+  named_warning n force None = None
+  named_warning n force (Some name) = or_many declared n name (other_text n force name)
+
+  abbrev pub expectation_warning : (lines : List ℕ) → Judged → Option TrialWarning
+  expectation_warning lines judged = named_warning (line_of lines judged.placed.n) judged.force (rule_in (expected_of judged.placed.expectation))
+
+  abbrev pub expectation_warnings : (lines : List ℕ) → List Judged → List TrialWarning
+  expectation_warnings lines judged = filter_map (expectation_warning lines) judged
+
+  -- ---- lines of a scenario that set the state of a rule, where these lines of it say the plain script, and these texts are in force
+
+  -- the warning of a command that the line with this number says about a rule of this name
+  abbrev pub command_warning : (lines : List ℕ) (n : ℕ) (name : List ℕ) → ForceChange → Option TrialWarning
+  command_warning lines n name change = if line_of lines change.line == n then other_text n change.text name else None
+
+  -- that of the first of its commands that has one
+  abbrev pub first_command : (lines : List ℕ) (n : ℕ) (name : List ℕ) → List ForceChange → Option TrialWarning
+  first_command lines n name [] = None
+  first_command lines n name (change ∷ changes) = or_later (command_warning lines n name change) (first_command lines n name changes)
+
+  abbrev pub setting_warning : (lines : List ℕ) → List ForceChange → (n : ℕ) → (name : Option (List ℕ)) → Option TrialWarning
+  setting_warning lines changes n None = None
+  setting_warning lines changes n (Some name) = or_many declared n name (first_command lines n name changes)
+
+  abbrev pub state_warning : (lines : List ℕ) → List ForceChange → (n : ℕ) → (line : List ℕ) → Option TrialWarning
+  state_warning lines changes n line = setting_warning lines changes n (state_rule (words_of line))
+
+  -- those of lines of which the first has this number
+  abbrev pub state_warnings_from : (lines : List ℕ) → List ForceChange → (n : ℕ) → List (List ℕ) → List TrialWarning
+  state_warnings_from lines changes n [] = []
+  state_warnings_from lines changes n (line ∷ others) =
+      warned_before (state_warning lines changes n line) (state_warnings_from lines changes (n + 1) others)
+
+  abbrev pub state_warnings : (lines : List ℕ) → List ForceChange → (scenario : List ℕ) → List TrialWarning
+  state_warnings lines changes scenario = state_warnings_from lines changes 1 (lines_of scenario)
 
 -- ---- a run in which nothing was tried
 
@@ -97,8 +137,9 @@ abbrev pub with_idle : List TrialWarning → Option TrialWarning → List TrialW
 with_idle warnings None = warnings
 with_idle warnings (Some warning) = warnings ++ warning ∷ []
 
-abbrev pub warnings_of : Declarations → List ℕ → List PlacedExpected → List Arrived → List TrialWarning
-warnings_of declared lines expectations came = with_idle (numbers_warnings declared lines expectations) (idle_warning lines expectations came)
+-- of the expectations about rules, in order, and then whether something was tried
+abbrev pub warnings_of : List RuleText → Declarations → (lines : List ℕ) → List Judged → List PlacedExpected → List Arrived → List TrialWarning
+warnings_of texts declared lines judged expectations came = with_idle (expectation_warnings texts declared lines judged) (idle_warning lines expectations came)
 
 -- An outcome is that of a run, with these warnings before its own.
 pub record IsWarnedBefore (first : List TrialWarning) (run outcome : TrialOutcome) : Type 0 where

@@ -25,6 +25,13 @@ use scenarios::{DeclaredItems, ForceChange, Plain, plain_script};
 use std::alloc::{AllocError, Global};
 use text_lines::{first_line, words};
 
+/// The plain script of a scenario, and the text in force at each of its lines that sets the state of a rule.
+#[derive(Drop)]
+pub struct SettledScript {
+    pub plain: Plain,
+    pub changes: Vec<ForceChange>,
+}
+
 /// The most runs of a scenario until it is settled.
 const MOST_ROUNDS: u32 = 1_000;
 
@@ -158,19 +165,20 @@ fn is_same(plain: &Plain, other: &Plain) -> bool
     plain.text == other.text && plain.lines == other.lines
 }
 
-/// The plain script of a scenario. A command that sets the state of a rule by its name has the rule's number in the text that is in
-/// force at its line.
+/// The plain script of a scenario, and what is in force at its commands. A command that sets the state of a rule by its name has the
+/// rule's number in the text that is in force at its line.
 pub fn settle_script(
     alloc: Global,
     scenario: &[u8],
     inputs: RunInputs<'_>,
     declared: &DeclaredItems<'_>,
-) -> Result<Plain, TrialError>
+) -> Result<SettledScript, TrialError>
     requires { AreDeclared (sources_of inputs.texts.now) nothing_declared declared.now }
-    ensures settled { IfOk result (λ plain. IsSettled (sources_of inputs.entry.texts.now)
-        inputs.entry.schedule.now declared.now scenario.now (plain_script_of plain)) }
-    ensures guessed { IfOk result (λ plain. IsGuessed (sources_of inputs.entry.texts.now)
-        inputs.entry.schedule.now declared.now scenario.now (plain_script_of plain)) }
+    ensures settled { IfOk result (λ script. IsSettled (sources_of inputs.entry.texts.now)
+        inputs.entry.schedule.now declared.now scenario.now (plain_script_of script.plain)
+        script.changes.items) }
+    ensures guessed { IfOk result (λ script. IsGuessed (sources_of inputs.entry.texts.now)
+        inputs.entry.schedule.now declared.now scenario.now (plain_script_of script.plain)) }
     ensures refused { IfErr result (IsUntried (sources_of inputs.entry.texts.now)
         inputs.entry.schedule.now scenario.now) }
 {
@@ -180,7 +188,10 @@ pub fn settle_script(
         let changes = shown_forces(alloc, inputs, declared, &plain)?;
         let again = plain_script(alloc, scenario, declared, changes.as_slice())?;
         if is_same(&again, &plain) {
-            return Ok(again);
+            return Ok(SettledScript {
+                plain: again,
+                changes,
+            });
         }
         first = changes.as_slice().first().map_or(0, |change| change.line);
         plain = again;

@@ -3,7 +3,6 @@
 ghost use Rattle.std.specs.Prelude.{◌≡◌, ◌-◌, ◌<◌, ◌≤◌, length, map, option_map, slice_index, IfErr, IfOk};
 ghost use Rattle.std.specs.List.{AllByRecursion};
 ghost use Rattle.flight_core.specs.Compiled.{AreAllCompiled, sources_of};
-ghost use Rattle.flight_profile.specs.Force.{text_in_force};
 ghost use Rattle.run_stepper.specs.Stepping.{IsAtRest};
 ghost use Rattle.run_stepper.specs.Trace.{engine_in};
 ghost use Rattle.run_stepper.specs.Walk.{IsUnderWay, course_of, place_of, standing_of};
@@ -48,26 +47,28 @@ pub struct Trial<'a, 't> {
 }
 
 impl Trial<'_, '_> {
-    /// The state and the last result of the rule that an expectation names, at this point of the run; `NoRule` if there is no such rule.
-    fn standing(&self, walk: &Walk<'_>, expectation: Expectation<'_>) -> RuleStanding
+    /// The state and the last result of the rule that an expectation names, at this point of the run, where this text is in force;
+    /// `NoRule` if there is no such rule.
+    fn standing(
+        &self,
+        walk: &Walk<'_>,
+        force: Option<usize>,
+        expectation: Expectation<'_>,
+    ) -> RuleStanding
         requires under_way { IsUnderWay walk.now }
-        ensures { result ≡ standing_named self.now.declared.now
-            (text_in_force self.now.pairs.now (standing_of walk.now))
+        ensures { result ≡ standing_named self.now.declared.now force
             (engine_in (standing_of walk.now).seats) (rule_in (expected_of expectation.entry)) }
     {
         let Some(name) = expectation.rule() else {
             return RuleStanding::NoRule;
         };
-        match self
-            .declared
-            .rule_number(walk.text_in_force(self.pairs), name)
-        {
+        match self.declared.rule_number(force, name) {
             Some(rule) => walk.rule_standing(usize::from(rule)),
             None => RuleStanding::NoRule,
         }
     }
 
-    /// Each expectation with the state of its rule after all lines before it. The run has not begun.
+    /// Each expectation with the text in force and the state of its rule after all lines before it. The run has not begun.
     pub fn judge_each<'p>(
         &self,
         walk: &mut Walk<'_>,
@@ -94,9 +95,11 @@ impl Trial<'_, '_> {
         let mut judged = Vec::new(self.alloc);
         for placed in expectations {
             walk.go_to(self.starts[placed.n - 1])?;
+            let force = walk.text_in_force(self.pairs);
             judged.push(Judged {
                 placed: *placed,
-                found: self.standing(walk, placed.expectation),
+                force,
+                found: self.standing(walk, force, placed.expectation),
             })?;
         }
         Ok(judged)

@@ -9,6 +9,7 @@ mod fault;
 mod in_force;
 mod judging;
 pub mod laws;
+mod origin;
 mod stopping;
 mod telling;
 mod trial;

@@ -22,9 +22,10 @@ use crate::judging::Trial;
 use crate::stopping::{is_whole, stop_line};
 use crate::telling::Unmet;
 use crate::verdict::{Judged, unmet_of};
-use crate::warning::{TrialWarning, state_warnings, warnings_of};
+use crate::warning::{TrialWarning, expectation_warnings, idle_warning, state_warnings, with_idle};
 use diagnostics::Many;
 use packet_listing::{PacketLine, Sent, read_packet};
+use rpn_compiler::RuleText;
 use run_stepper::{Came, RunInputs, Trace, Walk, compile_texts, read_texts};
 use scenarios::{DeclaredItems, Plain, declared_in};
 use std::alloc::{AllocError, Global};
@@ -282,6 +283,7 @@ fn report<W: Write>(
 /// listed.
 fn judge<W: Write>(
     trial: &Trial<'_, '_>,
+    texts: &[RuleText<'_>],
     script: (&str, &Plain),
     expectations: &[Placed<'_>],
     judged: &[Judged<'_>],
@@ -292,21 +294,16 @@ fn judge<W: Write>(
       expected = length judged.now;
       unmet = length (unmet_of (arrivals_of trace.now) judged.now);
     }) }
-    ensures warned { IfOk result (λ outcome. outcome.warnings.items ≡ warnings_of
-        trial.now.declared.now script.entry.1.now.lines.items (map placed_of expectations.now)
-        (arrived_from 0 trace.now.parts)) }
+    ensures warned { IfOk result (λ outcome. outcome.warnings.items ≡ warnings_of texts.now
+        trial.now.declared.now script.entry.1.now.lines.items judged.now
+        (map placed_of expectations.now) (arrived_from 0 trace.now.parts)) }
     ensures own { IfErr result IsOwn }
 {
     let came = trace.came(trial.alloc)?;
     let arrivals = arrivals_of(trial.alloc, came.as_slice())?;
-    let warnings = warnings_of(
-        trial.alloc,
-        trial.declared,
-        script.1,
-        expectations,
-        came.as_slice(),
-        arrivals.as_slice(),
-    )?;
+    let about_rules = expectation_warnings(trial.alloc, texts, trial.declared, script.1, judged)?;
+    let idle = idle_warning(script.1, expectations, came.as_slice(), arrivals.as_slice());
+    let warnings = with_idle(about_rules, idle)?;
     if judged.is_empty() {
         list_all(came.as_slice(), out)?;
         let tried = Tried {
@@ -325,12 +322,13 @@ fn try_plain<W: Write>(
     alloc: Global,
     name: &str,
     inputs: RunInputs<'_>,
+    texts: &[RuleText<'_>],
     declared: &DeclaredItems<'_>,
     plain: &Plain,
     out: &mut W,
 ) -> Result<TrialOutcome, TrialError>
     ensures tried { IfOk result (IsPlainTried (sources_of inputs.entry.texts.now)
-        inputs.entry.schedule.now declared.now (plain_script_of plain.now)) }
+        inputs.entry.schedule.now texts.now declared.now (plain_script_of plain.now)) }
     ensures refused { IfErr result (IsPlainUntried (sources_of inputs.entry.texts.now)
         inputs.entry.schedule.now declared.now (plain_script_of plain.now)) }
 {
@@ -356,6 +354,7 @@ fn try_plain<W: Write>(
     }
     judge(
         &trial,
+        texts,
         (name, plain),
         expectations.as_slice(),
         judged.as_slice(),
@@ -394,11 +393,12 @@ pub fn try_scenario<W: Write>(
     ensures refused { IfErr result (IsUntried (sources_of plan.entry.texts.now)
         plan.entry.schedule.now scenario.now) }
 {
-    let texts = read_texts(alloc, plan.texts)?;
-    let declared = declared_in(alloc, texts.as_slice())?;
-    let plain = settle_script(alloc, scenario, plan, &declared)?;
-    let first = state_warnings(alloc, &declared, scenario)?;
-    match try_plain(alloc, name, plan, &declared, &plain, out) {
+    let found = read_texts(alloc, plan.texts)?;
+    let texts = found.as_slice();
+    let declared = declared_in(alloc, texts)?;
+    let script = settle_script(alloc, scenario, plan, &declared)?;
+    let first = state_warnings(alloc, texts, &declared, &script, scenario)?;
+    match try_plain(alloc, name, plan, texts, &declared, &script.plain, out) {
         Ok(run) => Ok(with_warnings(first, run)?),
         Err(error) => Err(error),
     }

@@ -10,10 +10,12 @@ use lc_model::{ApMode, ApResult};
 use run_stepper::RuleStanding;
 use std::alloc::{AllocError, Global};
 
-/// An expectation, and the state of its rule: `NoRule` if it names none, or none that there is.
+/// An expectation, the number of the rule text in force at its line, and the state of its rule: `NoRule` if it names none, or none that
+/// there is.
 #[derive(Clone, Copy)]
 pub struct Judged<'a> {
     pub placed: Placed<'a>,
+    pub force: Option<usize>,
     pub found: RuleStanding,
 }
 

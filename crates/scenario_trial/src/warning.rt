@@ -7,66 +7,119 @@ ghost use Rattle.lc_model.specs.Host.ScheduleText.{lines_of, words_of};
 ghost use Rattle.text_lines.specs.Lines.{texts_of};
 ghost use Rattle.scenario_trial.specs.Arrivals.{arrival_of};
 ghost use Rattle.scenario_trial.specs.Reading.{placed_of};
-ghost use Rattle.scenario_trial.specs.Warned.{asked_by, asks_checker, has_many_numbers, idle_warning, is_kind_of_checker, is_of_checker, numbers_warning, numbers_warnings, state_rule, state_warning, state_warnings, warnings_of};
+ghost use Rattle.scenario_trial.specs.Warned.{asked_by, asks_checker, command_warning, expectation_warning, expectation_warnings, first_command, idle_warning, is_kind_of_checker, is_of_checker, or_many, other_text, state_rule, state_warning, state_warnings, with_idle};
 
 use crate::expectation::{Arrival, ArrivalKind, Expectation};
 use crate::expectation_lines::Placed;
 use crate::expectation_words::is;
+use crate::in_force::SettledScript;
+use crate::origin::text_named;
+use crate::verdict::Judged;
+use rpn_compiler::RuleText;
 use run_stepper::Came;
-use scenarios::{DeclaredItems, Plain};
+use scenarios::{DeclaredItems, ForceChange, Plain};
 use std::alloc::{AllocError, Global};
 use text_lines::{first_line, words};
 
-/// A warning about a script that was tried. Lines are the scenario's, counted from 1.
+/// A warning about a script that was tried. Lines are the scenario's, from 1; rule texts, and the rules of a text, count from 0.
 #[derive(Clone, Copy, Debug, PartialEq, Eq)]
 pub enum TrialWarning {
     /// This line names a rule to which the texts give different numbers: the text in force decides.
-    ManyNumbers { n: usize },
+    ManyNumbers {
+        n: usize,
+    },
+    /// This line names this rule of this text, but another text is in force there: its rule of the same number is taken.
+    OtherText {
+        n: usize,
+        text: usize,
+        force: usize,
+        rule: u16,
+    },
     /// This line has the first expectation about the Limit Checker, and nothing came of the Limit Checker.
-    NothingRan { n: usize },
+    NothingRan {
+        n: usize,
+    },
     /// Nothing is expected, and nothing came.
     NothingTried,
 }
 
-/// Whether an expectation names a rule to which the texts give different numbers.
-fn has_many_numbers(declared: &DeclaredItems<'_>, placed: &Placed<'_>) -> bool
-    ensures { result ≡ has_many_numbers declared.now (placed_of placed.now) }
+/// The warning of a line that names a rule by this word, if the rule is of another text than the one in force there.
+fn other_text(
+    texts: &[RuleText<'_>],
+    declared: &DeclaredItems<'_>,
+    n: usize,
+    force: Option<usize>,
+    word: &[u8],
+) -> Option<TrialWarning>
+    ensures { result ≡ other_text texts.now declared.now n force word.now }
 {
-    match placed.expectation.rule() {
-        Some(name) => declared.numbers_differ(name),
-        None => false,
+    let force = force?;
+    let text = text_named(texts, force, word)?;
+    let rule = declared.rule_number(Some(force), word)?;
+    if text == force {
+        return None;
+    }
+    Some(TrialWarning::OtherText {
+        n,
+        text,
+        force,
+        rule,
+    })
+}
+
+/// The warning found of a line that names a rule, or else that the texts give the rule different numbers, if they do.
+fn or_many(
+    declared: &DeclaredItems<'_>,
+    n: usize,
+    name: &[u8],
+    found: Option<TrialWarning>,
+) -> Option<TrialWarning>
+    ensures { result ≡ or_many declared.now n name.now found }
+{
+    match found {
+        Some(warning) => Some(warning),
+        None => if declared.numbers_differ(name) {
+            Some(TrialWarning::ManyNumbers { n })
+        } else {
+            None
+        },
     }
 }
 
 /// The warning about the rule of an expectation, if there is one.
-fn numbers_warning(
+fn expectation_warning(
+    texts: &[RuleText<'_>],
     declared: &DeclaredItems<'_>,
     plain: &Plain,
-    placed: &Placed<'_>,
+    judged: &Judged<'_>,
 ) -> Option<TrialWarning>
-    ensures { result ≡ numbers_warning declared.now plain.now.lines.items (placed_of placed.now) }
+    ensures { result ≡ expectation_warning texts.now declared.now plain.now.lines.items
+        judged.now }
 {
-    if has_many_numbers(declared, placed) {
-        return Some(TrialWarning::ManyNumbers {
-            n: plain.line(placed.n),
-        });
+    match judged.placed.expectation.rule() {
+        Some(name) => {
+            let n = plain.line(judged.placed.n);
+            let found = other_text(texts, declared, n, judged.force, name);
+            or_many(declared, n, name, found)
+        }
+        None => None,
     }
-    None
 }
 
 /// The warnings about the rules of expectations, in order. Out of memory is the only error.
-fn numbers_warnings(
+pub fn expectation_warnings(
     alloc: Global,
+    texts: &[RuleText<'_>],
     declared: &DeclaredItems<'_>,
     plain: &Plain,
-    expectations: &[Placed<'_>],
+    judged: &[Judged<'_>],
 ) -> Result<Vec<TrialWarning>, AllocError>
-    ensures { IfOk result (λ found. found.items ≡ numbers_warnings declared.now
-        plain.now.lines.items (map placed_of expectations.now)) }
+    ensures { IfOk result (λ found. found.items ≡ expectation_warnings texts.now declared.now
+        plain.now.lines.items judged.now) }
 {
     let mut found = Vec::new(alloc);
-    for placed in expectations {
-        if let Some(warning) = numbers_warning(declared, plain, placed) {
+    for one in judged {
+        if let Some(warning) = expectation_warning(texts, declared, plain, one) {
             found.push(warning)?;
         }
     }
@@ -78,45 +131,88 @@ fn state_rule<'a>(words: &[&'a [u8]]) -> Option<&'a [u8]>
     ensures { option_map (λ name. name.now) result ≡ state_rule (texts_of words.now) }
 {
     match words {
-        [verb, name, _state] => if is(verb, b"state") {
+        [verb, name, ..] => if is(verb, b"state") && !is(name, b"all") {
             Some(*name)
         } else {
             None
         },
-        [] | [_] | [_, _] => None,
-        [_, _, _, _, ..] => None,
+        [] | [_] => None,
     }
 }
 
-/// The warning of a line of a scenario, if it sets the state of a rule to which the texts give different numbers. Out of memory is the
-/// only error.
+/// The warning of a command of the plain script about a rule of this name, if line `n` of the scenario says the command, and the rule is
+/// of another text than the one in force there.
+fn command_warning(
+    texts: &[RuleText<'_>],
+    declared: &DeclaredItems<'_>,
+    plain: &Plain,
+    n: usize,
+    name: &[u8],
+    change: &ForceChange,
+) -> Option<TrialWarning>
+    ensures { result ≡ command_warning texts.now declared.now plain.now.lines.items n name.now
+        change.now }
+{
+    if plain.line(change.line) == n {
+        return other_text(texts, declared, n, change.text, name);
+    }
+    None
+}
+
+/// The warning of the first such command that has one.
+fn first_command(
+    texts: &[RuleText<'_>],
+    declared: &DeclaredItems<'_>,
+    plain: &Plain,
+    n: usize,
+    name: &[u8],
+    changes: &[ForceChange],
+) -> Option<TrialWarning>
+    ensures { result ≡ first_command texts.now declared.now plain.now.lines.items n name.now
+        changes.now }
+{
+    for change in changes {
+        if let Some(warning) = command_warning(texts, declared, plain, n, name, change) {
+            return Some(warning);
+        }
+    }
+    None
+}
+
+/// The warning of a line of a scenario, if it sets the state of a rule of another text than the one in force there, or of one to which the
+/// texts give different numbers. Out of memory is the only error.
 fn state_warning(
     alloc: Global,
+    texts: &[RuleText<'_>],
     declared: &DeclaredItems<'_>,
+    script: &SettledScript,
     n: usize,
     line: &[u8],
 ) -> Result<Option<TrialWarning>, AllocError>
-    ensures { IfOk result (λ found. found ≡ state_warning declared.now n line.now) }
+    ensures { IfOk result (λ found. found ≡ state_warning texts.now declared.now
+        script.now.plain.lines.items script.now.changes.items n line.now) }
 {
     let words = words(alloc, line)?;
     match state_rule(words.as_slice()) {
-        Some(name) => if declared.numbers_differ(name) {
-            Ok(Some(TrialWarning::ManyNumbers { n }))
-        } else {
-            Ok(None)
-        },
+        Some(name) => {
+            let (plain, changes) = (&script.plain, script.changes.as_slice());
+            let found = first_command(texts, declared, plain, n, name, changes);
+            Ok(or_many(declared, n, name, found))
+        }
         None => Ok(None),
     }
 }
 
-/// The warnings of the lines of a scenario that set the state of a rule to which the texts give different numbers, in order. Out of memory
-/// is the only error.
+/// The warnings of the lines of a scenario that set the states of rules, in order. Out of memory is the only error.
 pub fn state_warnings(
     alloc: Global,
+    texts: &[RuleText<'_>],
     declared: &DeclaredItems<'_>,
+    script: &SettledScript,
     scenario: &[u8],
 ) -> Result<Vec<TrialWarning>, AllocError>
-    ensures { IfOk result (λ found. found.items ≡ state_warnings declared.now scenario.now) }
+    ensures { IfOk result (λ found. found.items ≡ state_warnings texts.now declared.now
+        script.now.plain.lines.items script.now.changes.items scenario.now) }
 {
     let mut found = Vec::new(alloc);
     let mut left = Some(scenario);
@@ -124,7 +220,7 @@ pub fn state_warnings(
     while let Some(text) = left {
         let (line, rest) = first_line(text);
         n += 1;
-        if let Some(warning) = state_warning(alloc, declared, n, line)? {
+        if let Some(warning) = state_warning(alloc, texts, declared, script, n, line)? {
             found.push(warning)?;
         }
         left = rest;
@@ -189,7 +285,7 @@ fn unrun_warning(
 }
 
 /// The warning that nothing was tried, or that nothing came of the Limit Checker, if that is so.
-fn idle_warning(
+pub fn idle_warning(
     plain: &Plain,
     expectations: &[Placed<'_>],
     came: &[Came<'_>],
@@ -205,23 +301,16 @@ fn idle_warning(
     }
 }
 
-/// The warnings about a script: each expectation of a rule to which the texts give different numbers, and whether nothing was tried.
-/// Out of memory is the only error.
-pub fn warnings_of(
-    alloc: Global,
-    declared: &DeclaredItems<'_>,
-    plain: &Plain,
-    expectations: &[Placed<'_>],
-    came: &[Came<'_>],
-    arrivals: &[Arrival],
+/// Warnings, and after them the one that nothing was tried, if there is one. Out of memory is the only error.
+pub fn with_idle(
+    warnings: Vec<TrialWarning>,
+    idle: Option<TrialWarning>,
 ) -> Result<Vec<TrialWarning>, AllocError>
-    requires arrived { arrivals.now ≡ filter_map arrival_of came.now }
-    ensures { IfOk result (λ found. found.items ≡ warnings_of declared.now plain.now.lines.items
-        (map placed_of expectations.now) came.now) }
+    ensures { IfOk result (λ all. all.items ≡ with_idle warnings.items idle) }
 {
-    let mut found = numbers_warnings(alloc, declared, plain, expectations)?;
-    if let Some(warning) = idle_warning(plain, expectations, came, arrivals) {
-        found.push(warning)?;
+    let mut all = warnings;
+    if let Some(warning) = idle {
+        all.push(warning)?;
     }
-    Ok(found)
+    Ok(all)
 }

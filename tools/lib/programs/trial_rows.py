@@ -48,6 +48,12 @@ def warned(lines, n, name, why):
     return b"script:%d:1: warning[%s]: %s\n%3d | %s\n    | %s \n\n" % (n, name, why, n, line, b"^" * len(line))
 
 
+def of_other_text(name, text, force, rule, taken):
+    """Why a line that names a rule is to be looked at: the rule is of another text than the one in force there."""
+    front = b"`%s` is a rule of text %d, but text %d is in force here" % (name, text, force)
+    return front + (b": its rule %d, `%s`, is taken instead" % (rule, taken) if taken else b", and has no rule %d" % rule)
+
+
 def stopped(name, script, line):
     why = b"the run stops here: no rule text of this number is given"
     return Row(name, TRY, trial(script), status=1, error=told(script, line, 171, why))
@@ -70,6 +76,8 @@ expect state 1:LOW passive
 BY_SECOND = BY_FIRST.replace(b"wdt 0", b"wdt 1").replace(b"adt 0", b"adt 1")
 DIFFER = b"the rule texts give this rule different numbers: the text in force decides"
 MANY = b"".join(warned(BY_FIRST, ASKED + n, b"rule-number", DIFFER) for n in range(2))
+MANY_BY_FIRST = MANY + warned(BY_FIRST, ASKED + 3, b"rule-text", of_other_text(b"LOW", 1, 0, 1, b"HOT"))
+MANY_BY_SECOND = MANY + warned(BY_SECOND, ASKED + 2, b"rule-text", of_other_text(b"LOW", 0, 1, 0, b"HOT"))
 # A command there is about the rule of the text in force: the other text has the rules in the other order.
 ORDERS = b"""\
 state LOW disabled
@@ -77,6 +85,26 @@ expect state LOW disabled
 expect state HOT active
 """
 BY_ORDER = (BUS_SCRIPT[:SIXTH] + ORDERS + BUS_SCRIPT[SIXTH:]).replace(b"wdt 0", b"wdt 1").replace(b"adt 0", b"adt 1")
+# The text in force there has rules of other names, or one rule alone.
+DIM = LOW.replace(b"LOW", b"DIM")
+OTHER_NAMES = FIELDS + DIM + HOT.replace(b"HOT", b"WARM")
+OTHERS = b"""\
+expect state HOT active
+expect result 0:LOW fail
+repeat 2 {
+state HOT disabled # a comment
+}
+state 0:LOW active
+expect state WARM disabled
+expect state 1:DIM active
+"""
+BY_OTHERS = BY_ORDER.replace(ORDERS, OTHERS)
+TAKES_HOT, TAKES_LOW = of_other_text(b"HOT", 0, 1, 1, b"WARM"), of_other_text(b"LOW", 0, 1, 0, b"DIM")
+TAKES = b"".join(
+    warned(BY_OTHERS, ASKED + n, b"rule-text", why) for n, why in ((3, TAKES_HOT), (5, TAKES_LOW), (0, TAKES_HOT), (1, TAKES_LOW))
+)
+BY_ONE = BY_ORDER.replace(ORDERS, b"expect state HOT active\nstate HOT disabled\n")
+TAKES_NONE = b"".join(warned(BY_ONE, ASKED + n, b"rule-text", of_other_text(b"HOT", 0, 1, 1, None)) for n in (1, 0))
 OF_HOST = b"""\
 start COUNTER
 expect event HOST 8 at 0
@@ -112,7 +140,7 @@ TRIALS = [
         [*TRY, "other"],
         {**trial(BY_SECOND), "other": FIELDS + HOT + LOW},
         output=b"script: 4 expectations, 0 not met\n",
-        error=MANY,
+        error=MANY_BY_SECOND,
     ),
     Row(
         "rules by the text in force, strictly",
@@ -120,7 +148,7 @@ TRIALS = [
         {**trial(BY_SECOND), "other": FIELDS + HOT + LOW},
         status=1,
         output=b"script: 4 expectations, 0 not met\n",
-        error=MANY,
+        error=MANY_BY_SECOND,
     ),
     Row(
         "rules by the first text in force",
@@ -132,7 +160,7 @@ script:%d:1: error[unmet]: expect state 0:LOW active: it is passive
 script:%d:1: error[unmet]: expect state 1:LOW passive: it is active
 script: 4 expectations, 2 not met
 """ % (ASKED + 2, ASKED + 3),
-        error=MANY,
+        error=MANY_BY_FIRST,
     ),
     Row(
         "a command by the name of a rule of the text in force",
@@ -140,6 +168,42 @@ script: 4 expectations, 2 not met
         {**trial(BY_ORDER), "other": FIELDS + HOT + LOW},
         output=b"script: 2 expectations, 0 not met\n",
         error=b"".join(warned(BY_ORDER, ASKED + n, b"rule-number", DIFFER) for n in range(3)),
+    ),
+    Row(
+        "rules of a text that is not in force",
+        [*TRY, "other"],
+        {**trial(BY_OTHERS), "other": OTHER_NAMES},
+        output=b"script: 4 expectations, 0 not met\n",
+        error=TAKES,
+    ),
+    Row(
+        "rules of a text that is not in force, strictly",
+        ["flight_tools", "try", "--strict", *TRY[2:], "other"],
+        {**trial(BY_OTHERS), "other": OTHER_NAMES},
+        status=1,
+        output=b"script: 4 expectations, 0 not met\n",
+        error=TAKES,
+    ),
+    Row(
+        "a rule of a text that is not in force, by a number that the text in force doesn't have",
+        [*TRY, "other"],
+        {**trial(BY_ONE), "other": FIELDS + DIM},
+        status=1,
+        output=b"""\
+script:%d:1: error[unmet]: expect state HOT active: the tables in force have no such rule
+script: 1 expectation, 1 not met
+""" % ASKED,
+        error=TAKES_NONE,
+    ),
+    Row(
+        "a rule of a text where none is in force",
+        [*TRY, "other"],
+        {**trial(b"start LC\nexpect state 1:LOW active\n"), "other": FIELDS + HOT + LOW},
+        status=1,
+        output=b"""\
+script:2:1: error[unmet]: expect state 1:LOW active: the tables in force have no such rule
+script: 1 expectation, 1 not met
+""",
     ),
     Row(
         "events of the host",

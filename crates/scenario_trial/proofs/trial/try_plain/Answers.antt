@@ -12,7 +12,7 @@ run-requires-clause-ahead g c =
 
 pub returns-clause-tried : goal.returns-clause-tried
 returns-clause-tried g c =
-    outcome_so (sources_of c.args.inputs.texts.now) c.args.inputs.schedule.now c.args.declared.now (plain_script_of c.args.plain.now) c.as_slice-3.result.now c.as_slice-5.result.now
+    outcome_so (sources_of c.args.inputs.texts.now) c.args.inputs.schedule.now c.args.texts.now c.args.declared.now (plain_script_of c.args.plain.now) c.as_slice-3.result.now c.as_slice-5.result.now
     c.in_ok-said.said.stream.items c.as_slice-6.result.now c.in_ok-expectations.expectations.items c.as_slice.result.now c.as_slice-8.result.now c.as_slice-9.result.now
     c.in_ok-judged.judged.items c.as_slice-10.result.now c.in_ok-judged.trace c.judge.result
     (search rules) (search rules) (search rules) (search rules) (search rules) (search rules) (search rules)

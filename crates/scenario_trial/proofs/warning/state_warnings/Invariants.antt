@@ -6,7 +6,8 @@ use Rattle.scenario_trial.proofs.warning.state_warnings.Given as goal
 
 abbrev pub invariant-loop-left : goal.invariant-loop-left
 invariant-loop-left l = record {
-  found : l.found.items ++ state_warnings_from l.declared (l.n + 1) (lines_in l.left) ≡ state_warnings l.declared l.scenario;
+  found : l.found.items ++ state_warnings_from l.texts l.declared l.script.plain.lines.items l.script.changes.items (l.n + 1) (lines_in l.left)
+      ≡ state_warnings l.texts l.declared l.script.plain.lines.items l.script.changes.items l.scenario;
   counted : l.n + most_lines l.left ≤ length l.scenario + 1;
 }
 
