@@ -93,8 +93,8 @@ class Said:
 
 
 def path_of(function, text_of):
-    """The path by which the prover knows a function that an edit names by module and name: its type stands between. Where it is not
-    the one of its name, the whole module."""
+    """The end of the path by which the prover knows a function that an edit names by module and name. A method's is its type, which may
+    be of another module, and its name. Where it is not the one of its name in the module, the whole module."""
     module, _, name = function.rpartition("::")
     lines = text_of(f"src/{module.replace('::', '/') or 'lib'}.rt").split("\n")
     places = [at for at, line in enumerate(lines) if (found := FUNCTION.match(line)) and found[1] == name]
@@ -107,7 +107,7 @@ def path_of(function, text_of):
         if line.strip() and len(line) - len(line.lstrip()) < own:
             head = HEAD.match(line)
             if head:
-                return "::".join(filter(None, (module, head["trait"] or head["type"] + (head["of"] or ""), name)))
+                return f"{head['trait'] or head['type'] + (head['of'] or '')}::{name}"
     return module
 
 

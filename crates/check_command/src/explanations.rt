@@ -133,7 +133,7 @@ pub const WARNINGS: [Explanation; 17] = [
     Explanation {
         name: "spare-comparison",
         at: "the rule's name",
-        meaning: "The rule can do without the comparison: with true or false in its place the condition says the same.",
+        meaning: "While its fields are known, the rule says the same with true or false in the comparison's place. Keep the comparison if its field may be known while the others are stale.",
         example: "",
         said: "",
         advice: "did you mean `spare-comparison`?",

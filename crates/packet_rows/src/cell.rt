@@ -63,6 +63,11 @@ impl CellText {
         self.is_there = false;
     }
 
+    /// Takes the value back that was shown last.
+    pub fn show_again(&mut self) {
+        self.is_there = true;
+    }
+
     /// The text, even if it is hidden.
     pub fn as_str(&self) -> &str {
         self.text.as_str()

@@ -75,6 +75,8 @@ pub struct PacketTexts {
     sender: CellText,
     text: CellText,
     message_id: CellText,
+    /// The message id of which `message_id` has the text.
+    written_id: Option<u16>,
     says: CellText,
 }
 
@@ -85,6 +87,7 @@ impl PacketTexts {
             sender: CellText::new(alloc),
             text: CellText::new(alloc),
             message_id: CellText::new(alloc),
+            written_id: None,
             says: CellText::new(alloc),
         }
     }
@@ -105,13 +108,22 @@ impl PacketTexts {
         }
     }
 
-    /// Takes the message id of a packet; none without a whole primary header.
+    /// Takes the message id of a packet; none without a whole primary header. Most packets have the message id of the one before, so
+    /// that its text is there.
     fn show_message_id(&mut self, packet: &[u8]) -> Result<(), AllocError> {
         if packet.len() < PRIMARY_HEADER {
             self.message_id.hide();
             return Ok(());
         }
-        self.message_id.show(MessageId(message_id(packet)))
+        let id = message_id(packet);
+        if self.written_id == Some(id) {
+            self.message_id.show_again();
+            return Ok(());
+        }
+        self.written_id = None;
+        self.message_id.show(MessageId(id))?;
+        self.written_id = Some(id);
+        Ok(())
     }
 
     /// Takes the sender and the text of any packet, and returns its content.

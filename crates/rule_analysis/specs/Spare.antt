@@ -20,7 +20,8 @@ replaced t other (Watch u) = if same_term u t then other else Watch u
 replaced t other (Not c) = Not (replaced t other c)
 replaced t other (Join o a b) = Join o (replaced t other a) (replaced t other b)
 
--- whatever was seen, the condition says the same with the comparison taken as true, or as false
+-- whatever was seen, the condition is not true where it is false with the comparison taken as true, or as false, and not false where
+-- it is true then; one of the two may be stale or in error
 abbrev pub CanDoWithout : Condition → Term → Bool → Type 0
 CanDoWithout c t value = NeverFails (Join Xor c (replaced t (constant value t) c))
 

@@ -596,7 +596,7 @@ fn spare_head(
     let term = shown_term(alloc, subject, spare.rule, spare.term, value)?;
     let mut head = around(
         alloc,
-        "",
+        "while its fields are known, ",
         subject.rule_name(spare.rule),
         " says the same with ",
     )?;
