@@ -38,7 +38,7 @@ function partsTable(rule, [, time, parts]) {
   table.append(head);
   parts.forEach(([value, record, since, verdict], index) => {
     const [field, operator, number] = rule.comparisons[index];
-    const age = record === null ? 'no packet came' : `${decimal(time - since)} s, record\u00a0${record}`;
+    const age = record === null ? 'no packet taken' : `${decimal(time - since)} s, record\u00a0${record}`;
     const holds = { true: '✔ true', false: '✘ false' }[verdict] ?? verdict;
     const row = make('tr');
     row.append(makeBroken('td', '', `${run.fields[field].name} ${operator}\u00a0${number}`),

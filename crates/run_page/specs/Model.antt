@@ -153,7 +153,8 @@ abbrev pub value_told : Place → Option Met → List Entry
 value_told place None = []
 value_told place (Some met) = valued place met.value ∷ []
 
--- the entries of a field from records, the first of which has this number: its value in each packet of its message id
+-- the entries of a field from records, the first of which has this number: its value in each packet of its message id that the host
+-- accepts
 abbrev pub values_from : (start number : ℕ) → Field → List Step → List Entry
 values_from start number field [] = []
 values_from start number field (step ∷ steps) =

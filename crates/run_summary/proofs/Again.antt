@@ -12,7 +12,7 @@ use Rattle.run_summary.specs.declared.place.Place.{Place}
 use Rattle.run_summary.specs.declared.place.Stand.{Stand}
 use Rattle.run_summary.specs.declared.seen.Met.{Met}
 use Rattle.run_summary.specs.declared.seen.Seen.{Seen}
-use Rattle.run_summary.specs.Account.{Account, Reading, Step, account_with, before_with, came, come, come_by, enforced_so, in_force_by, read, read_all, read_by, rows_with, sampled, shown, started_with_tables, stood_again, stood_so, written}
+use Rattle.run_summary.specs.Account.{Account, Reading, Step, account_with, before_with, came, come, come_by, enforced_so, facing, in_force_by, read, read_all, read_by, rows_with, sampled, shown, started_with_tables, stood_again, stood_so, unread, written}
 use Rattle.run_summary.specs.Bands.{has_changed}
 use Rattle.run_summary.specs.Brought.{Brings, Command, File, Telemetry, Tick, brings}
 use Rattle.run_summary.specs.Figures.{one_more, with_event, with_packet}
@@ -91,11 +91,12 @@ reads_keep : (packets : List (List ℕ)) (place : Place) (stands : List Stand) (
     of_rules (read_all packets place stands r).account ≡ of_rules r.account
 reads_keep [] place stands r = refl
 reads_keep (packet ∷ packets) place stands r =
-    reads_keep packets place stands (read packet place stands r)
-    ∙ read_keeps (told_in packet) packet place stands (record r { account = record r.account { figures = with_packet r.account.figures } })
+    let now : Reading = facing packets r in
+    reads_keep packets place stands (read packet place stands now)
+    ∙ read_keeps (told_in packet) packet place stands (record now { account = record r.account { figures = with_packet r.account.figures } })
 
 pub written_keeps : (bytes : List ℕ) (place : Place) (stands : List Stand) (a : Account) → of_rules (written bytes place stands a) ≡ of_rules a
-written_keeps bytes place stands a = reads_keep (packets_of bytes) place stands (record { account = a; from = 0 })
+written_keeps bytes place stands a = reads_keep (packets_of bytes) place stands (unread a)
 
 -- ---- a record
 

@@ -1,10 +1,12 @@
 -- The packets that a record led to, one after the other.
-use Rattle.std.proofs.Common.{◌≡◌, refl, sym, ◌∙◌, ap, ℕ, zero, suc, ◌<◌, ◌≤◌, Bool, true, false, nat_le, List, [], ◌∷◌, ◌++◌, length, take, drop, length-drop, arith}
+use Rattle.std.proofs.Common.{◌≡◌, refl, sym, ◌∙◌, ap, ℕ, zero, suc, ◌<◌, ◌≤◌, Bool, true, false, nat_le, List, [], ◌∷◌, ◌++◌, length, take, drop, length-drop, Option, None, arith}
 use Rattle.std.proofs.Math.Seq.{take-append_seam, drop-append_seam}
 use Rattle.lc_model.proofs.Facts.{and_both, tested_at_most}
 use Rattle.run_summary.specs.declared.place.Place.{Place}
 use Rattle.run_summary.specs.declared.place.Stand.{Stand}
-use Rattle.run_summary.specs.Account.{Reading, read, read_all}
+use Rattle.packet_listing.specs.Told.{told_in}
+use Rattle.run_summary.specs.Account.{Account, Reading, read, read_all, reading}
+use Rattle.run_summary.specs.Asking.{named_by, rule_named}
 use Rattle.run_summary.specs.Packets.{is_there, packet_size, packets_by, packets_of, packets_within}
 
 enough : (m n : ℕ) (bytes : List ℕ) → length bytes ≤ m → length bytes ≤ n → packets_within m bytes ≡ packets_within n bytes
@@ -46,14 +48,30 @@ next_packet rest packet behind there parts size =
 pub no_packet : (rest : List ℕ) → is_there rest ≡ false → packets_of rest ≡ []
 no_packet rest none = packets_front rest ∙ rw none refl
 
--- one is read
-pub reads_next : (rest packet behind : List ℕ) (place : Place) (stands : List Stand) (now after : Reading) → is_there rest ≡ true →
-    rest ≡ packet ++ behind → length packet ≡ packet_size rest → after ≡ read packet place stands now →
-    read_all (packets_of behind) place stands after ≡ read_all (packets_of rest) place stands now
-reads_next rest packet behind place stands now after there parts size is =
-    ap (λ (r : Reading). read_all (packets_of behind) place stands r) is
-    ∙ ap (λ packets. read_all packets place stands now) (sym (next_packet rest packet behind there parts size))
+-- the rule that the packet in front names
+pub named_front : (rest packet behind : List ℕ) (named : Option ℕ) → is_there rest ≡ true → rest ≡ packet ++ behind → length packet ≡ packet_size rest →
+    named ≡ named_by (told_in packet) → named ≡ rule_named (packets_of rest)
+named_front rest packet behind named there parts size is = is ∙ ap rule_named (sym (next_packet rest packet behind there parts size))
 
-pub reads_none : (rest : List ℕ) (place : Place) (stands : List Stand) (now : Reading) → is_there rest ≡ false →
-    now ≡ read_all (packets_of rest) place stands now
-reads_none rest place stands now none = ap (λ packets. read_all packets place stands now) (sym (no_packet rest none))
+pub none_named : (rest : List ℕ) → is_there rest ≡ false → None ≡ rule_named (packets_of rest)
+none_named rest none = ap rule_named (sym (no_packet rest none))
+
+-- which rule the packet before names is of no account
+any_named : (packets : List (List ℕ)) (place : Place) (stands : List Stand) (a : Account) (one other : Option ℕ) (given : List ℕ) →
+    (read_all packets place stands (reading a one given)).account ≡ (read_all packets place stands (reading a other given)).account
+any_named [] place stands a one other given = refl
+any_named (packet ∷ packets) place stands a one other given = refl
+
+-- one is read
+pub reads_next : (rest packet behind : List ℕ) (place : Place) (stands : List Stand) (now after : Account) (given later : List ℕ) → is_there rest ≡ true →
+    rest ≡ packet ++ behind → length packet ≡ packet_size rest →
+    reading after (rule_named (packets_of behind)) later ≡ read packet place stands (reading now (rule_named (packets_of behind)) given) →
+    (read_all (packets_of behind) place stands (reading after None later)).account ≡ (read_all (packets_of rest) place stands (reading now None given)).account
+reads_next rest packet behind place stands now after given later there parts size is =
+    any_named (packets_of behind) place stands after None (rule_named (packets_of behind)) later
+    ∙ ap (λ (r : Reading). (read_all (packets_of behind) place stands r).account) is
+    ∙ ap (λ packets. (read_all packets place stands (reading now None given)).account) (sym (next_packet rest packet behind there parts size))
+
+pub reads_none : (rest : List ℕ) (place : Place) (stands : List Stand) (now : Account) (given : List ℕ) → is_there rest ≡ false →
+    now ≡ (read_all (packets_of rest) place stands (reading now None given)).account
+reads_none rest place stands now given none = ap (λ packets. (read_all packets place stands (reading now None given)).account) (sym (no_packet rest none))

@@ -1,11 +1,12 @@
 -- The rule and the event of a request.
-use Rattle.std.proofs.Common.{◌≡◌, ℕ, zero, suc, ◌+◌, ◌-◌, ◌<◌, ◌≤◌, Bool, true, false, nat_le, List, ◌∷◌, refl, ap, ◌∙◌, Option, Some, None, if◌then◌else◌, arith}
-use Rattle.std.specs.Prelude.{◌&&◌, filter_map, find, is_none, option_map}
-use Rattle.std.specs.List.{cons_option, take_while}
+use Rattle.std.proofs.Common.{◌≡◌, ℕ, zero, suc, ◌+◌, ◌<◌, ◌≤◌, Bool, true, false, nat_le, nat_lt, List, ◌∷◌, refl, ap, ◌∙◌, Option, Some, None, if◌then◌else◌, arith}
+use Rattle.std.specs.Prelude.{◌&&◌, ◌==◌, not, filter_map, find, is_none, option_map}
+use Rattle.std.specs.List.{cons_option, list_any, take_while}
+use Rattle.lc_model.proofs.Facts.{tested_less}
 use Rattle.std.proofs.lemmas.List.Sums.{take_while-cons}
 use Rattle.packet_listing.specs.Told.{told_in}
 use Rattle.run_summary.specs.declared.place.Stand.{Stand}
-use Rattle.run_summary.specs.Asking.{asking, counted_by, first_from, has_asked, may_ask}
+use Rattle.run_summary.specs.Asking.{Hints, asking, asking_by, counted_by, first_from, has_asked, may_ask, may_still_ask}
 use Rattle.run_summary.specs.Fields.{is_place}
 use Rattle.run_summary.specs.Plans.{Planned, may_by, planned_at}
 use Rattle.run_summary.specs.Requests.{is_no_request, own_event}
@@ -33,19 +34,43 @@ first_below test from (suc count) rule is = by_test (test from) refl (first_belo
     by_test true here rest = let at : from ≡ rule = cc (here, is) in (omega (arith, at), omega (arith, at))
     by_test false here rest = let in_rest = rest (cc (here, is)) in (omega (arith, in_rest.0), omega (arith, in_rest.1))
 
-pub asking_alike : (plans : List (List Planned)) (text : Option ℕ) (before other stands : List Stand) (lanes from sequence : ℕ) →
+by_alike : (named : Option ℕ) (plans : List (List Planned)) (text : Option ℕ) (before other stands : List Stand) (lanes : ℕ) (given : List ℕ) (sequence : ℕ) →
     ((rule : ℕ) → rule < lanes → stand_at rule before ≡ stand_at rule other) →
-    asking plans text before stands lanes from sequence ≡ asking plans text other stands lanes from sequence
-asking_alike plans text before other stands lanes from sequence alike =
-    first_alike (may_ask plans text before stands sequence) (may_ask plans text other stands sequence) from (lanes - from)
-    (λ rule above below. ap (λ (stand : Stand). has_asked (stand_at rule stands) stand && may_by sequence (planned_at plans text rule))
-    (alike rule (omega (arith, above, below))))
+    asking_by named plans text before stands lanes given sequence ≡ asking_by named plans text other stands lanes given sequence
+by_alike None plans text before other stands lanes given sequence alike =
+    first_alike (may_still_ask plans text before stands given sequence) (may_still_ask plans text other stands given sequence) 0 lanes
+    (λ rule above below. ap (λ (stand : Stand). (has_asked (stand_at rule stands) stand && may_by sequence (planned_at plans text rule)) && not (list_any (◌==◌ rule) given))
+    (alike rule (omega (arith, below))))
+by_alike (Some rule) plans text before other stands lanes given sequence alike = by_test (nat_lt rule lanes) refl
+  where
+    by_test : (b : Bool) → nat_lt rule lanes ≡ b →
+        (if nat_lt rule lanes && may_ask plans text before stands sequence rule then Some rule else None)
+        ≡ (if nat_lt rule lanes && may_ask plans text other stands sequence rule then Some rule else None)
+    by_test true is =
+        ap (λ (stand : Stand). if nat_lt rule lanes && (has_asked (stand_at rule stands) stand && may_by sequence (planned_at plans text rule)) then Some rule else None)
+        (alike rule (tested_less rule lanes is))
+    by_test false is = rw is refl
 
-pub asking_below : (plans : List (List Planned)) (text : Option ℕ) (before stands : List Stand) (lanes from sequence rule : ℕ) →
-    asking plans text before stands lanes from sequence ≡ Some rule → rule < lanes
-asking_below plans text before stands lanes from sequence rule is =
-    let within = first_below (may_ask plans text before stands sequence) from (lanes - from) rule is in
-    omega (arith, within.0, within.1)
+pub asking_alike : (plans : List (List Planned)) (text : Option ℕ) (before other stands : List Stand) (lanes : ℕ) (hints : Hints) (sequence : ℕ) →
+    ((rule : ℕ) → rule < lanes → stand_at rule before ≡ stand_at rule other) →
+    asking plans text before stands lanes hints sequence ≡ asking plans text other stands lanes hints sequence
+asking_alike plans text before other stands lanes hints sequence alike = by_alike hints.named plans text before other stands lanes hints.given sequence alike
+
+by_below : (named : Option ℕ) (plans : List (List Planned)) (text : Option ℕ) (before stands : List Stand) (lanes : ℕ) (given : List ℕ) (sequence rule : ℕ) →
+    asking_by named plans text before stands lanes given sequence ≡ Some rule → rule < lanes
+by_below None plans text before stands lanes given sequence rule is =
+    let within = first_below (may_still_ask plans text before stands given sequence) 0 lanes rule is in
+    omega (arith, within.1)
+by_below (Some one) plans text before stands lanes given sequence rule is = by_tests (nat_lt one lanes) (may_ask plans text before stands sequence one) refl is
+  where
+    by_tests : (b c : Bool) → nat_lt one lanes ≡ b → (if b && c then Some one else None) ≡ Some rule → rule < lanes
+    by_tests true true is found = let same : one ≡ rule = cc found in omega (arith, same, tested_less one lanes is)
+    by_tests true false is found = absurd (cc found)
+    by_tests false c is found = absurd (cc found)
+
+pub asking_below : (plans : List (List Planned)) (text : Option ℕ) (before stands : List Stand) (lanes : ℕ) (hints : Hints) (sequence rule : ℕ) →
+    asking plans text before stands lanes hints sequence ≡ Some rule → rule < lanes
+asking_below plans text before stands lanes hints sequence rule is = by_below hints.named plans text before stands lanes hints.given sequence rule is
 
 -- ---- what counts its samples leaves the requests
 

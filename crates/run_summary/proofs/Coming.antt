@@ -1,5 +1,5 @@
 -- What a record brings of the fields.
-use Rattle.std.proofs.Common.{◌≡◌, ℕ, ◌+◌, Bool, true, false, List, [], ◌∷◌, length, nat_lt, refl, ap, ◌∙◌, Option, Some, None, ℤ, if◌then◌else◌, bytes_eq, map, arith}
+use Rattle.std.proofs.Common.{◌≡◌, ℕ, ◌+◌, Bool, true, false, List, [], ◌∷◌, refl, ap, ◌∙◌, Option, Some, None, ℤ, if◌then◌else◌, bytes_eq, map, arith}
 use Rattle.std.specs.Prelude.{not, ◌==◌}
 use Rattle.std.specs.Ordering.{int_eq}
 use Rattle.std.proofs.lemmas.Bool.Decides.{nat_tests}
@@ -15,10 +15,10 @@ use Rattle.run_summary.specs.declared.place.Place.{Place}
 use Rattle.run_summary.specs.declared.place.Stand.{Stand}
 use Rattle.run_summary.specs.declared.seen.Seen.{Seen}
 use Rattle.run_summary.specs.declared.texts.Field.{Field}
-use Rattle.run_summary.specs.Account.{Account, Reading, Step, account_with, adopted_if, before_with, came, come, come_by, enforced_so, is_asked, left_by, read, read_all, read_by, sampled, shown_if, started_with_tables, written}
-use Rattle.run_summary.specs.Bands.{has_changed, how_left}
+use Rattle.run_summary.specs.Account.{Account, Reading, Step, account_with, adopted_if, before_with, came, come, come_by, enforced_so, facing, is_asked, left_by, read, read_all, read_by, sampled, shown_if, started_with_tables, unread, written}
+use Rattle.run_summary.specs.Bands.{has_changed, how_left, is_watching}
 use Rattle.run_summary.specs.Brought.{Brings, Command, File, Telemetry, Tick, brings}
-use Rattle.run_summary.specs.Fields.{AreKnown, IsBefore, all_brought, come_in, forgotten, is_at, is_place, met_in, seen_by, seen_in, uncounted, unseen}
+use Rattle.run_summary.specs.Fields.{AreKnown, IsBefore, all_brought, come_in, forgotten, is_at, is_place, is_refused, met_in, seen_by, seen_in, uncounted, unseen}
 use Rattle.run_summary.specs.Figures.{one_more, with_event, with_packet}
 use Rattle.run_summary.specs.Packets.{packets_of}
 use Rattle.run_summary.specs.Run.{FieldsCome}
@@ -52,51 +52,51 @@ later_known number [] [] known = tt
 later_known number [] (seen ∷ all) known = absurd known
 later_known number (field ∷ fields) [] known = absurd known
 later_known number (field ∷ fields) (seen ∷ all) known =
-    (known.0, later number seen.met.place known.1, later_known number fields all known.2)
+    (known.0, later number seen.last known.1, later_known number fields all known.2)
 
 forgotten_known : (number : ℕ) (fields : List Field) (all : List Seen) → AreKnown number fields all → AreKnown number fields (map forgotten all)
 forgotten_known number [] [] known = tt
 forgotten_known number [] (seen ∷ all) known = absurd known
 forgotten_known number (field ∷ fields) [] known = absurd known
-forgotten_known number (field ∷ fields) (seen ∷ all) known = (known.0, tt, forgotten_known number fields all known.2)
+forgotten_known number (field ∷ fields) (seen ∷ all) known = (known.0, known.1, forgotten_known number fields all known.2)
 
 -- ---- a packet
 
-one_known : (b : Bool) (place : Place) (packet : List ℕ) (seen : Seen) → IsBefore place.«record» seen.met.place →
-    IsBefore (place.«record» + 1) (if b then seen_in packet place seen else seen).met.place
-one_known true place packet seen before = omega arith
-one_known false place packet seen before = later place.«record» seen.met.place before
+one_known : (b taken : Bool) (place : Place) (packet : List ℕ) (seen : Seen) → IsBefore place.«record» seen.last →
+    IsBefore (place.«record» + 1) (if b then seen_in packet place taken seen else seen).last
+one_known true taken place packet seen before = omega arith
+one_known false taken place packet seen before = later place.«record» seen.last before
 
-same_field : (b : Bool) (place : Place) (packet : List ℕ) (seen : Seen) → (if b then seen_in packet place seen else seen).field ≡ seen.field
-same_field true place packet seen = refl
-same_field false place packet seen = refl
+same_field : (b taken : Bool) (place : Place) (packet : List ℕ) (seen : Seen) → (if b then seen_in packet place taken seen else seen).field ≡ seen.field
+same_field true taken place packet seen = refl
+same_field false taken place packet seen = refl
 
-packet_known : (place : Place) (packet : List ℕ) (fields : List Field) (all : List Seen) → AreKnown place.«record» fields all →
-    AreKnown (place.«record» + 1) fields (map (seen_by packet place) all)
-packet_known place packet [] [] known = tt
-packet_known place packet [] (seen ∷ all) known = absurd known
-packet_known place packet (field ∷ fields) [] known = absurd known
-packet_known place packet (field ∷ fields) (seen ∷ all) known = (
-  same_field (seen.field.mid == message_id packet) place packet seen ∙ known.0,
-  one_known (seen.field.mid == message_id packet) place packet seen known.1,
-  packet_known place packet fields all known.2,
+packet_known : (taken : Bool) (place : Place) (packet : List ℕ) (fields : List Field) (all : List Seen) → AreKnown place.«record» fields all →
+    AreKnown (place.«record» + 1) fields (map (seen_by packet place taken) all)
+packet_known taken place packet [] [] known = tt
+packet_known taken place packet [] (seen ∷ all) known = absurd known
+packet_known taken place packet (field ∷ fields) [] known = absurd known
+packet_known taken place packet (field ∷ fields) (seen ∷ all) known = (
+  same_field (seen.field.mid == message_id packet) taken place packet seen ∙ known.0,
+  one_known (seen.field.mid == message_id packet) taken place packet seen known.1,
+  packet_known taken place packet fields all known.2,
 )
 
-one_comes : (b : Bool) (place : Place) (packet : List ℕ) (seen : Seen) → IsBefore place.«record» seen.met.place →
-    come_in place (if b then seen_in packet place seen else seen) ≡ (if b then Some (met_in seen.field place packet) else None)
-one_comes true place packet seen before = rw (itself place) refl
-one_comes false place packet seen before = rw (not_there place seen.met.place before) refl
+one_comes : (b taken : Bool) (place : Place) (packet : List ℕ) (seen : Seen) → IsBefore place.«record» seen.last →
+    come_in place (if b then seen_in packet place taken seen else seen) ≡ (if b then Some (met_in seen.field place packet) else None)
+one_comes true taken place packet seen before = rw (itself place) refl
+one_comes false taken place packet seen before = rw (not_there place seen.last before) refl
 
-packet_comes : (place : Place) (packet : List ℕ) (fields : List Field) (all : List Seen) → AreKnown place.«record» fields all →
-    map (come_in place) (map (seen_by packet place) all)
+packet_comes : (taken : Bool) (place : Place) (packet : List ℕ) (fields : List Field) (all : List Seen) → AreKnown place.«record» fields all →
+    map (come_in place) (map (seen_by packet place taken) all)
     ≡ map (λ (field : Field). if field.mid == message_id packet then Some (met_in field place packet) else None) fields
-packet_comes place packet [] [] known = refl
-packet_comes place packet [] (seen ∷ all) known = absurd known
-packet_comes place packet (field ∷ fields) [] known = absurd known
-packet_comes place packet (field ∷ fields) (seen ∷ all) known = λ i.
-    (one_comes (seen.field.mid == message_id packet) place packet seen known.1
+packet_comes taken place packet [] [] known = refl
+packet_comes taken place packet [] (seen ∷ all) known = absurd known
+packet_comes taken place packet (field ∷ fields) [] known = absurd known
+packet_comes taken place packet (field ∷ fields) (seen ∷ all) known = λ i.
+    (one_comes (seen.field.mid == message_id packet) taken place packet seen known.1
     ∙ ap (λ (it : Field). if it.mid == message_id packet then Some (met_in it place packet) else None) known.0) i
-    ∷ packet_comes place packet fields all known.2 i
+    ∷ packet_comes taken place packet fields all known.2 i
 
 none_come : (place : Place) (fields : List Field) (all : List Seen) → AreKnown place.«record» fields all →
     map (come_in place) all ≡ map (λ (field : Field). None) fields
@@ -104,32 +104,32 @@ none_come place [] [] known = refl
 none_come place [] (seen ∷ all) known = absurd known
 none_come place (field ∷ fields) [] known = absurd known
 none_come place (field ∷ fields) (seen ∷ all) known =
-    let none : come_in place seen ≡ None = rw (not_there place seen.met.place known.1) refl in
+    let none : come_in place seen ≡ None = rw (not_there place seen.last known.1) refl in
     λ i. none i ∷ none_come place fields all known.2 i
 
 -- ---- a record
 
-telemetry_comes : (short : Bool) (place : Place) (packet : List ℕ) (fields : List Field) (all : List Seen) → AreKnown place.«record» fields all →
-    map (come_in place) (if short then all else map (seen_by packet place) all)
-    ≡ map (λ (field : Field). if short then None else if field.mid == message_id packet then Some (met_in field place packet) else None) fields
-telemetry_comes true place packet fields all known = none_come place fields all known
-telemetry_comes false place packet fields all known = packet_comes place packet fields all known
+telemetry_comes : (refused taken : Bool) (place : Place) (packet : List ℕ) (fields : List Field) (all : List Seen) → AreKnown place.«record» fields all →
+    map (come_in place) (if refused then all else map (seen_by packet place taken) all)
+    ≡ map (λ (field : Field). if refused then None else if field.mid == message_id packet then Some (met_in field place packet) else None) fields
+telemetry_comes true taken place packet fields all known = none_come place fields all known
+telemetry_comes false taken place packet fields all known = packet_comes taken place packet fields all known
 
 record_comes : (brought : Brings) (place : Place) (fields : List Field) (a : Account) → AreKnown place.«record» fields a.seen →
     map (come_in place) (come_by brought place a).seen ≡ all_brought fields place brought
-record_comes (Telemetry packet) place fields a known = telemetry_comes (nat_lt (length packet) 2) place packet fields a.seen known
+record_comes (Telemetry packet) place fields a known = telemetry_comes (is_refused packet) (is_watching a.bands.mode) place packet fields a.seen known
 record_comes Tick place fields a known = none_come place fields a.seen known
 record_comes Command place fields a known = none_come place fields a.seen known
 record_comes File place fields a known = none_come place fields a.seen known
 
-telemetry_known : (short : Bool) (place : Place) (packet : List ℕ) (fields : List Field) (all : List Seen) → AreKnown place.«record» fields all →
-    AreKnown (place.«record» + 1) fields (if short then all else map (seen_by packet place) all)
-telemetry_known true place packet fields all known = later_known place.«record» fields all known
-telemetry_known false place packet fields all known = packet_known place packet fields all known
+telemetry_known : (refused taken : Bool) (place : Place) (packet : List ℕ) (fields : List Field) (all : List Seen) → AreKnown place.«record» fields all →
+    AreKnown (place.«record» + 1) fields (if refused then all else map (seen_by packet place taken) all)
+telemetry_known true taken place packet fields all known = later_known place.«record» fields all known
+telemetry_known false taken place packet fields all known = packet_known taken place packet fields all known
 
 record_known : (brought : Brings) (place : Place) (fields : List Field) (a : Account) → AreKnown place.«record» fields a.seen →
     AreKnown (place.«record» + 1) fields (come_by brought place a).seen
-record_known (Telemetry packet) place fields a known = telemetry_known (nat_lt (length packet) 2) place packet fields a.seen known
+record_known (Telemetry packet) place fields a known = telemetry_known (is_refused packet) (is_watching a.bands.mode) place packet fields a.seen known
 record_known Tick place fields a known = later_known place.«record» fields a.seen known
 record_known Command place fields a known = later_known place.«record» fields a.seen known
 record_known File place fields a known = later_known place.«record» fields a.seen known
@@ -175,8 +175,9 @@ reads_known : (packets : List (List ℕ)) (place : Place) (stands : List Stand) 
     AreKnown number fields r.account.seen → AreKnown number fields (read_all packets place stands r).account.seen
 reads_known [] place stands number fields r known = known
 reads_known (packet ∷ packets) place stands number fields r known =
-    reads_known packets place stands number fields (read packet place stands r)
-    (read_known (told_in packet) packet place stands number fields (record r { account = record r.account { figures = with_packet r.account.figures } }) known)
+    let now : Reading = facing packets r in
+    reads_known packets place stands number fields (read packet place stands now)
+    (read_known (told_in packet) packet place stands number fields (record now { account = record r.account { figures = with_packet r.account.figures } }) known)
 
 step_known : (fields : List Field) (step : Step) (a : Account) → AreKnown step.place.«record» fields a.seen →
     AreKnown (step.place.«record» + 1) fields (account_with step a).seen
@@ -184,7 +185,7 @@ step_known fields step a known =
     let counting : Account = sampled step.place step.stands (came step a) in
     let after : Account = written step.written step.place step.stands counting in
     left_known (how_left step.mode after.bands) step.place (step.place.«record» + 1) fields (record after { before = before_with step.stands 0 after.before })
-    (reads_known (packets_of step.written) step.place step.stands (step.place.«record» + 1) fields (record { account = counting; from = 0 })
+    (reads_known (packets_of step.written) step.place step.stands (step.place.«record» + 1) fields (unread counting)
     (shown_known (is_asked step.bytes step.written) step.force step.types (step.place.«record» + 1) fields (come step.bytes step.place a)
     (record_known (brings step.bytes) step.place fields a known)))
 
@@ -192,7 +193,7 @@ known_anew : (number : ℕ) (fields : List Field) (all : List Seen) → AreKnown
 known_anew number [] [] known = tt
 known_anew number [] (seen ∷ all) known = absurd known
 known_anew number (field ∷ fields) [] known = absurd known
-known_anew number (field ∷ fields) (seen ∷ all) known = (known.0, known.1, known_anew number fields all known.2)
+known_anew number (field ∷ fields) (seen ∷ all) known = (known.0, tt, known_anew number fields all known.2)
 
 pub fields_come : FieldsCome
 fields_come = record {

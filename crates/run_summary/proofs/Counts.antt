@@ -11,7 +11,7 @@ use Rattle.packet_listing.specs.Told.{told_in}
 use Rattle.run_summary.specs.declared.figures.Figures.{Figures}
 use Rattle.run_summary.specs.declared.place.Place.{Place}
 use Rattle.run_summary.specs.declared.place.Stand.{Stand}
-use Rattle.run_summary.specs.Account.{Account, Reading, Step, account_behind, account_with, came, come_by, read, read_all, read_by, sampled, written}
+use Rattle.run_summary.specs.Account.{Account, Reading, Step, account_behind, account_with, came, come_by, facing, read, read_all, read_by, sampled, unread, written}
 use Rattle.run_summary.specs.Bands.{has_changed}
 use Rattle.run_summary.specs.Brought.{Brings, Command, File, Telemetry, Tick, brings}
 use Rattle.run_summary.specs.Figures.{one_more, with_event, with_packet, with_record}
@@ -115,8 +115,9 @@ reads_more : (packets : List (List ℕ)) (place : Place) (stands : List Stand) (
     r.account.figures ≡ figures_by brought said → (read_all packets place stands r).account.figures ≡ figures_by brought (said ++ map told_in packets)
 reads_more [] place stands r brought said is = is ∙ ap (λ (all : List (Option told.Told)). figures_by brought all) (sym (append-nil said))
 reads_more (packet ∷ packets) place stands r brought said is =
-    let counted_now : Reading = record r { account = record r.account { figures = with_packet r.account.figures } } in
-    reads_more packets place stands (read packet place stands r) brought (said ++ told_in packet ∷ [])
+    let now : Reading = facing packets r in
+    let counted_now : Reading = record now { account = record r.account { figures = with_packet r.account.figures } } in
+    reads_more packets place stands (read packet place stands now) brought (said ++ told_in packet ∷ [])
     (read_more (told_in packet) packet place stands counted_now
     ∙ ap (λ (f : Figures). with_said (told_in packet) (with_packet f)) is
     ∙ packet_more brought said (told_in packet))
@@ -136,7 +137,7 @@ step_more step a brought said is =
     let sampling : Account = sampled step.place step.stands (came step a) in
     ap (λ (s : Staying). s.figures)
     (again_stays step.place step.mode (stood_before step.stands (written step.written step.place step.stands sampling)))
-    ∙ reads_more (packets_of step.written) step.place step.stands (record { account = sampling; from = 0 })
+    ∙ reads_more (packets_of step.written) step.place step.stands (unread sampling)
     (brought ++ brings step.bytes ∷ []) said
     (ap (λ (s : Staying). s.figures) (came_stays step a)
     ∙ come_figures (brings step.bytes) step.place a

@@ -14,7 +14,7 @@ use Rattle.run_summary.specs.declared.bands.How.TheVariants as how
 use Rattle.run_summary.specs.declared.place.Place.{Place}
 use Rattle.run_summary.specs.declared.place.Stand.{Stand}
 use Rattle.run_summary.specs.Account.{Account, Reading, Step, adopted_if, come, come_by, enforced_so, is_asked, left_by, read_by, shown_if, started_with_tables, stood_again}
-use Rattle.run_summary.specs.Bands.{InForce, enforced, has_changed, how_left, how_unsaid, in_mode, is_none_in_force, is_text, mode_number, mode_told, most, nothing_in_force, text_enforced, told_again, told_more}
+use Rattle.run_summary.specs.Bands.{InForce, enforced, has_changed, how_left, how_unsaid, in_mode, is_none_in_force, is_text, is_watching, mode_number, mode_told, most, nothing_in_force, text_enforced, told_again, told_more}
 use Rattle.run_summary.specs.Brought.{Brings, Command, File, Telemetry, Tick, brings}
 use Rattle.run_summary.specs.Figures.{one_more, with_event}
 use Rattle.run_summary.specs.Happened.{Came, Happened, Over, Sent, force_shown, how_enforced, how_in_force, how_then, how_told, mode_behind, shown_to, text_differs, text_in_force, text_then}
@@ -241,6 +241,21 @@ unsaid_so None None is = refl
 unsaid_so None (Some m) is = absurd (mode_isnt m is)
 unsaid_so (Some m) None is = absurd (mode_isnt m (sym is))
 unsaid_so (Some m) (Some n) is = refl
+
+-- whether it takes packets
+pub watching_so : (one other : Option LcMode) → mode_number one ≡ mode_number other → is_watching one ≡ is_watching other
+watching_so None None is = refl
+watching_so None (Some m) is = absurd (mode_isnt m is)
+watching_so (Some m) None is = absurd (mode_isnt m (sym is))
+watching_so (Some mode.Active) (Some mode.Active) is = refl
+watching_so (Some mode.Active) (Some mode.Passive) is = refl
+watching_so (Some mode.Active) (Some mode.Disabled) is = absurd (cc is)
+watching_so (Some mode.Passive) (Some mode.Active) is = refl
+watching_so (Some mode.Passive) (Some mode.Passive) is = refl
+watching_so (Some mode.Passive) (Some mode.Disabled) is = absurd (cc is)
+watching_so (Some mode.Disabled) (Some mode.Active) is = absurd (cc is)
+watching_so (Some mode.Disabled) (Some mode.Passive) is = absurd (cc is)
+watching_so (Some mode.Disabled) (Some mode.Disabled) is = refl
 
 unsaid_text : (m : Option LcMode) (force : Option ℕ) → text_enforced (how_unsaid m) force ≡ force
 unsaid_text None force = refl

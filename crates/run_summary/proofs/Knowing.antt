@@ -1,5 +1,5 @@
 -- What is known of fields, by what happened.
-use Rattle.std.proofs.Common.{◌≡◌, ℕ, Bool, true, false, nat_lt, List, [], ◌∷◌, length, map, refl, ap, sym, ◌∙◌, Option, Some, None, if◌then◌else◌, bytes_eq, arith}
+use Rattle.std.proofs.Common.{◌≡◌, ℕ, Bool, true, false, List, [], ◌∷◌, length, map, refl, ap, sym, ◌∙◌, Option, Some, None, if◌then◌else◌, bytes_eq, arith}
 use Rattle.std.specs.Prelude.{◌==◌, is_some, not}
 use Rattle.std.specs.List.{cons_option}
 use Rattle.lc_model.specs.Name.{lc_name}
@@ -14,51 +14,73 @@ use Rattle.run_summary.specs.declared.place.Stand.{Stand}
 use Rattle.run_summary.specs.declared.seen.Met.{Met}
 use Rattle.run_summary.specs.declared.seen.Seen.{Seen}
 use Rattle.run_summary.specs.declared.texts.Field.{Field}
-use Rattle.run_summary.specs.Account.{Account, Reading, Step, account_behind, account_with, adopted_if, before_with, came, come, come_by, enforced_so, is_asked, left_by, read, read_all, read_by, sampled, shown_if, started_with_tables, stood_again, written}
-use Rattle.run_summary.specs.Bands.{has_changed, how_left}
+use Rattle.run_summary.specs.Account.{Account, Reading, Step, account_behind, account_with, adopted_if, before_with, came, come, come_by, enforced_so, facing, is_asked, left_by, read, read_all, read_by, sampled, shown_if, started_with_tables, stood_again, unread, written}
+use Rattle.run_summary.specs.Bands.{has_changed, how_left, is_watching}
 use Rattle.run_summary.specs.Brought.{Brings, Command, File, Telemetry, Tick, brings}
-use Rattle.run_summary.specs.Fields.{forgotten, met_in, seen_by, unseen}
+use Rattle.run_summary.specs.Fields.{forgotten, is_refused, met_in, seen_by, unseen}
 use Rattle.run_summary.specs.Figures.{one_more, with_event, with_packet}
-use Rattle.run_summary.specs.Happened.{Came, Happened, Over, Sent, Shown, TellsFields, behind_coming, behind_packets, behind_record, happened_from, how_enforced, how_told, newest_met, packets_led_to, seen_behind, shown_to, since_enforced, value_came, values_came}
+use Rattle.run_summary.specs.Happened.{Came, Happened, Over, Sent, Shown, TellsFields, behind_coming, behind_packets, behind_record, happened_from, how_enforced, how_told, mode_behind, newest_met, packets_led_to, seen_behind, shown_to, value_came, values_came, watched}
 use Rattle.run_summary.specs.Packets.{packets_of}
 use Rattle.run_summary.specs.Run.{Packet, nothing_told, number_behind, numbered, stopped}
-use Rattle.run_summary.proofs.Following.{Follows, changed_so, coming_follows, follows_nothing, left_so, over_follows, read_follows}
+use Rattle.run_summary.proofs.Following.{Follows, changed_so, coming_follows, follows_nothing, left_so, over_follows, read_follows, watching_so}
 
 -- ---- one thing more
 
 -- it isn't that tables come into force
-no_enforcing : (it : Happened) (happened : List Happened) → is_some (how_enforced it happened) ≡ false → since_enforced (it ∷ happened) ≡ it ∷ since_enforced happened
-no_enforcing it happened isnt = rw isnt refl
+watching : (it : Happened) (happened : List Happened) → is_some (how_enforced it happened) ≡ false →
+    watched (it ∷ happened) ≡ (if is_watching (mode_behind happened) then it ∷ watched happened else watched happened)
+watching it happened isnt = rw isnt refl
 
-enforcing : (it : Happened) (happened : List Happened) → is_some (how_enforced it happened) ≡ true → since_enforced (it ∷ happened) ≡ []
+enforcing : (it : Happened) (happened : List Happened) → is_some (how_enforced it happened) ≡ true → watched (it ∷ happened) ≡ []
 enforcing it happened is = rw is refl
 
 -- it brings nothing of the field
+nothing_watched : (w : Bool) (it : Happened) (before : List Happened) (field : Field) → value_came field it ≡ None →
+    values_came field (if w then it ∷ before else before) ≡ values_came field before
+nothing_watched true it before field none = ap (λ value. cons_option value (values_came field before)) none
+nothing_watched false it before field none = refl
+
 nothing_more : (it : Happened) (happened : List Happened) (field : Field) → is_some (how_enforced it happened) ≡ false → value_came field it ≡ None →
     seen_behind (it ∷ happened) field ≡ seen_behind happened field
 nothing_more it happened field isnt none =
-    let same : (before : List Happened) → values_came field (it ∷ before) ≡ values_came field before =
-    λ before. ap (λ value. cons_option value (values_came field before)) none in
+    let same : values_came field (it ∷ happened) ≡ values_came field happened = ap (λ value. cons_option value (values_came field happened)) none in
+    let met : values_came field (watched (it ∷ happened)) ≡ values_came field (watched happened) =
+    ap (values_came field) (watching it happened isnt) ∙ nothing_watched (is_watching (mode_behind happened)) it (watched happened) field none in
     λ i. record {
       field = field;
-      packets = stopped (length (same happened i));
-      last = (newest_met (same happened i)).place;
-      met = newest_met ((ap (values_came field) (no_enforcing it happened isnt) ∙ same (since_enforced happened)) i);
+      packets = stopped (length (same i));
+      last = (newest_met (same i)).place;
+      value = (newest_met (same i)).value;
+      met = newest_met (met i);
     }
 
--- .. or this
+-- .. or this, which comparisons meet if the Limit Checker takes it
+value_watched : (w : Bool) (it : Happened) (before : List Happened) (field : Field) (met : Met) → value_came field it ≡ Some met →
+    newest_met (values_came field (if w then it ∷ before else before)) ≡ (if w then met else newest_met (values_came field before))
+value_watched true it before field met is = ap (λ value. newest_met (cons_option value (values_came field before))) is
+value_watched false it before field met is = refl
+
 value_more : (it : Happened) (happened : List Happened) (field : Field) (met : Met) → is_some (how_enforced it happened) ≡ false → value_came field it ≡ Some met →
     seen_behind (it ∷ happened) field
-    ≡ record { field = field; packets = one_more (stopped (length (values_came field happened))); last = met.place; met = met }
+    ≡ record {
+      field = field;
+      packets = one_more (stopped (length (values_came field happened)));
+      last = met.place;
+      value = met.value;
+      met = if is_watching (mode_behind happened) then met else newest_met (values_came field (watched happened));
+    }
 value_more it happened field met isnt is =
-    let longer : (before : List Happened) → values_came field (it ∷ before) ≡ met ∷ values_came field before =
-    λ before. ap (λ value. cons_option value (values_came field before)) is in
+    let longer : values_came field (it ∷ happened) ≡ met ∷ values_came field happened = ap (λ value. cons_option value (values_came field happened)) is in
     let count : stopped (length (met ∷ values_came field happened)) ≡ one_more (stopped (length (values_came field happened))) = omega arith in
+    let newest : newest_met (values_came field (watched (it ∷ happened))) ≡ (if is_watching (mode_behind happened) then met else newest_met (values_came field (watched happened))) =
+    ap (λ (all : List Happened). newest_met (values_came field all)) (watching it happened isnt)
+    ∙ value_watched (is_watching (mode_behind happened)) it (watched happened) field met is in
     λ i. record {
       field = field;
-      packets = (ap (λ (values : List Met). stopped (length values)) (longer happened) ∙ count) i;
-      last = (newest_met (longer happened i)).place;
-      met = newest_met ((ap (values_came field) (no_enforcing it happened isnt) ∙ longer (since_enforced happened)) i);
+      packets = (ap (λ (values : List Met). stopped (length values)) longer ∙ count) i;
+      last = (newest_met (longer i)).place;
+      value = (newest_met (longer i)).value;
+      met = newest i;
     }
 
 -- tables come into force
@@ -70,21 +92,26 @@ forgotten_more it happened field is none =
       field = field;
       packets = stopped (length (same i));
       last = (newest_met (same i)).place;
+      value = (newest_met (same i)).value;
       met = newest_met (ap (values_came field) (enforcing it happened is) i);
     }
 
 -- ---- a record comes
 
+-- whether the Limit Checker takes packets
+abbrev takes : List Happened → Bool
+takes happened = is_watching (mode_behind happened)
+
 telemetry_one : (place : Place) (packet : List ℕ) (happened : List Happened) (field : Field) →
-    (if nat_lt (length packet) 2 then seen_behind happened field else seen_by packet place (seen_behind happened field))
+    (if is_refused packet then seen_behind happened field else seen_by packet place (takes happened) (seen_behind happened field))
     ≡ seen_behind (Came place (Telemetry packet) ∷ happened) field
-telemetry_one place packet happened field = by_tests (nat_lt (length packet) 2) (field.mid == message_id packet) refl refl
+telemetry_one place packet happened field = by_tests (is_refused packet) (field.mid == message_id packet) refl refl
   where
     it : Happened
     it = Came place (Telemetry packet)
 
-    by_tests : (b c : Bool) → nat_lt (length packet) 2 ≡ b → (field.mid == message_id packet) ≡ c →
-        (if nat_lt (length packet) 2 then seen_behind happened field else seen_by packet place (seen_behind happened field))
+    by_tests : (b c : Bool) → is_refused packet ≡ b → (field.mid == message_id packet) ≡ c →
+        (if is_refused packet then seen_behind happened field else seen_by packet place (takes happened) (seen_behind happened field))
         ≡ seen_behind (it ∷ happened) field
     by_tests true c is other = rw is refl ∙ sym (nothing_more it happened field refl (rw is refl))
     by_tests false false is other = rw (is, other) refl ∙ sym (nothing_more it happened field refl (rw (is, other) refl))
@@ -92,9 +119,9 @@ telemetry_one place packet happened field = by_tests (nat_lt (length packet) 2) 
         rw (is, other) refl ∙ sym (value_more it happened field (met_in field place packet) refl (rw (is, other) refl))
 
 telemetry_seen : (place : Place) (packet : List ℕ) (happened : List Happened) (fields : List Field) →
-    (if nat_lt (length packet) 2 then map (seen_behind happened) fields else map (seen_by packet place) (map (seen_behind happened) fields))
+    (if is_refused packet then map (seen_behind happened) fields else map (seen_by packet place (takes happened)) (map (seen_behind happened) fields))
     ≡ map (seen_behind (Came place (Telemetry packet) ∷ happened)) fields
-telemetry_seen place packet happened [] = by_test (nat_lt (length packet) 2)
+telemetry_seen place packet happened [] = by_test (is_refused packet)
   where
     none : List Seen
     none = []
@@ -103,8 +130,8 @@ telemetry_seen place packet happened [] = by_test (nat_lt (length packet) 2)
     by_test true = refl
     by_test false = refl
 telemetry_seen place packet happened (field ∷ fields) =
-    parted (nat_lt (length packet) 2) (seen_behind happened field) (seen_by packet place (seen_behind happened field))
-    (map (seen_behind happened) fields) (map (seen_by packet place) (map (seen_behind happened) fields))
+    parted (is_refused packet) (seen_behind happened field) (seen_by packet place (takes happened) (seen_behind happened field))
+    (map (seen_behind happened) fields) (map (seen_by packet place (takes happened)) (map (seen_behind happened) fields))
     ∙ (λ i. telemetry_one place packet happened field i ∷ telemetry_seen place packet happened fields i)
   where
     parted : (b : Bool) (x y : Seen) (xs ys : List Seen) → (if b then x ∷ xs else y ∷ ys) ≡ (if b then x else y) ∷ (if b then xs else ys)
@@ -117,13 +144,14 @@ none_more it happened [] isnt none = refl
 none_more it happened (field ∷ fields) isnt none =
     λ i. sym (nothing_more it happened field isnt (none field)) i ∷ none_more it happened fields isnt none i
 
-pub come_seen : (brought : Brings) (place : Place) (a : Account) (happened : List Happened) (fields : List Field) → a.seen ≡ map (seen_behind happened) fields →
-    (come_by brought place a).seen ≡ map (seen_behind (Came place brought ∷ happened)) fields
-come_seen (Telemetry packet) place a happened fields is =
-    ap (λ (all : List Seen). if nat_lt (length packet) 2 then all else map (seen_by packet place) all) is ∙ telemetry_seen place packet happened fields
-come_seen Tick place a happened fields is = is ∙ none_more (Came place Tick) happened fields refl (λ field. refl)
-come_seen Command place a happened fields is = is ∙ none_more (Came place Command) happened fields refl (λ field. refl)
-come_seen File place a happened fields is = is ∙ none_more (Came place File) happened fields refl (λ field. refl)
+come_seen : (brought : Brings) (place : Place) (a : Account) (happened : List Happened) (fields : List Field) → Follows happened a.bands →
+    a.seen ≡ map (seen_behind happened) fields → (come_by brought place a).seen ≡ map (seen_behind (Came place brought ∷ happened)) fields
+come_seen (Telemetry packet) place a happened fields f is =
+    let taken : is_watching a.bands.mode ≡ takes happened = watching_so a.bands.mode (mode_behind happened) f.mode in
+    (λ i. if is_refused packet then is i else map (seen_by packet place (taken i)) (is i)) ∙ telemetry_seen place packet happened fields
+come_seen Tick place a happened fields f is = is ∙ none_more (Came place Tick) happened fields refl (λ field. refl)
+come_seen Command place a happened fields f is = is ∙ none_more (Came place Command) happened fields refl (λ field. refl)
+come_seen File place a happened fields f is = is ∙ none_more (Came place File) happened fields refl (λ field. refl)
 
 -- ---- a packet
 
@@ -199,11 +227,11 @@ shown_seen : (b : Bool) (step : Step) (a : Account) (happened : List Happened) (
 shown_seen true step a happened fields is = is ∙ none_more (Shown step.force step.types) happened fields refl (λ field. refl)
 shown_seen false step a happened fields is = is
 
-pub coming_seen : (step : Step) (a : Account) (happened : List Happened) (fields : List Field) → a.seen ≡ map (seen_behind happened) fields →
-    (came step a).seen ≡ map (seen_behind (behind_coming step happened)) fields
-coming_seen step a happened fields is =
+pub coming_seen : (step : Step) (a : Account) (happened : List Happened) (fields : List Field) → Follows happened a.bands →
+    a.seen ≡ map (seen_behind happened) fields → (came step a).seen ≡ map (seen_behind (behind_coming step happened)) fields
+coming_seen step a happened fields f is =
     shown_seen (is_asked step.bytes step.written) step (come step.bytes step.place a) (Came step.place (brings step.bytes) ∷ happened) fields
-    (come_seen (brings step.bytes) step.place a happened fields is)
+    (come_seen (brings step.bytes) step.place a happened fields f is)
 
 reads_seen : (packets : List (List ℕ)) (place : Place) (stands : List Stand) (r : Reading) (number : ℕ) (happened : List Happened) (fields : List Field) →
     Follows happened r.account.bands → r.account.seen ≡ map (seen_behind happened) fields →
@@ -212,8 +240,9 @@ reads_seen : (packets : List (List ℕ)) (place : Place) (stands : List Stand) (
 reads_seen [] place stands r number happened fields f is = (is, f)
 reads_seen (bytes ∷ packets) place stands r number happened fields f is =
     let packet : Packet = record { number = one_more number; place = place; bytes = bytes } in
-    let counted : Reading = record r { account = record r.account { figures = with_packet r.account.figures } } in
-    reads_seen packets place stands (read bytes place stands r) (one_more number) (Sent packet ∷ happened) fields
+    let now : Reading = facing packets r in
+    let counted : Reading = record now { account = record r.account { figures = with_packet r.account.figures } } in
+    reads_seen packets place stands (read bytes place stands now) (one_more number) (Sent packet ∷ happened) fields
     (read_follows packet place stands counted happened f)
     (packet_seen packet place stands counted happened fields f is)
 
@@ -226,8 +255,8 @@ run_seen (step ∷ steps) a number happened fields f is =
     let own : List (List ℕ) = packets_of step.written in
     let now : List Happened = behind_coming step happened in
     let counting : Account = sampled step.place step.stands (came step a) in
-    let over = reads_seen own step.place step.stands (record { account = counting; from = 0 }) number now fields
-    (coming_follows step a happened f) (coming_seen step a happened fields is) in
+    let over = reads_seen own step.place step.stands (unread counting) number now fields
+    (coming_follows step a happened f) (coming_seen step a happened fields f is) in
     let behind : List Happened = behind_packets (packets_led_to number step) now in
     let after : Account = written step.written step.place step.stands counting in
     let stood_now : Account = record after { before = before_with step.stands 0 after.before } in

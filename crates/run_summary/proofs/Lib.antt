@@ -15,5 +15,6 @@ pub mod Sends
 pub mod SmallRun
 pub mod Stands
 pub mod Staying
+pub mod Taking
 pub mod Turning
 pub mod Uplinking

@@ -15,8 +15,8 @@ use Rattle.run_summary.specs.declared.place.Place.{Place}
 use Rattle.run_summary.specs.declared.place.Stand.{Stand}
 use Rattle.run_summary.specs.declared.seen.Seen.{Seen}
 use Rattle.run_summary.specs.About.{rule_of}
-use Rattle.run_summary.specs.Account.{Account, Reading, Step, account_behind, account_with, adopted_if, before_with, came, come, come_by, count_of, enforced_so, hold_by, is_asked, left_by, read, read_all, read_by, rows_with, rule_asking, said, sampled, shown_if, started_with_tables, stood_again, stood_so, written}
-use Rattle.run_summary.specs.Asking.{Counted, asking, behind_rule, counted_by, row_asked}
+use Rattle.run_summary.specs.Account.{Account, Reading, Step, account_behind, account_with, adopted_if, before_with, came, come, come_by, count_of, enforced_so, facing, hold_by, is_asked, left_by, read, read_all, read_by, rows_with, rule_asking, said, sampled, shown_if, started_with_tables, stood_again, stood_so, unread, written}
+use Rattle.run_summary.specs.Asking.{Counted, Hints, asking, counted_by, followed_by, no_hints, row_asked, with_rule}
 use Rattle.run_summary.specs.Bands.{has_changed, how_left}
 use Rattle.run_summary.specs.Brought.{Brings, Command, File, Telemetry, Tick, brings}
 use Rattle.run_summary.specs.Ends.{Ends}
@@ -25,7 +25,7 @@ use Rattle.run_summary.specs.Packets.{packets_of}
 use Rattle.run_summary.specs.Plans.{Planned, planned_at}
 use Rattle.run_summary.specs.Happened.{Came, Happened, Over, Sent, behind_coming, behind_packets, behind_record, packets_led_to, seen_behind, shown_to, text_in_force, types_shown}
 use Rattle.run_summary.specs.Holds.{hold_of}
-use Rattle.run_summary.specs.Requests.{Taken, TellsRequests, counted_of, hold_behind, own_event, request_by, request_if, requests_from, requests_in, requests_of, rule_by, samples_of, sequence_by, stands_before, stands_behind, taken_by, told_if, types_behind, with_its_event, with_samples}
+use Rattle.run_summary.specs.Requests.{Taken, TellsRequests, before_packets, counted_of, hold_behind, own_event, request_by, request_if, requests_from, requests_in, requests_of, rule_by, samples_of, sequence_by, stands_before, stands_behind, taken_by, told_if, types_behind, with_its_event, with_samples}
 use Rattle.run_summary.specs.Run.{OfTexts, Packet, ends_of, event_by, event_in, is_request, nothing_told, number_behind, numbered, packets_from}
 use Rattle.run_summary.specs.Samples.{Row, Sampled, no_row}
 use Rattle.run_summary.specs.Sent.{Requested, Said, Sending, before_newest, hears, most_parts, nothing_sent, parts_in, requested_more, requests_kept}
@@ -161,10 +161,10 @@ abbrev Between : OfTexts → List Taken → List Happened → ℕ → Account �
 Between texts records happened number a = Known texts (stands_behind records) records happened number a
 
 -- .. while the packets of the newest are read
-record Inside (texts : OfTexts) (records : List Taken) (happened : List Happened) (number from : ℕ) (r : Reading) : Type 0 where
+record Inside (texts : OfTexts) (records : List Taken) (happened : List Happened) (number : ℕ) (hints : Hints) (r : Reading) : Type 0 where
   known : Known texts (stands_before records) records happened number r.account
   shown : types_shown happened ≡ types_behind records
-  next : r.from ≡ from
+  next : r.hints ≡ hints
 
 -- the rule that is looked for
 abbrev rule_read : Option told.Told → List Stand → Reading → Option ℕ
@@ -173,21 +173,21 @@ rule_read (Some (told.Event moment sender id kind text)) stands r = None
 rule_read (Some (told.Housekeeping mode count rules)) stands r = None
 rule_read None stands r = None
 
-read_from : (says : Option told.Told) (packet : List ℕ) (place : Place) (stands : List Stand) (r : Reading) →
-    (read_by says packet place stands r).from ≡ behind_rule (rule_read says stands r) r.from
-read_from None packet place stands r = refl
-read_from (Some (told.Housekeeping mode count rules)) packet place stands r = refl
-read_from (Some (told.Event moment sender id kind text)) packet place stands r = refl
-read_from (Some (told.Request sequence)) packet place stands r = refl
+read_hints : (says : Option told.Told) (packet : List ℕ) (place : Place) (stands : List Stand) (r : Reading) →
+    (read_by says packet place stands r).hints ≡ with_rule (rule_read says stands r) r.hints
+read_hints None packet place stands r = refl
+read_hints (Some (told.Housekeeping mode count rules)) packet place stands r = refl
+read_hints (Some (told.Event moment sender id kind text)) packet place stands r = refl
+read_hints (Some (told.Request sequence)) packet place stands r = refl
 
-module _ (texts : OfTexts) (records : List Taken) (happened : List Happened) (number from : ℕ) (r : Reading) (inside : Inside texts records happened number from r) where
-  rule_asked : (sequence : ℕ) → rule_asking (stands_behind records) sequence r ≡ rule_by texts records (text_in_force happened) from (Some sequence)
+module _ (texts : OfTexts) (records : List Taken) (happened : List Happened) (number : ℕ) (hints : Hints) (r : Reading) (inside : Inside texts records happened number hints r) where
+  rule_asked : (sequence : ℕ) → rule_asking (stands_behind records) sequence r ≡ rule_by texts records (text_in_force happened) hints (Some sequence)
   rule_asked sequence =
       (λ i. asking (inside.known.stays.plans i) (inside.known.follows.text i) r.account.before (stands_behind records) (inside.known.stays.lanes i) (inside.next i) sequence)
-      ∙ asking_alike texts.plans (text_in_force happened) r.account.before (stands_before records) (stands_behind records) texts.lanes from sequence
+      ∙ asking_alike texts.plans (text_in_force happened) r.account.before (stands_before records) (stands_behind records) texts.lanes hints sequence
       inside.known.stays.stood
 
-  rule_so : (says : Option told.Told) → rule_read says (stands_behind records) r ≡ rule_by texts records (text_in_force happened) from (sequence_by says)
+  rule_so : (says : Option told.Told) → rule_read says (stands_behind records) r ≡ rule_by texts records (text_in_force happened) hints (sequence_by says)
   rule_so None = refl
   rule_so (Some (told.Housekeeping mode count rules)) = refl
   rule_so (Some (told.Event moment sender id kind text)) = refl
@@ -196,7 +196,7 @@ module _ (texts : OfTexts) (records : List Taken) (happened : List Happened) (nu
   rule_within : (sequence rule : ℕ) → rule_asking (stands_behind records) sequence r ≡ Some rule → rule < length r.account.rows
   rule_within sequence rule is =
       let below : rule < r.account.lanes =
-      asking_below r.account.plans r.account.bands.text r.account.before (stands_behind records) r.account.lanes r.from sequence rule is in
+      asking_below r.account.plans r.account.bands.text r.account.before (stands_behind records) r.account.lanes r.hints sequence rule is in
       omega (arith, below, inside.known.stays.lanes, inside.known.stays.rows)
 
 -- ---- a packet
@@ -234,10 +234,10 @@ same_request texts records packet sequence rule other text before number counted
 })
 
 -- what holds back the event of a rule
-hold_so : (rule : Option ℕ) (texts : OfTexts) (records : List Taken) (happened : List Happened) (number from : ℕ) (r : Reading) →
-    Inside texts records happened number from r → hold_by rule r.account ≡ hold_behind texts records rule (text_in_force happened)
-hold_so None texts records happened number from r inside = refl
-hold_so (Some rule) texts records happened number from r inside =
+hold_so : (rule : Option ℕ) (texts : OfTexts) (records : List Taken) (happened : List Happened) (number : ℕ) (hints : Hints) (r : Reading) →
+    Inside texts records happened number hints r → hold_by rule r.account ≡ hold_behind texts records rule (text_in_force happened)
+hold_so None texts records happened number hints r inside = refl
+hold_so (Some rule) texts records happened number hints r inside =
     λ i. hold_of (planned_at (inside.known.stays.plans i) (inside.known.follows.text i) rule) ((inside.known.types ∙ inside.shown) i)
 
 -- an event, as it is told
@@ -268,27 +268,27 @@ said_parts place sender id kind text a =
     ap (λ (s : Sending). s.parts) (in_force_sends sender id text place (record a { figures = with_event kind a.figures }))
 
 -- the request of a packet, if it is one; what was met in samples behind these requests
-abbrev asked_by : OfTexts → List Taken → List Happened → (from : ℕ) → Option ℕ → Packet → List Packet → List Requested
-asked_by texts records happened from sequence packet behind =
-    request_if texts records sequence packet (rule_by texts records (text_in_force happened) from sequence) (text_in_force happened) behind
+abbrev asked_by : OfTexts → List Taken → List Happened → Hints → Option ℕ → Packet → List Packet → List Requested
+asked_by texts records happened hints sequence packet behind =
+    request_if texts records sequence packet (rule_by texts records (text_in_force happened) hints sequence) (text_in_force happened) behind
 
 abbrev parts_behind : ℕ → List Requested → ℕ
 parts_behind parts [] = parts
 parts_behind parts (request ∷ requests) = parts_behind (parts + parts_in request.samples) requests
 
 -- what a packet says is told, by how the run was in front of it
-read_goes : (texts : OfTexts) (records : List Taken) (happened : List Happened) (from : ℕ) (packet : Packet) (behind : List Packet) (parts : ℕ) (to_come wanted : List Requested)
-    (says : Option told.Told) (r : Reading) → told_in packet.bytes ≡ says → Inside texts records happened packet.number from r →
-    Going wanted (packet ∷ behind) parts (asked_by texts records happened from (sequence_by says) packet behind ++ to_come) r.account.sending →
-    Going wanted behind (parts_behind parts (asked_by texts records happened from (sequence_by says) packet behind)) to_come
+read_goes : (texts : OfTexts) (records : List Taken) (happened : List Happened) (hints : Hints) (packet : Packet) (behind : List Packet) (parts : ℕ) (to_come wanted : List Requested)
+    (says : Option told.Told) (r : Reading) → told_in packet.bytes ≡ says → Inside texts records happened packet.number hints r →
+    Going wanted (packet ∷ behind) parts (asked_by texts records happened hints (sequence_by says) packet behind ++ to_come) r.account.sending →
+    Going wanted behind (parts_behind parts (asked_by texts records happened hints (sequence_by says) packet behind)) to_come
     (read_by says packet.bytes packet.place (stands_behind records) r).account.sending
-read_goes texts records happened from packet behind parts to_come wanted None r is inside g =
+read_goes texts records happened hints packet behind parts to_come wanted None r is inside g =
     quiet_goes wanted packet behind parts to_come r.account.sending (ap is_request is) (ap (λ says. event_by packet.number packet.place says) is) g
-read_goes texts records happened from packet behind parts to_come wanted (Some (told.Housekeeping mode count rules)) r is inside g =
+read_goes texts records happened hints packet behind parts to_come wanted (Some (told.Housekeeping mode count rules)) r is inside g =
     subst (λ (s : Sending). Going wanted behind parts to_come s)
     (sym (ap (λ (s : Staying). s.sending) (adopted_stays (has_changed r.account.bands) packet.place (housed r.account))))
     (quiet_goes wanted packet behind parts to_come r.account.sending (ap is_request is) (ap (λ says. event_by packet.number packet.place says) is) g)
-read_goes texts records happened from packet behind parts to_come wanted (Some (told.Event moment sender id kind text)) r is inside g =
+read_goes texts records happened hints packet behind parts to_come wanted (Some (told.Event moment sender id kind text)) r is inside g =
     let event : ℕ → Said = λ number.
     record { packet = number; place = packet.place; rule = rule_of sender id text; sender = sender; id = id; kind = kind; text = text } in
     event_goes wanted packet (event packet.number) behind parts to_come r.account.sending (said packet.place sender id kind text r.account).sending
@@ -298,16 +298,16 @@ read_goes texts records happened from packet behind parts to_come wanted (Some (
     (said_newest packet.place sender id kind text r.account
     ∙ ap (λ number. option_map (hears (event number)) r.account.sending.newest) inside.known.sent)
     g
-read_goes texts records happened from packet behind parts to_come wanted (Some (told.Request sequence)) r is inside g =
+read_goes texts records happened hints packet behind parts to_come wanted (Some (told.Request sequence)) r is inside g =
     let rule : Option ℕ = rule_asking (stands_behind records) sequence r in
-    let other : Option ℕ = rule_by texts records (text_in_force happened) from (Some sequence) in
-    let same : rule ≡ other = rule_asked texts records happened packet.number from r inside sequence in
+    let other : Option ℕ = rule_by texts records (text_in_force happened) hints (Some sequence) in
+    let same : rule ≡ other = rule_asked texts records happened packet.number hints r inside sequence in
     let text : r.account.bands.text ≡ text_in_force happened = inside.known.follows.text in
     let row : Option Row = row_asked rule r.account.rows in
     let told_now : Counted = counted_by row r.account.bands.text r.account.sending in
     let counts : CountsSo texts records rule r.account.bands.text parts told_now =
     counts_so texts records r.account.rows rule r.account.bands.text parts r.account.sending inside.known.rows
-    (λ k at. rule_within texts records happened packet.number from r inside sequence k at) g.met in
+    (λ k at. rule_within texts records happened packet.number hints r inside sequence k at) g.met in
     request_goes wanted packet
     (with_its_event (request_by texts records packet sequence other (text_in_force happened)) behind)
     (record {
@@ -326,7 +326,7 @@ read_goes texts records happened from packet behind parts to_come wanted (Some (
     (same_request texts records packet sequence rule other r.account.bands.text (text_in_force happened) r.account.figures.packets told_now.counted parts
     told_now.samples (hold_by rule r.account) behind inside.known.sent same text
     (counts.counted ∙ ap (λ one. counted_of one records) same)
-    (hold_so rule texts records happened packet.number from r inside ∙ ap (λ one. hold_behind texts records one (text_in_force happened)) same)
+    (hold_so rule texts records happened packet.number hints r inside ∙ ap (λ one. hold_behind texts records one (text_in_force happened)) same)
     (counts.samples
     ∙ (λ i. if nat_le (parts + parts_in (samples_of texts (same i) records)) most_parts && is_some (text i) then samples_of texts (same i) records else [])))
     (counted_requests row r.account.bands.text r.account.sending)
@@ -357,12 +357,12 @@ read_types (Some (told.Event moment sender id kind text)) packet place stands r 
     (enforced_so place (if bytes_eq text started_with_tables then how.Started else how.None) a) refl refl
 
 -- and what stays does
-read_stays : (texts : OfTexts) (records : List Taken) (happened : List Happened) (from : ℕ) (packet : Packet) (r : Reading) →
-    Inside texts records happened packet.number from r →
+read_stays : (texts : OfTexts) (records : List Taken) (happened : List Happened) (hints : Hints) (packet : Packet) (r : Reading) →
+    Inside texts records happened packet.number hints r →
     Inside texts records (Sent packet ∷ happened) packet.number
-    (behind_rule (rule_by texts records (text_in_force happened) from (sequence_by (told_in packet.bytes))) from)
+    (with_rule (rule_by texts records (text_in_force happened) hints (sequence_by (told_in packet.bytes))) hints)
     (read_by (told_in packet.bytes) packet.bytes packet.place (stands_behind records) r)
-read_stays texts records happened from packet r inside =
+read_stays texts records happened hints packet r inside =
     let says : Option told.Told = told_in packet.bytes in
     let stands : List Stand = stands_behind records in
     let same : of_rules r.account ≡ of_rules (read_by says packet.bytes packet.place stands r).account = sym (read_keeps says packet.bytes packet.place stands r) in
@@ -376,14 +376,17 @@ read_stays texts records happened from packet r inside =
         sent = read_counts says packet.bytes packet.place stands r ∙ inside.known.sent;
       };
       shown = inside.shown;
-      next = read_from says packet.bytes packet.place stands r
-          ∙ (λ i. behind_rule (rule_so texts records happened packet.number from r inside says i) (inside.next i));
+      next = read_hints says packet.bytes packet.place stands r
+          ∙ (λ i. with_rule (rule_so texts records happened packet.number hints r inside says i) (inside.next i));
     }
 
--- a packet is counted
-with_one : (texts : OfTexts) (records : List Taken) (happened : List Happened) (number from : ℕ) (r : Reading) → Inside texts records happened number from r →
-    Inside texts records happened (one_more number) from (record r { account = record r.account { figures = with_packet r.account.figures } })
-with_one texts records happened number from r inside = record {
+-- a packet is counted, which these follow
+abbrev counting_one : List (List ℕ) → Reading → Reading
+counting_one packets r = record { account = record r.account { figures = with_packet r.account.figures }; hints = followed_by packets r.hints }
+
+with_one : (texts : OfTexts) (records : List Taken) (happened : List Happened) (number : ℕ) (hints : Hints) (packets : List (List ℕ)) (r : Reading) →
+    Inside texts records happened number hints r → Inside texts records happened (one_more number) (followed_by packets hints) (counting_one packets r)
+with_one texts records happened number hints packets r inside = record {
   known = record {
     stays = inside.known.stays;
     rows = inside.known.rows;
@@ -393,7 +396,7 @@ with_one texts records happened number from r inside = record {
     sent = ap one_more inside.known.sent;
   };
   shown = inside.shown;
-  next = inside.next;
+  next = ap (followed_by packets) inside.next;
 }
 
 -- ---- the packets of a record
@@ -402,29 +405,38 @@ parts_parted : (parts : ℕ) (own others : List Requested) → parts_behind (par
 parts_parted parts [] others = refl
 parts_parted parts (request ∷ own) others = parts_parted (parts + parts_in request.samples) own others
 
+bytes_numbered : (number : ℕ) (place : Place) (packets : List (List ℕ)) → map (λ (packet : Packet). packet.bytes) (numbered number place packets) ≡ packets
+bytes_numbered number place [] = refl
+bytes_numbered number place (bytes ∷ packets) = ap (λ (all : List (List ℕ)). bytes ∷ all) (bytes_numbered (one_more number) place packets)
+
 reads_go : (texts : OfTexts) (records : List Taken) (others : List Packet) (rest wanted : List Requested) (place : Place) (packets : List (List ℕ))
-    (happened : List Happened) (number from parts : ℕ) (r : Reading) → Inside texts records happened number from r →
-    Going wanted (numbered number place packets ++ others) parts (requests_in texts records others from happened (numbered number place packets) ++ rest) r.account.sending →
-    Going wanted others (parts_behind parts (requests_in texts records others from happened (numbered number place packets))) rest
+    (happened : List Happened) (number : ℕ) (hints : Hints) (parts : ℕ) (r : Reading) → Inside texts records happened number hints r →
+    Going wanted (numbered number place packets ++ others) parts (requests_in texts records others hints happened (numbered number place packets) ++ rest) r.account.sending →
+    Going wanted others (parts_behind parts (requests_in texts records others hints happened (numbered number place packets))) rest
     (read_all packets place (stands_behind records) r).account.sending
     × Known texts (stands_before records) records (behind_packets (numbered number place packets) happened) (number_behind number packets)
     (read_all packets place (stands_behind records) r).account
-reads_go texts records others rest wanted place [] happened number from parts r inside g = (g, inside.known)
-reads_go texts records others rest wanted place (bytes ∷ packets) happened number from parts r inside g =
+reads_go texts records others rest wanted place [] happened number hints parts r inside g = (g, inside.known)
+reads_go texts records others rest wanted place (bytes ∷ packets) happened number hints parts r inside g =
     let packet : Packet = record { number = one_more number; place = place; bytes = bytes } in
     let later : List Packet = numbered (one_more number) place packets in
-    let counted_now : Reading = record r { account = record r.account { figures = with_packet r.account.figures } } in
-    let within : Inside texts records happened (one_more number) from counted_now = with_one texts records happened number from r inside in
+    let now : Reading = facing packets r in
+    let counted_now : Reading = counting_one packets r in
+    let here : Hints = before_packets later hints in
+    let within : Inside texts records happened (one_more number) here counted_now =
+    subst (λ (behind : List (List ℕ)). Inside texts records happened (one_more number) (followed_by behind hints) counted_now)
+    (sym (bytes_numbered (one_more number) place packets))
+    (with_one texts records happened number hints packets r inside) in
     let sequence : Option ℕ = sequence_by (told_in bytes) in
-    let next : ℕ = behind_rule (rule_by texts records (text_in_force happened) from sequence) from in
-    let own : List Requested = asked_by texts records happened from sequence packet (later ++ others) in
+    let next : Hints = with_rule (rule_by texts records (text_in_force happened) here sequence) here in
+    let own : List Requested = asked_by texts records happened here sequence packet (later ++ others) in
     let to_come : List Requested = requests_in texts records others next (Sent packet ∷ happened) later in
     let behind = reads_go texts records others rest wanted place packets (Sent packet ∷ happened) (one_more number) next (parts_behind parts own)
-    (read bytes place (stands_behind records) r)
-    (read_stays texts records happened from packet counted_now within)
-    (read_goes texts records happened from packet (later ++ others) parts (to_come ++ rest) wanted (told_in bytes) counted_now refl within
+    (read bytes place (stands_behind records) now)
+    (read_stays texts records happened here packet counted_now within)
+    (read_goes texts records happened here packet (later ++ others) parts (to_come ++ rest) wanted (told_in bytes) counted_now refl within
     (subst (λ (all : List Requested). Going wanted (packet ∷ (later ++ others)) parts all r.account.sending) (append_assoc own to_come rest) g)) in (
-      subst (λ met. Going wanted others met rest (read_all packets place (stands_behind records) (read bytes place (stands_behind records) r)).account.sending)
+      subst (λ met. Going wanted others met rest (read_all packets place (stands_behind records) (read bytes place (stands_behind records) now)).account.sending)
           (parts_parted parts own to_come) behind.0,
       behind.1,
     )
@@ -459,8 +471,8 @@ come_types File place a = refl
 
 -- its samples were taken
 begins_inside : (texts : OfTexts) (past : List Taken) (happened : List Happened) (number : ℕ) (step : Step) (a : Account) → Between texts past happened number a →
-    Inside texts (taken_by step happened ∷ past) (behind_coming step happened) number 0
-    (record { account = sampled step.place step.stands (came step a); from = 0 })
+    Inside texts (taken_by step happened ∷ past) (behind_coming step happened) number no_hints
+    (unread (sampled step.place step.stands (came step a)))
 begins_inside texts past happened number step a between =
     let now_come : Account = came step a in
     let now : List Happened = behind_coming step happened in
@@ -479,7 +491,7 @@ begins_inside texts past happened number step a between =
     let rows_come : AreRows texts past 0 (of_rules (come step.bytes step.place a)).rows =
     subst (λ (rules : OfRules). AreRows texts past 0 rules.rows) same between.rows in
     let follows : Follows now now_come.bands = coming_follows step a happened between.follows in
-    let seen : now_come.seen ≡ map (seen_behind now) texts.fields = coming_seen step a happened texts.fields between.seen in
+    let seen : now_come.seen ≡ map (seen_behind now) texts.fields = coming_seen step a happened texts.fields between.follows between.seen in
     record {
       known = record {
         stays = record {
@@ -548,15 +560,15 @@ run_goes texts wanted (step ∷ steps) past happened number parts a between g =
     let records : List Taken = taken_by step happened ∷ past in
     let counting : Account = sampled step.place step.stands (came step a) in
     let after : Account = written step.written step.place step.stands counting in
-    let over = reads_go texts records others (requests_from texts records (behind_record number step happened) behind steps) wanted step.place own now number 0 parts
-    (record { account = counting; from = 0 })
+    let over = reads_go texts records others (requests_from texts records (behind_record number step happened) behind steps) wanted step.place own now number no_hints parts
+    (unread counting)
     (begins_inside texts past happened number step a between)
     (subst (λ (s : Sending). Going wanted (packets_from number (step ∷ steps)) parts (requests_from texts past happened number (step ∷ steps)) s)
     (sym (came_sends step a)) g) in
     run_goes texts wanted steps records (behind_record number step happened) behind
-    (parts_behind parts (requests_in texts records others 0 now (packets_led_to number step))) (account_with step a)
+    (parts_behind parts (requests_in texts records others no_hints now (packets_led_to number step))) (account_with step a)
     (ends_between texts (stands_behind past) records (behind_packets (packets_led_to number step) now) behind step after over.1 refl)
-    (subst (λ (s : Sending). Going wanted others (parts_behind parts (requests_in texts records others 0 now (packets_led_to number step))) (requests_from texts records (behind_record number step happened) behind steps) s)
+    (subst (λ (s : Sending). Going wanted others (parts_behind parts (requests_in texts records others no_hints now (packets_led_to number step))) (requests_from texts records (behind_record number step happened) behind steps) s)
     (sym (ap (λ (s : Staying). s.sending) (again_stays step.place step.mode (stood_before step.stands after)))) over.0)
 
 -- nothing happened

@@ -13,7 +13,7 @@ use Rattle.run_summary.specs.declared.figures.Figures.{Figures}
 use Rattle.run_summary.specs.declared.place.Place.{Place}
 use Rattle.run_summary.specs.declared.place.Stand.{Stand}
 use Rattle.run_summary.specs.About.{rule_of}
-use Rattle.run_summary.specs.Account.{Account, Reading, Step, account_behind, account_with, before_with, came, come_by, enforced_so, in_force_by, read, read_all, read_by, rule_asking, said, sampled, started_with_tables, written}
+use Rattle.run_summary.specs.Account.{Account, Reading, Step, account_behind, account_with, before_with, came, come_by, enforced_so, facing, in_force_by, read, read_all, read_by, rule_asking, said, sampled, started_with_tables, unread, written}
 use Rattle.run_summary.specs.Asking.{counted_by, row_asked}
 use Rattle.run_summary.specs.Bands.{has_changed}
 use Rattle.run_summary.specs.Brought.{Brings, Command, File, Telemetry, Tick, brings}
@@ -152,8 +152,9 @@ reads_send : (packets : List (List ℕ)) (place : Place) (stands : List Stand) (
 reads_send [] place stands r = refl
 reads_send (bytes ∷ packets) place stands r =
     let packet : Packet = record { number = one_more r.account.figures.packets; place = place; bytes = bytes } in
-    let counted : Reading = record r { account = record r.account { figures = with_packet r.account.figures } } in
-    let now : Reading = read bytes place stands r in
+    let facing_them : Reading = facing packets r in
+    let counted : Reading = record facing_them { account = record r.account { figures = with_packet r.account.figures } } in
+    let now : Reading = read bytes place stands facing_them in
     reads_send packets place stands now
     ∙ (λ i. all_kept record_of (filter_map event_in (numbered (read_counts (told_in bytes) bytes place stands counted i) place packets)) (read_sends (told_in bytes) bytes place stands counted i))
     ∙ one_more_told packet (numbered (one_more r.account.figures.packets) place packets) r.account.sending.events
@@ -162,8 +163,9 @@ reads_count : (packets : List (List ℕ)) (place : Place) (stands : List Stand) 
     (read_all packets place stands r).account.figures.packets ≡ number_behind r.account.figures.packets packets
 reads_count [] place stands r = refl
 reads_count (bytes ∷ packets) place stands r =
-    let counted : Reading = record r { account = record r.account { figures = with_packet r.account.figures } } in
-    reads_count packets place stands (read bytes place stands r)
+    let now : Reading = facing packets r in
+    let counted : Reading = record now { account = record r.account { figures = with_packet r.account.figures } } in
+    reads_count packets place stands (read bytes place stands now)
     ∙ ap (λ n. number_behind n packets) (read_counts (told_in bytes) bytes place stands counted)
 
 -- ---- a record, and a run
@@ -178,7 +180,7 @@ step_sends step a =
     let sampling : Account = sampled step.place step.stands (came step a) in
     ap (λ (s : Staying). s.sending.events)
     (again_stays step.place step.mode (stood_before step.stands (written step.written step.place step.stands sampling)))
-    ∙ reads_send (packets_of step.written) step.place step.stands (record { account = sampling; from = 0 })
+    ∙ reads_send (packets_of step.written) step.place step.stands (unread sampling)
     ∙ (λ i. all_kept record_of (filter_map event_in (numbered (came_counts step a i) step.place (packets_of step.written))) ((came_sends step a i).events))
 
 step_counts : (step : Step) (a : Account) → (account_with step a).figures.packets ≡ number_behind a.figures.packets (packets_of step.written)
@@ -186,7 +188,7 @@ step_counts step a =
     let sampling : Account = sampled step.place step.stands (came step a) in
     ap (λ (s : Staying). s.figures.packets)
     (again_stays step.place step.mode (stood_before step.stands (written step.written step.place step.stands sampling)))
-    ∙ reads_count (packets_of step.written) step.place step.stands (record { account = sampling; from = 0 })
+    ∙ reads_count (packets_of step.written) step.place step.stands (unread sampling)
     ∙ ap (λ n. number_behind n (packets_of step.written)) (came_counts step a)
 
 run_sends : (steps : List Step) (a : Account) →

@@ -1,7 +1,8 @@
 -- A small run, computed: a half of a rule text comes, and the Limit Checker starts with it; the text's one rule fails twice, and requests
--- sequence 7. Then another text is in force, which no packet reported.
+-- sequence 7. Then another text is in force, which no packet reported. In a second run packets come that no comparison meets.
 use Rattle.std.proofs.Common.{◌≡◌, ℕ, ◌-◌, List, [], ◌∷◌, ◌++◌, refl, replicate, Some, None, codes, length, map, pos}
-use Rattle.lc_model.specs.declared.mode.LcMode.TheVariants.{Active}
+use Rattle.lc_model.specs.declared.mode.LcMode.{LcMode}
+use Rattle.lc_model.specs.declared.mode.LcMode.TheVariants.{Active, Disabled}
 use Rattle.lc_model.specs.declared.field.FieldType.TheVariants as field
 use Rattle.lc_model.specs.declared.field.CmpOp.TheVariants as cmp
 use Rattle.lc_model.specs.declared.rule.EventKind.TheVariants as kind
@@ -30,9 +31,13 @@ request = 24 ∷ 169 ∷ 192 ∷ 5 ∷ 0 ∷ 5 ∷ 0 ∷ 0 ∷ 0 ∷ 7 ∷ 0 ∷
 abbrev half : List ℕ
 half = 4 ∷ (replicate 10 0 ++ (codes "/cf/lc_def_wdt.tbl" ++ (replicate 22 0 ++ (1 ∷ 0 ∷ 0 ∷ []))))
 
--- the record of a packet in which the field has this value
+-- the record of a packet with this byte of sequence flags, in which the field has this value
+abbrev packet_with : (flags value : ℕ) → List ℕ
+packet_with flags value = 1 ∷ (replicate 10 0 ++ (8 ∷ 240 ∷ flags ∷ 0 ∷ 0 ∷ 6 ∷ 0 ∷ 0 ∷ 0 ∷ 0 ∷ 0 ∷ 0 ∷ value ∷ []))
+
+-- .. without a fault
 abbrev telemetry : ℕ → List ℕ
-telemetry value = 1 ∷ (replicate 10 0 ++ (8 ∷ 240 ∷ 192 ∷ 0 ∷ 0 ∷ 6 ∷ 0 ∷ 0 ∷ 0 ∷ 0 ∷ 0 ∷ 0 ∷ value ∷ []))
+telemetry value = packet_with 192 value
 
 abbrev at : ℕ → Place
 at n = record { «record» = n; time = pos n }
@@ -71,7 +76,7 @@ unfolding packets_within
 small_requests = refl
 
 pub small_fields : map (seen_behind (happened_in steps)) read.fields
-    ≡ record { field = one; packets = 2; last = Some (at 3); met = record { value = None; place = None } } ∷ []
+    ≡ record { field = one; packets = 2; last = Some (at 3); value = Some (pos 100); met = record { value = None; place = None } } ∷ []
 unfolding packets_within
 small_fields = refl
 
@@ -87,3 +92,31 @@ small_tables = refl
 pub small_modes : all_modes (happened_in steps) ≡ record { place = at 1; mode = Some (Some Active) } ∷ []
 unfolding packets_within
 small_modes = refl
+
+-- after the start, this record came, and the Limit Checker has this mode
+abbrev step_of : ℕ → List ℕ → LcMode → Step
+step_of n bytes mode = record {
+  place = at n;
+  bytes = bytes;
+  written = [];
+  mode = Some mode;
+  stands = record { result = 2; state = 1; fails = 0 } ∷ [];
+  force = Some 0;
+  types = all_on;
+}
+
+-- a value comes; one while the Limit Checker is disabled; and one in a packet that is a part of another
+abbrev watched_steps : List Step
+watched_steps =
+    record { place = at 1; bytes = half; written = event 0 1 (codes "started with tables"); mode = Some Active; stands = record { result = 2; state = 1; fails = 0 } ∷ []; force = Some 0; types = all_on }
+    ∷ step_of 2 (telemetry 99) Active
+    ∷ step_of 3 half Disabled
+    ∷ step_of 4 (telemetry 10) Disabled
+    ∷ step_of 5 half Active
+    ∷ step_of 6 (packet_with 0 20) Active
+    ∷ []
+
+pub watched_fields : map (seen_behind (happened_in watched_steps)) read.fields
+    ≡ record { field = one; packets = 2; last = Some (at 4); value = Some (pos 10); met = record { value = Some (pos 99); place = Some (at 2) } } ∷ []
+unfolding packets_within
+watched_fields = refl

@@ -12,7 +12,7 @@ use Rattle.run_summary.specs.declared.bands.How.TheVariants as how
 use Rattle.run_summary.specs.declared.bands.TablesFrom.{TablesFrom}
 use Rattle.run_summary.specs.declared.place.Place.{Place}
 use Rattle.run_summary.specs.declared.place.Stand.{Stand}
-use Rattle.run_summary.specs.Account.{Account, Reading, Step, account_behind, account_with, before_with, came, come, come_by, is_asked, read, read_all, sampled, shown_if, stood_again, written}
+use Rattle.run_summary.specs.Account.{Account, Reading, Step, account_behind, account_with, before_with, came, come, come_by, facing, is_asked, read, read_all, sampled, shown_if, stood_again, unread, written}
 use Rattle.run_summary.specs.Bands.{InForce, how_left, is_none_in_force, mode_number, mode_told, most, nothing_in_force, tables_told, text_enforced, told_more}
 use Rattle.run_summary.specs.Brought.{Brings, Command, File, Telemetry, Tick, brings}
 use Rattle.run_summary.specs.Figures.{one_more, with_packet}
@@ -183,8 +183,9 @@ reads_turn : (packets : List (List ℕ)) (place : Place) (stands : List Stand) (
 reads_turn [] place stands r number happened f t = (f, t)
 reads_turn (bytes ∷ packets) place stands r number happened f t =
     let packet : Packet = record { number = one_more number; place = place; bytes = bytes } in
-    let counted : Reading = record r { account = record r.account { figures = with_packet r.account.figures } } in
-    reads_turn packets place stands (read bytes place stands r) (one_more number) (Sent packet ∷ happened)
+    let now : Reading = facing packets r in
+    let counted : Reading = record now { account = record r.account { figures = with_packet r.account.figures } } in
+    reads_turn packets place stands (read bytes place stands now) (one_more number) (Sent packet ∷ happened)
     (read_follows packet place stands counted happened f)
     (subst (λ (b : InForce). Turns (Sent packet ∷ happened) b) (sym (read_enforces packet place stands counted happened f))
     (packet_turns packet r.account.bands happened f t))
@@ -196,7 +197,7 @@ run_turns (step ∷ steps) a number happened f t =
     let own : List (List ℕ) = packets_of step.written in
     let now : List Happened = behind_coming step happened in
     let counting : Account = sampled step.place step.stands (came step a) in
-    let over = reads_turn own step.place step.stands (record { account = counting; from = 0 }) number now
+    let over = reads_turn own step.place step.stands (unread counting) number now
     (coming_follows step a happened f) (coming_turns step a happened t) in
     let behind : List Happened = behind_packets (packets_led_to number step) now in
     let after : Account = written step.written step.place step.stands counting in

@@ -2,7 +2,7 @@
 use Rattle.std.proofs.Common.{◌≡◌, ℕ, Bool, true, false, if◌then◌else◌, List, [], ◌∷◌, refl, ap, sym, ◌∙◌, arith}
 use Rattle.run_summary.specs.declared.place.Place.{Place}
 use Rattle.run_summary.specs.declared.place.Stand.{Stand}
-use Rattle.run_summary.specs.Account.{Account, Reading, Step, account_behind, account_with, before_with, came, read, read_all, sampled, written}
+use Rattle.run_summary.specs.Account.{Account, Reading, Step, account_behind, account_with, before_with, came, facing, read, read_all, sampled, unread, written}
 use Rattle.run_summary.specs.Brought.{brings, is_uplink}
 use Rattle.run_summary.specs.Commands.{TellsUplinks, uplink_in, uplinks_from, uplinks_of}
 use Rattle.run_summary.specs.Ends.{Ends, kept}
@@ -24,8 +24,9 @@ reads_follow : (packets : List (List ℕ)) (place : Place) (stands : List Stand)
 reads_follow [] place stands r number happened f = f
 reads_follow (bytes ∷ packets) place stands r number happened f =
     let packet : Packet = record { number = one_more number; place = place; bytes = bytes } in
-    let counted : Reading = record r { account = record r.account { figures = with_packet r.account.figures } } in
-    reads_follow packets place stands (read bytes place stands r) (one_more number) (Sent packet ∷ happened)
+    let now : Reading = facing packets r in
+    let counted : Reading = record now { account = record r.account { figures = with_packet r.account.figures } } in
+    reads_follow packets place stands (read bytes place stands now) (one_more number) (Sent packet ∷ happened)
     (read_follows packet place stands counted happened f)
 
 step_follows : (step : Step) (a : Account) (number : ℕ) (happened : List Happened) → Follows happened a.bands →
@@ -35,7 +36,7 @@ step_follows step a number happened f =
     let counting : Account = sampled step.place step.stands (came step a) in
     let after : Account = written step.written step.place step.stands counting in
     over_follows step.place step.mode (record after { before = before_with step.stands 0 after.before }) (behind_packets (packets_led_to number step) now)
-    (reads_follow (packets_of step.written) step.place step.stands (record { account = counting; from = 0 }) number now (coming_follows step a happened f))
+    (reads_follow (packets_of step.written) step.place step.stands (unread counting) number now (coming_follows step a happened f))
 
 -- ---- a record, and a run
 

@@ -19,8 +19,8 @@ use Rattle.run_summary.specs.declared.place.Stand.{Stand}
 use Rattle.run_summary.specs.declared.seen.Seen.{Seen}
 use Rattle.run_summary.specs.declared.account.Account.{Account as Held}
 use Rattle.run_summary.specs.About.{rule_of}
-use Rattle.run_summary.specs.Asking.{Counted, asking, behind_rule, counted_by, row_asked}
-use Rattle.run_summary.specs.Bands.{InForce, bands_anew, begun, enforced, has_changed, how_left, in_mode}
+use Rattle.run_summary.specs.Asking.{Counted, Hints, asking, counted_by, followed_by, row_asked, with_rule}
+use Rattle.run_summary.specs.Bands.{InForce, bands_anew, begun, enforced, has_changed, how_left, in_mode, is_watching}
 use Rattle.run_summary.specs.Brought.{Brings, Command, File, Telemetry, Tick, brings, is_sample_request}
 use Rattle.run_summary.specs.Fields.{all_seen, forgotten, uncounted}
 use Rattle.run_summary.specs.Figures.{none, one_more, with_event, with_packet, with_record}
@@ -70,9 +70,9 @@ account_of held = record {
 
 -- ---- a record comes
 
--- what it brings is kept
+-- what it brings is kept; the Limit Checker's mode is that after the record before, which no telemetry changes
 abbrev pub brought_by : Brings → Place → Account → Account
-brought_by (Telemetry packet) place a = record a { seen = all_seen packet place a.seen }
+brought_by (Telemetry packet) place a = record a { seen = all_seen packet place (is_watching a.bands.mode) a.seen }
 brought_by Tick place a = a
 brought_by Command place a = a
 brought_by File place a = a
@@ -122,10 +122,21 @@ sampled place stands a = record a { rows = rows_with place stands a.plans a.band
 
 -- ---- what it led to
 
--- the account while the packets of a record are read: the rule of the next request is looked for from this number on
+-- the account while the packets of a record are read, and what tells the rule of a request
 pub record Reading : Type 0 where
   pub account : Account
-  pub from : ℕ
+  pub hints : Hints
+
+abbrev pub reading : Account → (named : Option ℕ) → (given : List ℕ) → Reading
+reading a named given = record { account = a; hints = record { named = named; given = given } }
+
+-- before the first packet
+abbrev pub unread : Account → Reading
+unread a = reading a None []
+
+-- these packets follow the one that is read next
+abbrev pub facing : List (List ℕ) → Reading → Reading
+facing packets r = record r { hints = followed_by packets r.hints }
 
 -- the sequence count of a packet
 abbrev pub count_of : List ℕ → ℕ
@@ -161,12 +172,12 @@ requested_by packet place sequence rule told a = record a {
 abbrev pub asked_by : Option ℕ → List ℕ → Place → ℕ → Reading → Reading
 asked_by rule packet place sequence r = record {
   account = requested_by packet place sequence rule (counted_by (row_asked rule r.account.rows) r.account.bands.text r.account.sending) r.account;
-  from = behind_rule rule r.from;
+  hints = with_rule rule r.hints;
 }
 
 abbrev pub rule_asking : List Stand → ℕ → Reading → Option ℕ
 rule_asking stands sequence r =
-    asking r.account.plans r.account.bands.text r.account.before stands r.account.lanes r.from sequence
+    asking r.account.plans r.account.bands.text r.account.before stands r.account.lanes r.hints sequence
 
 abbrev pub asked : List ℕ → Place → List Stand → ℕ → Reading → Reading
 asked packet place stands sequence r = asked_by (rule_asking stands sequence r) packet place sequence r
@@ -231,11 +242,11 @@ read packet place stands r =
 -- packets, one after the other
 abbrev pub read_all : List (List ℕ) → Place → List Stand → Reading → Reading
 read_all [] place stands r = r
-read_all (packet ∷ packets) place stands r = read_all packets place stands (read packet place stands r)
+read_all (packet ∷ packets) place stands r = read_all packets place stands (read packet place stands (facing packets r))
 
 -- what a record led to
 abbrev pub written : List ℕ → Place → List Stand → Account → Account
-written bytes place stands a = (read_all (packets_of bytes) place stands (record { account = a; from = 0 })).account
+written bytes place stands a = (read_all (packets_of bytes) place stands (unread a)).account
 
 -- ---- how all stands behind it
 

@@ -3,6 +3,7 @@
 use Rattle.std.specs.Prelude.{ℕ, ◌+◌, Bool, true, false, not, ◌||◌, List, [], ◌∷◌, ◌++◌, length, nat_lt, ◌==◌, if◌then◌else◌, Option, Some, None}
 use Rattle.lc_model.specs.declared.mode.LcMode.{LcMode}
 use Rattle.lc_model.specs.Codes.{mode_code}
+use Rattle.lc_model.specs.LimitChecker.Steps.{is_disabled}
 use Rattle.run_summary.specs.declared.bands.How.{How}
 use Rattle.run_summary.specs.declared.bands.How.TheVariants as how
 use Rattle.run_summary.specs.declared.bands.ModeFrom.{ModeFrom}
@@ -73,6 +74,11 @@ enforced place how b = record b {
 abbrev pub mode_number : Option LcMode → ℕ
 mode_number None = 0
 mode_number (Some mode) = mode_code mode
+
+-- whether a Limit Checker with this mode takes the packets that its tables watch: it runs, and isn't disabled
+abbrev pub is_watching : Option LcMode → Bool
+is_watching None = false
+is_watching (Some mode) = not (is_disabled mode)
 
 -- the mode: it is appended at the first record and at each change
 abbrev pub in_mode : Place → Option LcMode → InForce → InForce

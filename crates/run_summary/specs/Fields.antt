@@ -1,10 +1,10 @@
 -- What is known of the fields that rules compare. This project's own; a field's value is the rule language's (lc_model's Field).
-use Rattle.std.specs.Prelude.{◌≡◌, ℕ, ◌<◌, Bool, false, ◌&&◌, List, [], ◌∷◌, length, map, nat_lt, ◌==◌, if◌then◌else◌, Option, Some, None, ℤ, pos, slice_get, ⊤}
+use Rattle.std.specs.Prelude.{◌≡◌, ℕ, ◌<◌, Bool, false, ◌&&◌, List, [], ◌∷◌, map, ◌==◌, if◌then◌else◌, Option, Some, None, is_some, ℤ, pos, slice_get, ⊤}
 use Rattle.std.specs.Ordering.{int_eq}
 use Rattle.lc_model.specs.declared.field.CmpOp.TheVariants.{Equal}
 use Rattle.lc_model.specs.declared.field.Term.{Term}
 use Rattle.lc_model.specs.Field.{value_of}
-use Rattle.lc_model.specs.Packet.{message_id}
+use Rattle.lc_model.specs.Packet.{message_id, stream_fault}
 use Rattle.run_summary.specs.declared.place.Place.{Place}
 use Rattle.run_summary.specs.declared.seen.Met.{Met}
 use Rattle.run_summary.specs.declared.seen.Seen.{Seen}
@@ -20,7 +20,7 @@ term_of field = record { kind = field.kind; mid = field.mid; offset = field.at; 
 abbrev pub value_in : Field → List ℕ → Option ℤ
 value_in field packet = value_of (term_of field) packet
 
--- no packet came
+-- no packet was taken
 abbrev pub nothing : Met
 nothing = record { value = None; place = None }
 
@@ -28,21 +28,26 @@ nothing = record { value = None; place = None }
 abbrev pub met_in : Field → Place → List ℕ → Met
 met_in field place packet = record { value = value_in field packet; place = Some place }
 
--- a packet of the field's message id came in this place
-abbrev pub seen_in : List ℕ → Place → Seen → Seen
-seen_in packet place seen = record seen {
+-- whether the host refuses what a stream brings: it has a packet's fault, or a message id that is the host's to send
+abbrev pub is_refused : List ℕ → Bool
+is_refused packet = is_some (stream_fault packet)
+
+-- a packet of the field's message id came in this place; comparisons meet it if the Limit Checker takes it
+abbrev pub seen_in : List ℕ → Place → (is_taken : Bool) → Seen → Seen
+seen_in packet place is_taken seen = record seen {
   packets = one_more seen.packets;
   last = Some place;
-  met = met_in seen.field place packet;
+  value = value_in seen.field packet;
+  met = if is_taken then met_in seen.field place packet else seen.met;
 }
 
 -- a packet came: it is one of the field's by its message id
-abbrev pub seen_by : List ℕ → Place → Seen → Seen
-seen_by packet place seen = if seen.field.mid == message_id packet then seen_in packet place seen else seen
+abbrev pub seen_by : List ℕ → Place → (is_taken : Bool) → Seen → Seen
+seen_by packet place is_taken seen = if seen.field.mid == message_id packet then seen_in packet place is_taken seen else seen
 
--- .. for all fields; bytes that have no message id are of none
-abbrev pub all_seen : List ℕ → Place → List Seen → List Seen
-all_seen packet place all = if nat_lt (length packet) 2 then all else map (seen_by packet place) all
+-- .. for all fields; what the host refuses is of none
+abbrev pub all_seen : List ℕ → Place → (is_taken : Bool) → List Seen → List Seen
+all_seen packet place is_taken all = if is_refused packet then all else map (seen_by packet place is_taken) all
 
 -- what comparisons meet begins anew
 abbrev pub forgotten : Seen → Seen
@@ -50,11 +55,11 @@ forgotten seen = record seen { met = nothing }
 
 -- its packets are counted anew
 abbrev pub uncounted : Seen → Seen
-uncounted seen = record seen { packets = 0; last = None }
+uncounted seen = record seen { packets = 0; last = None; value = None }
 
 -- nothing came of a field
 abbrev pub unseen : Field → Seen
-unseen field = record { field = field; packets = 0; last = None; met = nothing }
+unseen field = record { field = field; packets = 0; last = None; value = None; met = nothing }
 
 -- what a comparison meets of the field with this number
 abbrev pub met_by : Option Seen → Met
@@ -66,10 +71,10 @@ met_of all number = met_by (slice_get all number)
 
 -- ---- what a record brings of the fields
 
--- the value of the field in the packet that a record of this place brings, where it is one of the field's message id
+-- the value of the field in the packet that a record of this place brings, if the host accepts it and it is one of the field's message id
 abbrev pub brought_of : Field → Place → Brings → Option Met
 brought_of field place (Telemetry packet) =
-    if nat_lt (length packet) 2 then None else if field.mid == message_id packet then Some (met_in field place packet) else None
+    if is_refused packet then None else if field.mid == message_id packet then Some (met_in field place packet) else None
 brought_of field place other = None
 
 -- .. of all of them
@@ -83,18 +88,18 @@ abbrev pub is_at : Place → Option Place → Bool
 is_at place None = false
 is_at place (Some other) = is_place other place
 
--- what comparisons meet, where a packet of this place brought it
+-- the field's value in its last packet, if that is of this place
 abbrev pub come_in : Place → Seen → Option Met
-come_in place seen = if is_at place seen.met.place then Some seen.met else None
+come_in place seen = if is_at place seen.last then Some (record { value = seen.value; place = seen.last }) else None
 
 -- this place is of a record in front of the one with this number
 abbrev pub IsBefore : ℕ → Option Place → Type 0
 IsBefore number None = ⊤
 IsBefore number (Some place) = place.«record» < number
 
--- this is known of these fields in front of the record with this number
+-- these are the fields, and their last packets came before the record with this number
 abbrev pub AreKnown : ℕ → List Field → List Seen → Type 0
 AreKnown number [] [] = ⊤
 AreKnown number [] (seen ∷ all) = ⊥
 AreKnown number (field ∷ fields) [] = ⊥
-AreKnown number (field ∷ fields) (seen ∷ all) = (seen.field ≡ field) × IsBefore number seen.met.place × AreKnown number fields all
+AreKnown number (field ∷ fields) (seen ∷ all) = (seen.field ≡ field) × IsBefore number seen.last × AreKnown number fields all

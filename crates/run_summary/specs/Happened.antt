@@ -13,7 +13,7 @@ use Rattle.run_summary.specs.declared.seen.Met.{Met}
 use Rattle.run_summary.specs.declared.seen.Seen.{Seen}
 use Rattle.run_summary.specs.declared.texts.Field.{Field}
 use Rattle.run_summary.specs.Account.{Step, account_behind, is_asked, started_with_tables}
-use Rattle.run_summary.specs.Bands.{how_over, is_text, text_enforced}
+use Rattle.run_summary.specs.Bands.{how_over, is_text, is_watching, text_enforced}
 use Rattle.run_summary.specs.Brought.{Brings, brings}
 use Rattle.run_summary.specs.Fields.{brought_of, nothing}
 use Rattle.run_summary.specs.Holds.{all_on}
@@ -146,7 +146,7 @@ how_enforced (Over place mode) before = how_over (mode_behind before) mode (how_
 
 -- ---- fields
 
--- the value of the field in what came, if it is a packet of the field's message id
+-- the value of the field in what came, if it is a packet of the field's message id that the host accepts
 abbrev pub value_came : Field → Happened → Option Met
 value_came field (Came place brought) = brought_of field place brought
 value_came field (Shown force types) = None
@@ -157,24 +157,28 @@ value_came field (Over place mode) = None
 abbrev pub values_came : Field → List Happened → List Met
 values_came field happened = filter_map (value_came field) happened
 
--- what happened since tables came into force, or none were any more
-abbrev pub since_enforced : List Happened → List Happened
-since_enforced [] = []
-since_enforced (it ∷ before) = if is_some (how_enforced it before) then [] else it ∷ since_enforced before
+-- what happened while the Limit Checker ran and was not disabled, since tables came into force, or none were any more
+abbrev pub watched : List Happened → List Happened
+watched [] = []
+watched (it ∷ before) =
+    if is_some (how_enforced it before) then []
+    else if is_watching (mode_behind before) then it ∷ watched before
+    else watched before
 
 -- the newest of some values, which is the first, and its place
 abbrev pub newest_met : List Met → Met
 newest_met [] = nothing
 newest_met (met ∷ older) = met
 
--- what is known of a field: the number of packets of its message id, the place of the last one, and what comparisons meet: the value of
--- the last packet since tables came into force
+-- what is known of a field: the number of packets of its message id that the host accepted, the place of the last one and the value in
+-- it, and what comparisons meet: the value in the last packet that the Limit Checker took since tables came into force
 abbrev pub seen_behind : List Happened → Field → Seen
 seen_behind happened field = record {
   field = field;
   packets = stopped (length (values_came field happened));
   last = (newest_met (values_came field happened)).place;
-  met = newest_met (values_came field (since_enforced happened));
+  value = (newest_met (values_came field happened)).value;
+  met = newest_met (values_came field (watched happened));
 }
 
 -- the account of a run knows this of each field

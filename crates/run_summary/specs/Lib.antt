@@ -16,6 +16,7 @@ pub mod Run
 pub mod Samples
 pub mod Sent
 pub mod Standing
+pub mod Taking
 pub mod Texts
 pub mod Turns
 pub mod Uplinks

@@ -9,7 +9,7 @@ use Rattle.run_summary.specs.declared.holds.TypesOn.{TypesOn}
 use Rattle.run_summary.specs.declared.place.Place.{Place}
 use Rattle.run_summary.specs.declared.place.Stand.{Stand}
 use Rattle.run_summary.specs.Account.{Step, account_behind, count_of}
-use Rattle.run_summary.specs.Asking.{asking, behind_rule}
+use Rattle.run_summary.specs.Asking.{Hints, asking, followed_by, no_hints, with_rule}
 use Rattle.run_summary.specs.Happened.{Happened, Sent, behind_coming, behind_record, packets_led_to, seen_behind, text_in_force, types_shown}
 use Rattle.run_summary.specs.Holds.{all_on, hold_of}
 use Rattle.run_summary.specs.Packets.{packets_of}
@@ -43,7 +43,8 @@ failures_behind rule records = (stand_at rule (stands_behind records)).fails
 
 -- ---- samples
 
--- a sample of a rule of the text in force: the record's place, and what the rule's comparisons meet of the packets up to the record
+-- a sample of a rule of the text in force: the record's place, and what the rule's comparisons meet of the packets that the Limit Checker
+-- took up to the record
 abbrev pub sample_of : OfTexts → ℕ → Taken → Sampled
 sample_of read rule taken = record {
   place = taken.place;
@@ -123,25 +124,31 @@ sequence_by (Some (told.Event moment sender id kind text)) = None
 sequence_by (Some (told.Housekeeping mode count rules)) = None
 sequence_by None = None
 
--- The rule that requested it: the first from this number on that became passive by a failure in the newest record and, if the text in
--- force is known, requests this sequence in it.
-abbrev pub rule_by : OfTexts → List Taken → (text : Option ℕ) → (from : ℕ) → Option ℕ → Option ℕ
-rule_by read records text from None = None
-rule_by read records text from (Some sequence) = asking read.plans text (stands_before records) (stands_behind records) read.lanes from sequence
+-- The rule that requested it. Of the rules that became passive by a failure in the newest record and, if the text in force is known,
+-- request this sequence in it, that is the one that the next packet names; if that is no rule's own event, the first that has no earlier
+-- request in the record.
+abbrev pub rule_by : OfTexts → List Taken → (text : Option ℕ) → Hints → Option ℕ → Option ℕ
+rule_by read records text hints None = None
+rule_by read records text hints (Some sequence) = asking read.plans text (stands_before records) (stands_behind records) read.lanes hints sequence
+
+-- these packets follow the request
+abbrev pub before_packets : List Packet → Hints → Hints
+before_packets packets hints = followed_by (map (λ (packet : Packet). packet.bytes) packets) hints
 
 -- the request of a packet, if it is one
 abbrev pub request_if : OfTexts → List Taken → Option ℕ → Packet → (rule text : Option ℕ) → List Packet → List Requested
 request_if read records None packet rule text behind = []
 request_if read records (Some sequence) packet rule text behind = with_its_event (request_by read records packet sequence rule text) behind ∷ []
 
--- The requests among these packets of the newest record. The rule of each is searched from the number after the rule of the request
--- before it. `others` are the packets of later records.
-abbrev pub requests_in : OfTexts → List Taken → (others : List Packet) → (from : ℕ) → List Happened → List Packet → List Requested
-requests_in read records others from happened [] = []
-requests_in read records others from happened (packet ∷ packets) =
+-- The requests among these packets of the newest record, of which earlier ones left these hints. `others` are the packets of later
+-- records.
+abbrev pub requests_in : OfTexts → List Taken → (others : List Packet) → Hints → List Happened → List Packet → List Requested
+requests_in read records others hints happened [] = []
+requests_in read records others hints happened (packet ∷ packets) =
     request_if read records (sequence_by (told_in packet.bytes)) packet
-    (rule_by read records (text_in_force happened) from (sequence_by (told_in packet.bytes))) (text_in_force happened) (packets ++ others)
-    ++ requests_in read records others (behind_rule (rule_by read records (text_in_force happened) from (sequence_by (told_in packet.bytes))) from)
+    (rule_by read records (text_in_force happened) (before_packets packets hints) (sequence_by (told_in packet.bytes))) (text_in_force happened) (packets ++ others)
+    ++ requests_in read records others
+    (with_rule (rule_by read records (text_in_force happened) (before_packets packets hints) (sequence_by (told_in packet.bytes))) (before_packets packets hints))
     (Sent packet ∷ happened) packets
 
 -- the record of a step
@@ -152,7 +159,7 @@ taken_by step happened = record { place = step.place; stands = step.stands; happ
 abbrev pub requests_from : OfTexts → List Taken → List Happened → ℕ → List Step → List Requested
 requests_from read before happened number [] = []
 requests_from read before happened number (step ∷ steps) =
-    requests_in read (taken_by step happened ∷ before) (packets_from (number_behind number (packets_of step.written)) steps) 0
+    requests_in read (taken_by step happened ∷ before) (packets_from (number_behind number (packets_of step.written)) steps) no_hints
     (behind_coming step happened) (packets_led_to number step)
     ++ requests_from read (taken_by step happened ∷ before) (behind_record number step happened) (number_behind number (packets_of step.written)) steps
 

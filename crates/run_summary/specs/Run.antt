@@ -241,8 +241,8 @@ pub record StandAgain : Type 0 where
   pub again : (stands : List Stand) (bytes : List ℕ) (place : Place) (mode : Option LcMode) (a : Account) → StoodLast stands a →
       stood_so place mode stands (written bytes place stands (sampled place stands a)) ≡ stood_again place mode (written bytes place stands a)
 
--- When a record has come, the account knows each field value that it brought. A value with the record's place is one that it brought:
--- all values that were known before have places of earlier records (`AreKnown`), before the first record and after each, and where a part
+-- When a record has come, the account knows each field value that it brought. A last packet with the record's place is one that it
+-- brought: all that were known before are of earlier records (`AreKnown`), before the first record and after each, and where a part
 -- begins.
 pub record FieldsCome : Type 0 where
   pub begin : (texts : OfTexts) → AreKnown 1 texts.fields (nothing_told texts).seen

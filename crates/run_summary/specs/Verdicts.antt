@@ -5,7 +5,7 @@ use Rattle.run_summary.specs.declared.place.Place.{Place}
 use Rattle.run_summary.specs.declared.plans.Part.{Part}
 use Rattle.run_summary.specs.declared.seen.Met.{Met}
 
--- the word for it: no packet came; one that ended before the field did; whether the comparison holds
+-- the word for it: there is no packet; one that ended before the field did; whether the comparison holds
 abbrev pub verdict_by : Part → Option Place → Option ℤ → List ℕ
 verdict_by part None value = codes "stale"
 verdict_by part (Some place) None = codes "error"

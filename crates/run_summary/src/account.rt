@@ -163,13 +163,16 @@ impl<'a> Account<'a> {
         Ok(())
     }
 
-    /// Keeps what a record brings.
+    /// Keeps what a record brings. The mode is that after the record before, since no telemetry changes it.
     fn bring(&mut self, brings: Brought<'_>, place: Place)
         ensures { account_of self.new ≡
             brought_by (brings_of brings.entry) place (account_of self.old) }
     {
         match brings {
-            Brought::Telemetry(packet) => see_all(&mut self.seen, packet, place),
+            Brought::Telemetry(packet) => {
+                let is_taken = self.bands.is_watching();
+                see_all(&mut self.seen, packet, place, is_taken);
+            }
             Brought::Tick => {}
             Brought::Command => {}
             Brought::File => {}

@@ -1,12 +1,18 @@
 //! Finds the rule that made a request, and the samples that counted for it.
 
-ghost use Rattle.std.specs.Prelude.{◌≡◌, IfOk, option_map};
-ghost use Rattle.run_summary.specs.Asking.{asking, behind_rule, counted_by, has_asked, may_ask, row_asked};
+ghost use Rattle.std.specs.Prelude.{◌≡◌, ◌==◌, IfOk, OnOk, Some, option_map};
+ghost use Rattle.std.specs.List.{list_any};
+ghost use Rattle.packet_listing.specs.Told.{told_in, told_of};
+ghost use Rattle.run_summary.specs.Asking.{asking_by, counted_by, first_asking, given_with, has_asked, may_ask, may_still_ask, named_by, own_rule, row_asked, rule_named};
+ghost use Rattle.run_summary.specs.Packets.{packets_of};
 
+use crate::about::rule_of;
 use crate::place::{ACTIVE, FAIL, PASSIVE, Stand, stand_in};
 use crate::plans::{RulePlans, may_request};
 use crate::samples::{FailRun, Sample};
-use crate::sent::Sending;
+use crate::sent::{FIRST_RULE_EVENT, Sending};
+use lc_model::packet::first_packet;
+use packet_listing::{Event, Sent, read_packet};
 use std::alloc::{AllocError, Global};
 
 /// The rules before and after a record, the rules of all texts, and the number of the text in force, if it is known.
@@ -34,27 +40,105 @@ fn may_ask(around: Around<'_>, sequence: u16, rule: usize) -> bool
         && may_request(around.plans, around.text, rule, sequence)
 }
 
-/// The first of `lanes` rules, from number `from` on, that may have made a request for this sequence.
-pub(crate) fn asking(around: Around<'_>, lanes: usize, from: usize, sequence: u16) -> Option<usize>
-    ensures { result ≡ asking around.entry.plans.now around.entry.text
-        around.entry.before.now around.entry.stands.now lanes from sequence }
+/// The rule that an event names, if it is a rule's own.
+fn own_rule(event: Event<'_>) -> Option<usize>
+    ensures { result ≡ own_rule event.entry.sender.now event.entry.id event.entry.text.now }
 {
-    for rule in from..lanes {
-        if may_ask(around, sequence, rule) {
+    if event.id >= FIRST_RULE_EVENT {
+        return rule_of(event.sender, event.id, event.text);
+    }
+    None
+}
+
+/// The rule that the content of a packet names, if it is a rule's own event.
+fn named_by(sent: Sent<'_>) -> Option<usize>
+    ensures { result ≡ named_by (Some (told_of sent.entry)) }
+{
+    match sent {
+        Sent::Request(_) => None,
+        Sent::Event(event) => own_rule(event),
+        Sent::Housekeeping { .. } => None,
+    }
+}
+
+/// The rule that a packet names, if it is a rule's own event.
+fn named_in(packet: &[u8]) -> Option<usize>
+    ensures { result ≡ named_by (told_in packet.now) }
+{
+    match read_packet(packet) {
+        None => None,
+        Some(sent) => named_by(sent),
+    }
+}
+
+/// The rule that the first of these packets names, if that is a rule's own event.
+pub(crate) fn rule_named(packets: &[u8]) -> Option<usize>
+    ensures { result ≡ rule_named (packets_of packets.now) }
+{
+    match first_packet(packets) {
+        None => None,
+        Some((packet, _)) => named_in(packet),
+    }
+}
+
+/// Whether a rule is one of those that have an earlier request in the record.
+fn is_given(given: &[usize], rule: usize) -> bool
+    ensures { result ≡ list_any (◌==◌ rule) given.now }
+{
+    given.iter().any(|other| rule == *other)
+}
+
+/// Whether a rule may have made a request for this sequence, and has no earlier request in the record.
+fn may_still_ask(around: Around<'_>, given: &[usize], sequence: u16, rule: usize) -> bool
+    ensures { result ≡ may_still_ask around.entry.plans.now around.entry.text
+        around.entry.before.now around.entry.stands.now given.now sequence rule }
+{
+    may_ask(around, sequence, rule) && !is_given(given, rule)
+}
+
+/// The first of `lanes` rules that may have made a request for this sequence, and has no earlier request in the record.
+fn first_asking(around: Around<'_>, lanes: usize, given: &[usize], sequence: u16) -> Option<usize>
+    ensures { result ≡ first_asking around.entry.plans.now around.entry.text
+        around.entry.before.now around.entry.stands.now lanes given.now sequence }
+{
+    for rule in 0..lanes {
+        if may_still_ask(around, given, sequence, rule) {
             return Some(rule);
         }
     }
     None
 }
 
-/// The number from which the rule of the next request is searched: the one after this request's rule, if that is known.
-pub(crate) fn behind_rule(rule: Option<usize>, from: usize) -> usize
-    ensures { result ≡ behind_rule rule from }
+/// The rule that made a request for this sequence: the one that the next packet names, if it names one; else the first of `lanes` rules
+/// that may have made it, and has no earlier request in the record.
+pub(crate) fn asking(
+    around: Around<'_>,
+    lanes: usize,
+    named: Option<usize>,
+    given: &[usize],
+    sequence: u16,
+) -> Option<usize>
+    ensures { result ≡ asking_by named around.entry.plans.now around.entry.text
+        around.entry.before.now around.entry.stands.now lanes given.now sequence }
 {
-    match rule {
-        None => from,
-        Some(rule) => rule.saturating_add(1),
+    match named {
+        None => first_asking(around, lanes, given, sequence),
+        Some(rule) => if rule < lanes && may_ask(around, sequence, rule) {
+            Some(rule)
+        } else {
+            None
+        },
     }
+}
+
+/// Adds the rule of a request, if it is known, to those that have one in the record. The only error is a lack of memory.
+pub(crate) fn give(given: &mut Vec<usize>, rule: Option<usize>) -> Result<(), AllocError>
+    ensures { OnOk result (given.new.items ≡ given_with rule given.old.items) }
+{
+    if let Some(rule) = rule {
+        given.push(rule)?;
+    }
+    Ok(())
 }
 
 /// The row of failures of a rule, if there is one.

@@ -1,7 +1,7 @@
 //! The tables in force and the Limit Checker's mode, over the run.
 
 ghost use Rattle.std.specs.Prelude.{◌≡◌, OnOk};
-ghost use Rattle.run_summary.specs.Bands.{bands_anew, begun, enforced, has_changed, how_left, how_unsaid, in_mode, is_none_in_force, is_text, mode_number, mode_told, nothing_in_force, text_enforced, told_again, told_more};
+ghost use Rattle.run_summary.specs.Bands.{bands_anew, begun, enforced, has_changed, how_left, how_unsaid, in_mode, is_none_in_force, is_text, is_watching, mode_number, mode_told, nothing_in_force, text_enforced, told_again, told_more};
 
 use crate::place::Place;
 use lc_model::LcMode;
@@ -171,6 +171,18 @@ impl Bands {
         ensures { result ≡ self.now.text }
     {
         self.text
+    }
+
+    /// Whether the Limit Checker takes the packets that its tables watch: after the last record it runs and isn't disabled.
+    pub(crate) fn is_watching(&self) -> bool
+        ensures { result ≡ is_watching self.now.mode }
+    {
+        match self.mode {
+            None => false,
+            Some(LcMode::Active) => true,
+            Some(LcMode::Passive) => true,
+            Some(LcMode::Disabled) => false,
+        }
     }
 
     /// Takes the text in force that the host shows.

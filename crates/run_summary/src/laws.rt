@@ -1,9 +1,13 @@
 //! The laws of accounts, each stated by a function with an empty body.
 
+ghost use Rattle.std.specs.Prelude.{List};
+ghost use Rattle.lc_model.specs.Tables.HalvesAndBytes.{as_bytes};
+ghost use Rattle.lc_model.specs.Tables.Image.{Layout};
 ghost use Rattle.run_summary.specs.Commands.{TellsUplinks};
 ghost use Rattle.run_summary.specs.Happened.{TellsFields};
 ghost use Rattle.run_summary.specs.Requests.{TellsRequests};
 ghost use Rattle.run_summary.specs.Run.{FieldsCome, StandAgain, TellsEvents, TellsFigures};
+ghost use Rattle.run_summary.specs.Taking.{TakesTelemetry};
 ghost use Rattle.run_summary.specs.Turns.{TellsTurns};
 
 /// States that an account has the first 500 and the last 500 events of a run, each with the number of its packet, and the number and
@@ -39,8 +43,15 @@ pub fn the_ends_of_all_uplinks()
     ensures { TellsUplinks }
 {}
 
-/// States what an account knows of a field: the number of packets of its message id, the place of the last one, and what comparisons
-/// meet. That is what the last packet brought, if it came since tables came into force.
+/// States which telemetry the Limit Checker of the definitions sees, whatever the bytes of its tables mean: that which the host accepts, while
+/// it runs and is not disabled. That is what comparisons meet in an account.
+pub fn telemetry_that_is_taken()
+    ensures { (layouts : List Layout) → TakesTelemetry (as_bytes layouts) }
+{}
+
+/// States what an account knows of a field: the number of packets of its message id that the host accepted, the place of the last one and
+/// the value in it, and what comparisons meet. That is the value in the last packet since tables came into force that came while the Limit
+/// Checker ran and was not disabled.
 pub fn the_fields_of_a_run()
     ensures { TellsFields }
 {}

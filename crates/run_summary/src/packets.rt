@@ -2,11 +2,13 @@
 
 ghost use Rattle.std.specs.Prelude.{◌≡◌, IfOk, OnOk, Some};
 ghost use Rattle.packet_listing.specs.Told.{told_of};
-ghost use Rattle.run_summary.specs.Account.{account_of, adopted_if, asked, count_of, hold_by, housekept, in_force_by, read, read_by, rule_asking, said, told_by, written};
+ghost use Rattle.run_summary.specs.Account.{account_of, adopted_if, asked, count_of, hold_by, housekept, in_force_by, read, read_by, reading, rule_asking, said, told_by, written};
+ghost use Rattle.run_summary.specs.Asking.{rule_named};
+ghost use Rattle.run_summary.specs.Packets.{packets_of};
 
 use crate::about::{is, rule_of};
 use crate::account::Account;
-use crate::asking::{Around, asking, behind_rule, count_samples, row_asked};
+use crate::asking::{Around, asking, count_samples, give, row_asked, rule_named};
 use crate::bands::How;
 use crate::figures::count;
 use crate::holds::{Hold, hold_of};
@@ -29,11 +31,18 @@ fn count_of(packet: &[u8]) -> u16
 }
 
 impl<'a> Account<'a> {
-    /// The rule that requests this sequence: the first from number `from` on that became passive by a failure in this record and, if the
-    /// text in force is known, requests this sequence in it.
-    fn rule_asking(&self, from: usize, sequence: u16, stands: &[Stand]) -> Option<usize>
+    /// The rule that requests this sequence. Of the rules that became passive by a failure in this record and, if the text in force is
+    /// known, request this sequence in it, that is the one that the next packet names (`named`); if it names none, the first that has no
+    /// earlier request in the record (`given`).
+    fn rule_asking(
+        &self,
+        named: Option<usize>,
+        given: &[usize],
+        sequence: u16,
+        stands: &[Stand],
+    ) -> Option<usize>
         ensures { result ≡ rule_asking stands.now sequence
-            (record { account = account_of self.now; from = from }) }
+            (reading (account_of self.now) named given.now) }
     {
         let around = Around {
             plans: self.plans.as_slice(),
@@ -41,7 +50,7 @@ impl<'a> Account<'a> {
             before: self.before.as_slice(),
             stands,
         };
-        asking(around, self.lanes, from, sequence)
+        asking(around, self.lanes, named, given, sequence)
     }
 
     /// What holds back the event of a rule if it doesn't come, if the rule is known.
@@ -57,20 +66,21 @@ impl<'a> Account<'a> {
         }
     }
 
-    /// Takes a request. Returns the number from which the rule of the next request is searched. The only error is a lack of memory.
+    /// Takes a request; the next packet names this rule, if it names one. The only error is a lack of memory.
     fn request(
         &mut self,
         packet: &[u8],
         place: Place,
-        from: usize,
+        named: Option<usize>,
+        given: &mut Vec<usize>,
         sequence: u16,
         stands: &[Stand],
-    ) -> Result<usize, AllocError>
-        ensures { IfOk result (λ next. record { account = account_of self.new; from = next } ≡
+    ) -> Result<(), AllocError>
+        ensures { OnOk result (reading (account_of self.new) named given.new.items ≡
             asked packet.now place stands.now sequence
-            (record { account = account_of self.old; from = from })) }
+            (reading (account_of self.old) named given.old.items)) }
     {
-        let rule = self.rule_asking(from, sequence, stands);
+        let rule = self.rule_asking(named, given.as_slice(), sequence, stands);
         let text = self.bands.text();
         let hold = self.hold_by(rule);
         let row = row_asked(self.rows.as_slice(), rule);
@@ -88,7 +98,7 @@ impl<'a> Account<'a> {
             counted,
             samples,
         })?;
-        Ok(behind_rule(rule, from))
+        give(given, rule)
     }
 
     /// Takes the tables in force from an event with this sender, id and text, if it reports any.
@@ -166,50 +176,51 @@ impl<'a> Account<'a> {
         self.adopt_if(place, has_changed)
     }
 
-    /// Takes the content of a packet.
+    /// Takes the content of a packet, which these packets of the record follow.
     fn add_sent(
         &mut self,
         sent: Sent<'_>,
         packet: &[u8],
+        behind: &[u8],
         place: Place,
-        from: usize,
+        given: &mut Vec<usize>,
         stands: &[Stand],
-    ) -> Result<usize, AllocError>
-        ensures { IfOk result (λ next. record { account = account_of self.new; from = next } ≡
+    ) -> Result<(), AllocError>
+        ensures { let named = rule_named (packets_of behind.now) in
+            OnOk result (reading (account_of self.new) named given.new.items ≡
             read_by (Some (told_of sent.entry)) packet.now place stands.now
-            (record { account = account_of self.old; from = from })) }
+            (reading (account_of self.old) named given.old.items)) }
     {
         match sent {
-            Sent::Request(sequence) => self.request(packet, place, from, sequence, stands),
-            Sent::Event(event) => {
-                self.event(place, event)?;
-                Ok(from)
+            Sent::Request(sequence) => {
+                self.request(packet, place, rule_named(behind), given, sequence, stands)
             }
-            Sent::Housekeeping { .. } => {
-                self.housekeep(place)?;
-                Ok(from)
-            }
+            Sent::Event(event) => self.event(place, event),
+            Sent::Housekeeping { .. } => self.housekeep(place),
         }
     }
 
-    /// Takes a packet. Returns the number from which the rule of the next request is searched. The only error is a lack of memory.
+    /// Takes a packet, which these packets of the record follow. `given` are the rules of the record's requests so far. The only error is a
+    /// lack of memory.
     fn read(
         &mut self,
         packet: &[u8],
+        behind: &[u8],
         place: Place,
-        from: usize,
+        given: &mut Vec<usize>,
         stands: &[Stand],
-    ) -> Result<usize, AllocError>
-        ensures { IfOk result (λ next. record { account = account_of self.new; from = next } ≡
+    ) -> Result<(), AllocError>
+        ensures { let named = rule_named (packets_of behind.now) in
+            OnOk result (reading (account_of self.new) named given.new.items ≡
             read packet.now place stands.now
-            (record { account = account_of self.old; from = from })) }
+            (reading (account_of self.old) named given.old.items)) }
     {
         count(&mut self.figures.packets);
         match read_packet(packet) {
-            Some(sent) => self.add_sent(sent, packet, place, from, stands),
+            Some(sent) => self.add_sent(sent, packet, behind, place, given, stands),
             None => {
                 count(&mut self.figures.other);
-                Ok(from)
+                Ok(())
             }
         }
     }
@@ -225,9 +236,9 @@ impl<'a> Account<'a> {
             written packets.now place stands.now (account_of self.old)) }
     {
         let mut rest = packets;
-        let mut from = 0usize;
+        let mut given = Vec::new(self.alloc);
         while let Some((packet, behind)) = first_packet(rest) {
-            from = self.read(packet, place, from, stands)?;
+            self.read(packet, behind, place, &mut given, stands)?;
             rest = behind;
         }
         Ok(())

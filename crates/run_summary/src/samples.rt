@@ -180,7 +180,7 @@ impl FailRun {
     }
 }
 
-/// The word for the result of a comparison: `stale` if no packet came, `error` if the packet ended before the field, else `true` or
+/// The word for the result of a comparison: `stale` if there is no packet, `error` if the packet ended before the field, else `true` or
 /// `false`.
 pub fn verdict(part: Part, met: Met) -> &'static str
     ensures { result.now ≡ verdict_of part met }

@@ -7,19 +7,19 @@ use crate::figures::count;
 use crate::place::{Place, is_place};
 use crate::texts::Field;
 use crate::values::value_in;
-use lc_model::packet::message_id;
+use lc_model::packet::{message_id, stream_fault};
 use std::alloc::{AllocError, Global};
 
 /// What a comparison meets of a field.
 #[derive(Clone, Copy)]
 pub struct Met {
-    /// The field's value; `None` if no packet came or the packet ended before the field.
+    /// The field's value; `None` if there is no packet or the packet ended before the field.
     pub value: Option<i64>,
-    /// The place of the packet; `None` if none came since tables came into force.
+    /// The place of the packet; `None` if the Limit Checker took none since tables came into force.
     pub place: Option<Place>,
 }
 
-/// What a comparison meets before a packet comes.
+/// What a comparison meets before the Limit Checker takes a packet.
 pub(crate) const NOTHING: Met = Met {
     value: None,
     place: None,
@@ -30,11 +30,13 @@ pub(crate) const NOTHING: Met = Met {
 pub struct Seen<'a> {
     /// The field.
     pub field: Field<'a>,
-    /// The number of packets of its message id, up to 2^64 - 1.
+    /// The number of packets of its message id that the host accepted, up to 2^64 - 1.
     pub packets: u64,
     /// The place of the last of them.
     pub last: Option<Place>,
-    /// What comparisons meet of it.
+    /// The field's value in the last of them; `None` if none came or it ended before the field.
+    pub value: Option<i64>,
+    /// What comparisons meet of it: the last of them that the Limit Checker took, too.
     pub met: Met,
 }
 
@@ -47,38 +49,45 @@ impl<'a> Seen<'a> {
             field,
             packets: 0,
             last: None,
+            value: None,
             met: NOTHING,
         }
     }
 
-    /// Takes a packet of the field's message id.
-    fn take(&mut self, packet: &[u8], place: Place)
-        ensures { self.new ≡ seen_in packet.now place self.old }
+    /// Takes a packet of the field's message id. Comparisons meet it if the Limit Checker takes it, too.
+    fn take(&mut self, packet: &[u8], place: Place, is_taken: bool)
+        ensures { self.new ≡ seen_in packet.now place is_taken self.old }
     {
         count(&mut self.packets);
         self.last = Some(place);
-        self.met = Met {
-            value: value_in(&self.field, packet),
-            place: Some(place),
-        };
-    }
-
-    /// Takes a packet if it has the field's message id.
-    fn see(&mut self, packet: &[u8], place: Place)
-        requires { 2 ≤ length packet.now }
-        ensures { self.new ≡ seen_by packet.now place self.old }
-    {
-        if self.field.mid == u32::from(message_id(packet)) {
-            self.take(packet, place);
+        self.value = value_in(&self.field, packet);
+        if is_taken {
+            self.met = Met {
+                value: self.value,
+                place: self.last,
+            };
         }
     }
 
-    /// What comparisons meet of the field, if a packet at this place brought it; else `None`.
+    /// Takes a packet if it has the field's message id.
+    fn see(&mut self, packet: &[u8], place: Place, is_taken: bool)
+        requires { 2 ≤ length packet.now }
+        ensures { self.new ≡ seen_by packet.now place is_taken self.old }
+    {
+        if self.field.mid == u32::from(message_id(packet)) {
+            self.take(packet, place, is_taken);
+        }
+    }
+
+    /// The field's value in its last packet, if that is of this place; else `None`.
     pub fn come_in(&self, place: Place) -> Option<Met>
         ensures { result ≡ come_in place self.now }
     {
-        match self.met.place {
-            Some(other) if is_place(other, place) => Some(self.met),
+        match self.last {
+            Some(last) if is_place(last, place) => Some(Met {
+                value: self.value,
+                place: self.last,
+            }),
             _ => None,
         }
     }
@@ -89,6 +98,7 @@ impl<'a> Seen<'a> {
     {
         self.packets = 0;
         self.last = None;
+        self.value = None;
     }
 
     /// Clears what comparisons meet.
@@ -113,15 +123,16 @@ pub(crate) fn all_unseen<'a>(
     Ok(all)
 }
 
-/// Takes a telemetry packet: the fields of its message id get new values.
-pub(crate) fn see_all(all: &mut [Seen<'_>], packet: &[u8], place: Place)
-    ensures { all.new ≡ all_seen packet.now place all.old }
+/// Takes a telemetry packet, unless the host refuses it: the fields of its message id get new values. `is_taken` says whether the Limit
+/// Checker takes the packets that it watches.
+pub(crate) fn see_all(all: &mut [Seen<'_>], packet: &[u8], place: Place, is_taken: bool)
+    ensures { all.new ≡ all_seen packet.now place is_taken all.old }
 {
-    if packet.len() < 2 {
+    if stream_fault(packet).is_some() {
         return;
     }
     for seen in all.iter_mut() {
-        seen.see(packet, place);
+        seen.see(packet, place, is_taken);
     }
 }
 

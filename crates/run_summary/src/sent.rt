@@ -22,7 +22,7 @@ const EVENTS: usize = 500;
 const PARTS: usize = 3_072;
 
 /// The least number of a rule's own event.
-const FIRST_RULE_EVENT: u16 = 1_000;
+pub(crate) const FIRST_RULE_EVENT: u16 = 1_000;
 
 /// A request for a command sequence. Contracts see all (`Requested`).
 #[derive(Drop)]

@@ -39,7 +39,7 @@ class Course:
         self.time = self.first = round(start * TICK)
         self.used = list(dict.fromkeys(field for rules in texts for rule in rules for field, _, _ in rule.condition.comparisons))
         self.rules = max((len(rules) for rules in texts), default=0)
-        self.met = {}  # field: record, time, value, agings, since the tables are in force
+        self.met = {}  # field: record, time, value, agings, of the last packet that LC took since the tables are in force
         self.text, self.standings, self.mode = None, [], "absent"
         self.count, self.written_packets = 0, 0  # of the whole run
         self.counts, self.ordered = 0, True
@@ -54,7 +54,7 @@ class Course:
         self.lanes = [Changes(pool, joined_bits) for _ in range(self.rules)]
         self.values = {name: Changes(pool, joined_values) for name in self.used}
         self.seen = dict.fromkeys(self.used, 0)
-        self.came = {}  # field: record, time, of its last packet on the page
+        self.came = {}  # field: record, time, of its last packet on the page that the host accepted
         self.tables, self.modes = [], []
         self.requests, self.events, self.commands = Ends(MOST["requests"]), Ends(MOST["events"]), Ends(MOST["commands"])
         self.parts, self.full = 0, False
@@ -105,6 +105,11 @@ class Course:
     def here(self):
         return self.count, self.time - self.first
 
+    @property
+    def is_watching(self):
+        """Whether LC takes packets, samples and ages."""
+        return self.mode in ["active", "passive"]
+
     def telemetry(self, packet, **values):
         """A packet with these fields; None stands for one that it doesn't reach."""
         self.record("telemetry")
@@ -113,15 +118,22 @@ class Course:
                 value = values.get(name)
                 self.seen[name] += 1
                 self.came[name] = self.here
-                self.met[name] = [*self.here, value, 0]
                 self.values[name].add(*self.here, (value,))
+                if self.is_watching:
+                    self.met[name] = [*self.here, value, 0]
+
+    def faulty(self, reason):
+        """A packet that the host refuses for this reason, whatever its fields are."""
+        self.record("telemetry")
+        self.event("HOST", 1, "error", f"bad packet {reason}")
 
     def tick(self, housekeeping=False):
         self.record("ticks")
-        for number, standing in enumerate(self.standings):
-            self.sample(number, standing)
-        for met in self.met.values():
-            met[3] += 1
+        if self.is_watching:
+            for number, standing in enumerate(self.standings):
+                self.sample(number, standing)
+            for met in self.met.values():
+                met[3] += 1
         if housekeeping:
             self.packet("housekeeping")
         self.keep()
@@ -181,7 +193,7 @@ class Course:
                 lane.add(*self.here, (RESULT["absent"], 0))
 
     def sample(self, number, standing):
-        if standing.state in ["disabled", "off"] or self.mode == "disabled":
+        if standing.state in ["disabled", "off"]:
             return
         rule = self.texts[self.text][number]
         met = [self.part(*comparison) for comparison in rule.condition.comparisons]
@@ -231,7 +243,7 @@ class Course:
         self.event("LC", rule.event, rule.level, f"{rule.says}: AP = {number}, FailCount = {standing.row}, RTS = {rule.sequence}", number)
 
     def event(self, sender, number, level, text, rule=None):
-        if level in self.off or number in self.filtered:
+        if sender == "LC" and (level in self.off or number in self.filtered):
             return
         self.events.add([self.packet(level), *self.here, rule, sender, number, level, text], self.here[0])
 

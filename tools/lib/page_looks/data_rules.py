@@ -126,6 +126,11 @@ class Data:
             self.expect(all(entry[-1] in words.split() for entry in band), f"{name} has another word")
             self.expect(all(entry[-1] != "untold" for entry in band[:-1]), f"{name}: untold isn't the last")
 
+    def is_watching(self, record):
+        """Whether LC took packets and samples at a record, as far as the page says its mode there."""
+        modes = [mode for since, _, mode in self.run["mode"] if since <= record]
+        return not modes or modes[-1] in ["active", "passive", "untold"]
+
     def sent(self):
         run = self.run
         parts = 0
@@ -138,6 +143,8 @@ class Data:
             for record, _, met in request["samples"]:
                 parts += len(met)
                 self.expect(record <= request["record"] and len(met) == len(rule["comparisons"]), f"samples of packet {request['packet']}")
+                taken = [record, *(came for _, came, _, _ in met if came is not None)]
+                self.expect(all(map(self.is_watching, taken)), f"a sample of packet {request['packet']} while LC took nothing")
             self.expect(len(request["samples"]) <= min(6, request["counted"]), f"packet {request['packet']} has {len(request['samples'])} samples")
         self.expect(parts <= MOST["parts"], f"{parts} parts")
         self.places([[each["record"], each["time"]] for each in run["requests"]], "requests")

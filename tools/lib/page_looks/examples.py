@@ -164,7 +164,8 @@ def back_in_time():
 
 
 def foreign():
-    """Tables that are of none of the texts, texts with markup in their names, and a checker that isn't there at first."""
+    """Tables that are of none of the texts, texts with markup in their names, a checker that isn't there at first, and a packet that the host
+    refuses."""
     fields = {"VOLTS": field("BUS", 0x883, "u16be", 12)}
     rules = [Rule("LOW", "VOLTS < 2400", 2, 7, 1001, says="low </script><b>volts"), Rule("NEVER", "VOLTS == 65535", says="never")]
     run = Course(fields, [rules], 3)
@@ -175,6 +176,8 @@ def foreign():
         if second == 25:
             run.adopted(None)
         run.telemetry("BUS", VOLTS=2300 + 10 * second)
+        if second == 12:
+            run.faulty(4)
         run.tick()
     return run.data()
 

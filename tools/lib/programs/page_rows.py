@@ -169,6 +169,20 @@ TRIALS = [
             ["--from", "101", "--until", "103"],
         ),
     ),
+    Trial(
+        "no comparison meets a value that comes while LC is disabled",
+        shown(
+            START + FAILURE + "mode disabled\nfields 0883 0 16 u16be 12 2500\nmode active\nsample 65535 65535 keep\n",
+            ["rules"],
+            {
+                "fields": (
+                    lambda fields: [[field["packets"], field["last"], field["values"]] for field in fields],
+                    [[2, [7, 65536], [[4, 0, 1999], [7, 65536, 2500]]]],
+                ),
+                "requests": those("record counted samples", [[9, 2, [[5, 0, [[1999, 4, 0, "true"]]], [9, 65536, [[1999, 4, 0, "true"]]]]]]),
+            },
+        ),
+    ),
     Trial("parts of a run add up to it", parts_add_up(MANY_TURNS, ["rules", "other"], ["101", "103", "104.5", "106"])),
     Trial("the longest page", longest_page.longest_page),
     *(

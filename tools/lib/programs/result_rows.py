@@ -20,9 +20,9 @@ LOWER = FIELD + b'rule LOWER active fails 2 sequence 8 event error 1001 "low vol
 MARKUP = FIELD + b'rule LOW active fails 1 sequence 7 event error 1001 "<b>a & b</b>" when not (V >= # <i>\n 2400);'
 
 
-def shown(title, script, texts, once, none_of=()):
+def shown(title, script, texts, once, none_of=(), plan=b"slots 1\n"):
     """The page of a script's stream with these texts, by their names."""
-    files = {"plan": b"slots 1\n", "script": script, **texts}
+    files = {"plan": plan, "script": script, **texts}
     first = [["flight_tools", "scenario", "script", "stream"]]
     words = ["flight_tools", "report", "plan", "stream", "page", *texts]
     return Row(title, words, files, first=first, after={"page": Once(once, list(none_of))})
@@ -66,11 +66,33 @@ RESULTS = [
             b',[4,196608,"state LOW disabled"],[5,262144,"state LOW off"],[6,327680,"mode passive"],[7,393216,"stop LC"]]',
         ],
     ),
+    # The second packet has the sequence flags of a part of a packet: the host refuses it.
+    shown(
+        "no comparison meets a packet that the host refuses",
+        BEGIN + FAIL + b"after 1\npacket 08830000000900000000000009600000\nafter 1\nsample 65535 65535 keep\n",
+        {"low.rules": LOW_VOLTS},
+        [
+            b'"figures":{"records":7,"telemetry":2,',
+            b'"packets":1,"last":[4,196608],"values":[[4,196608,2399]]',
+            b'"counted":2,"samples":[[5,262144,[[2399,4,196608,"true"]]],[7,393216,[[2399,4,196608,"true"]]]]}',
+            b',6,327680,null,"HOST",1,"error","bad packet 4"]',
+        ],
+    ),
     shown("two rules that request at once", BEGIN + 2 * FAIL + PASS + ASK, {"both.rules": BOTH}, [
         b'"record":7,"time":393216,"rule":0,"text":0,"sequence":7,"count":0,"event":6,"held":null,"counted":2,',
         b'"record":7,"time":393216,"rule":1,"text":0,"sequence":8,"count":1,"event":8,"held":null,"counted":2,',
         rb'[[0,"\u003c","0x960"]]',
     ]),
+    shown(
+        "requests of two samples in one record, the second rule's first",
+        BEGIN + b"after 1\nstart SCH\nafter 1\ntelemetry 0883 0 095F0000\n" + 2 * TICK,
+        {"same.rules": BOTH.replace(b"sequence 8", b"sequence 7")},
+        [
+            b'{"packet":6,"record":7,"time":393216,"rule":1,"text":0,"sequence":7,"count":0,"event":7,"held":null,"counted":2,',
+            b'{"packet":8,"record":7,"time":393216,"rule":0,"text":0,"sequence":7,"count":1,"event":9,"held":null,"counted":2,',
+        ],
+        plan=b"slots 1\n0 sample 1 1 keep\n0 sample 0 0 keep\n",
+    ),
     shown("a page of an empty stream", b"", {"low.rules": LOW_VOLTS}, [
         b'"figures":{"records":0,',
         b'"lanes":[[]],"tables":[],"mode":[],"requests":[]',
