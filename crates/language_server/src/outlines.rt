@@ -141,9 +141,9 @@ fn write_folds(json: &mut JsonText, text: &[u8], folds: &[Fold]) {
     json.end_array();
 }
 
-/// Whether a byte can be one of a word that is being written.
+/// Whether a byte can be one of a word that is being written. A table's name has a point.
 fn is_of_word(byte: u8) -> bool {
-    byte.is_ascii_alphanumeric() || byte == b'_'
+    byte.is_ascii_alphanumeric() || byte == b'_' || byte == b'.'
 }
 
 /// Where the word that ends at a place begins.

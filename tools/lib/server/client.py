@@ -44,6 +44,8 @@ class Client:
         self.unsent, self.unread = bytearray(), bytearray()
         self.answers, self.published, self.others = {}, defaultdict(list), []
         self.count = self.versions = 0
+        # The language and the version of each open document, and how many times each should have been published.
+        self.opened, self.wanted = {}, defaultdict(int)
         self.is_over = self.is_shut = False
 
     def __enter__(self):
@@ -154,36 +156,50 @@ class Client:
 
     # Documents.
 
-    def diagnostics(self, uri, count, version=None):
-        """What is published of a document after `count` earlier times."""
+    def expect(self, uri, language, is_judged):
+        """Notes that a document is published now, and after a rule text that is opened, saved or closed each open scenario."""
+        others = [it for it, (other, _) in self.opened.items() if other == "lcscenario" and language == "lcrules" and is_judged]
+        for it in [uri, *others]:
+            self.wanted[it] += 1
+
+    def diagnostics(self, uri, count):
+        """What is published of a document after `count` earlier times, with the version of the text that it has now."""
         self.wait(lambda: len(self.published[uri]) > count, f"diagnostics of {uri}")
         found = self.published[uri][-1]
-        if version is not None and found.get("version") != version:
-            raise Silence(f"diagnostics of {uri} are of version {found.get('version')}, not {version}")
+        version = self.opened[uri][1] if uri in self.opened else None
+        if found.get("version") != version or set(found) - {"version"} != {"uri", "diagnostics"}:
+            raise Silence(f"diagnostics of {uri} of another form, or not of version {version}: {found}")
         return found["diagnostics"]
 
     def open(self, uri, language, text):
         self.versions += 1
-        count, version = len(self.published[uri]), self.versions
-        self.notify("textDocument/didOpen", {"textDocument": {"uri": uri, "languageId": language, "version": version, "text": text}})
-        return self.diagnostics(uri, count, version)
+        count, self.opened[uri] = len(self.published[uri]), (language, self.versions)
+        self.expect(uri, language, True)
+        document = {"uri": uri, "languageId": language, "version": self.versions, "text": text}
+        self.notify("textDocument/didOpen", {"textDocument": document})
+        return self.diagnostics(uri, count)
 
     def change(self, uri, changes):
         self.versions += 1
-        count, version = len(self.published[uri]), self.versions
-        self.notify("textDocument/didChange", {"textDocument": {"uri": uri, "version": version}, "contentChanges": changes})
-        return self.diagnostics(uri, count, version)
+        language, count = self.opened[uri][0], len(self.published[uri])
+        self.opened[uri] = (language, self.versions)
+        self.expect(uri, language, False)
+        self.notify("textDocument/didChange", {"textDocument": {"uri": uri, "version": self.versions}, "contentChanges": changes})
+        return self.diagnostics(uri, count)
 
     def save(self, uri):
         count = len(self.published[uri])
+        self.expect(uri, self.opened[uri][0], True)
         self.notify("textDocument/didSave", {"textDocument": {"uri": uri}})
         return self.diagnostics(uri, count)
 
     def close(self, uri):
         """Closes a document; its diagnostics are gone then."""
-        count = len(self.published[uri])
+        count, (language, _) = len(self.published[uri]), self.opened.pop(uri)
+        self.expect(uri, language, True)
         self.notify("textDocument/didClose", {"textDocument": {"uri": uri}})
-        return self.diagnostics(uri, count)
+        if found := self.diagnostics(uri, count):
+            raise Silence(f"diagnostics of {uri}, which is closed: {found}")
 
     # The process.
 
@@ -213,8 +229,11 @@ class Client:
         return self.process.wait(self.seconds)
 
     def finish(self):
-        """Ends the server as an editor does, and returns its status."""
+        """Ends the server as an editor does, and returns its status. It has published what it should, and sent nothing else."""
         self.request("shutdown")
+        counts = {uri: len(it) for uri, it in self.published.items()}
+        if counts != self.wanted or self.others:
+            raise Silence(f"published so many times: {counts}, not {dict(self.wanted)}; and {self.others[:3]}")
         self.notify("exit")
         return self.end_input()
 

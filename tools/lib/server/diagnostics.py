@@ -5,8 +5,9 @@ import subprocess
 
 from places import place_of
 
-ERROR, WARNING = 1, 2
-LEVELS = {"error": ERROR, "warning": WARNING}
+ERROR, WARNING, INFORMATION = 1, 2, 3
+LEVELS = {"error": ERROR, "warning": WARNING, "note": INFORMATION}
+SOURCE = "flight_tools"
 
 
 def index_of_column(text, line, column):
@@ -48,18 +49,21 @@ def flat(where):
     return tuple(where[side][name] for side in ("start", "end") for name in ("line", "character"))
 
 
-def of_server(diagnostics):
-    """What was published, in the same form."""
-    for it in diagnostics:
-        if it["source"] != "flight_tools":
-            raise ValueError(f"a diagnostic of {it['source']}")
+def of_mark(mark, uri):
+    """The label and range of another mark, which stands in the document that it is about."""
+    where = mark["location"]
+    return (mark["message"] if where["uri"] == uri else f"{mark['message']} in {where['uri']}", flat(where["range"]))
+
+
+def of_server(diagnostics, uri):
+    """What was published of a document, in the same form."""
     return [
         (
             it["severity"],
-            it["code"],
-            it["message"],
+            it.get("code"),
+            it["message"] if it["source"] == SOURCE else f"{it['message']} by {it['source']}",
             flat(it["range"]),
-            tuple((mark["message"], flat(mark["location"]["range"])) for mark in it.get("relatedInformation", [])),
+            tuple(of_mark(mark, uri) for mark in it.get("relatedInformation", [])),
         )
         for it in diagnostics
     ]
@@ -69,14 +73,14 @@ def errors_of(found):
     return [it for it in found if it[0] == ERROR]
 
 
-def check(program, folder, texts):
+def check(program, folder, texts, options=()):
     """What `check --json` says of each of these texts, by their names, in one call."""
     for name, text in texts.items():
         with open(f"{folder}/{name}", "w", encoding="utf-8", newline="") as file:
             file.write(text)
     if not texts:
         return {}
-    ran = subprocess.run([program, "check", "--json", *texts], cwd=folder, stdout=subprocess.PIPE, timeout=100)
+    ran = subprocess.run([program, "check", "--json", *options, *texts], cwd=folder, stdout=subprocess.PIPE, timeout=100)
     found = {name: [] for name in texts}
     for line in ran.stdout.splitlines():
         message = json.loads(line)

@@ -1,10 +1,16 @@
 """Asks a server the rows of language_rows.py, with line feeds, both signs or carriage returns alone at the ends of lines."""
 
 import subprocess
+from dataclasses import replace
 
 import language_rows as rows
+from choices import choices_in_order, faults_of_choices
 from client import Refusal
-from places import edited, is_inside, place_of, range_of, word_of
+from mistakes import TYPES, WORDS
+from places import edited, index_of, is_inside, lines_of, place_of, range_of, word_of
+from rule_reading import KINDS, NAMES, SIGNS, RuleReading, choice, class_of, explanation_of
+from script_reading import ScriptReading
+from tokens import decoded, spelled, tokens_in
 from version import version
 
 REFUSED = -32_803
@@ -32,7 +38,7 @@ def variants(ask):
     if "\n" in ask.text and "\r" not in ask.text:
         ends = ["\r\n", "\r"] if ask.kind == "rules" and "#" not in ask.text else ["\r\n"]
         for end in ends:
-            yield rows.Ask(f"{ask.title} ({end!r})", ask.text.replace("\n", end), ask.want, ask.kind, ask.rules)
+            yield replace(ask, title=f"{ask.title} ({end!r})", text=ask.text.replace("\n", end))
 
 
 class Desk:
@@ -59,9 +65,17 @@ class Desk:
             if self.rules:
                 self.client.close(self.rules_uri)
 
-    def request(self, method, **more):
+    def ask_for(self, method, **more):
+        """The whole answer to a request about the text, or its place."""
         place = {} if self.place is None else {"position": self.place}
-        return self.client.request(f"textDocument/{method}", {"textDocument": {"uri": self.uri}, **place, **more})
+        return self.client.ask(f"textDocument/{method}", {"textDocument": {"uri": self.uri}, **place, **more})
+
+    def request(self, method, **more):
+        """The result of such a request."""
+        answer = self.ask_for(method, **more)
+        if "error" in answer:
+            raise Refusal(answer["error"])
+        return answer["result"]
 
 
 def locations(result):
@@ -86,43 +100,49 @@ def said_of_prepare(desk):
 
 
 def said_of_rename(desk):
-    """The text with the new name, or the number of the error."""
-    try:
-        changes = desk.request("rename", newName=desk.ask.want)["changes"]
-    except Refusal as error:
-        return error.code, desk.text if desk.ranges else REFUSED
-    expected = desk.ask.text.replace("‸", "")
+    """The text with the new name, or why it is refused."""
+    new, sentence = desk.ask.want if isinstance(desk.ask.want, tuple) else (desk.ask.want, None)
+    answer = desk.ask_for("rename", newName=new)
+    if "error" in answer or sentence:
+        return answer.get("error", answer), {"code": REFUSED, "message": sentence}
+    expected, changes = desk.ask.text.replace("‸", ""), answer["result"]["changes"]
     while "⟦" in expected:
         head, _, rest = expected.partition("⟦")
-        expected = head + desk.ask.want + rest.partition("⟧")[2]
+        expected = head + new + rest.partition("⟧")[2]
     return (list(changes), edited(desk.text, changes[desk.uri])), ([desk.uri], expected)
 
 
 def said_of_hover(desk):
-    """Which of the words are said, and of which range."""
+    """Which of the words are said, and of which range: of a name of another text there is none."""
     found = desk.request("hover")
     if found is None:
         return [], desk.ask.want
-    said, where = found["contents"], found.get("range")
+    said = found["contents"]
     if said["kind"] != "markdown" or not said["value"].strip():
         return found, "Markdown"
     words = [it for it in desk.ask.want if it in said["value"]] or said
-    return (words, [where] if desk.ranges else []), (desk.ask.want, desk.ranges)
+    return (words, [found["range"]] if "range" in found else []), (desk.ask.want, desk.ranges)
+
+
+def known_choices(desk):
+    """The choices of all names and words of a rule text's language."""
+    reading = RuleReading(desk.text)
+    words = [*WORDS, *TYPES, "=", *SIGNS, *KINDS["OP"]]
+    names = [it for kind in NAMES for it in reading.named(kind)]
+    return names + [choice(class_of(it), it, explanation_of(it)[0]) for it in words]
 
 
 def said_of_completion(desk):
-    """The words of the row that are there; each is put into the text where the word before the place begins."""
+    """The words of the row that are there, in its order, without those that it does not want; all are known in this form."""
     found = desk.request("completion", context={"triggerKind": 1})
-    items = found["items"] if isinstance(found, dict) else found
-    labels = [it["label"] for it in items]
+    choices = choices_in_order(found["items"])
+    labels = [it[1] for it in choices]
     wanted, _, unwanted = (f" {desk.ask.want} ").partition(" - ")
-    wrong = [it for it in labels if it in unwanted.split()] + [it for it in wanted.split() if labels.count(it) != 1]
-    for it in items:
-        where, new = it["textEdit"]["range"], it["textEdit"]["newText"]
-        head = word_of(desk.text, where)
-        if where["end"] != desk.place or new != it["label"] or not is_inside(desk.text, where) or (head and not head.isidentifier()):
-            wrong.append(it)
-    return wrong, []
+    wrong = [it for it in labels if it in unwanted.split()]
+    wrong += [it for it in choices if desk.ask.kind == "rules" and it not in known_choices(desk)]
+    wrong += faults_of_choices(desk.text, index_of(desk.text, desk.place), found["items"])
+    there = [it for it in labels if it in wanted.split() or desk.ask.is_whole]
+    return (there, found["isIncomplete"], wrong), (wanted.split(), False, [])
 
 
 def flat_symbols(symbols):
@@ -131,12 +151,18 @@ def flat_symbols(symbols):
         yield from flat_symbols(it.get("children") or [])
 
 
+def reading_of(desk):
+    """A reading of the text."""
+    if desk.ask.kind == "rules":
+        return RuleReading(desk.text)
+    return ScriptReading(desk.ask.kind, desk.text, {desk.rules_uri: RuleReading(desk.rules)} if desk.rules else {})
+
+
 def said_of_symbols(desk):
-    found = list(flat_symbols(desk.request("documentSymbol")))
-    names = [(it["kind"], it["name"], it["selectionRange"]) for it in found]
-    wrong = [it for it in found if not is_inside(desk.text, it["range"]) or not is_part(it["selectionRange"], it["range"])]
-    wanted = [(kind, word_of(desk.text, where), where) for kind, where in zip(desk.ask.want, desk.ranges)]
-    return (names, wrong), (wanted, [])
+    """The kinds and names of the row, and all of each symbol as a reading of the text has it."""
+    found = desk.request("documentSymbol")
+    names = [(it["kind"], it["selectionRange"]) for it in found]
+    return (names, found), (list(zip(desk.ask.want, desk.ranges, strict=True)), reading_of(desk).symbols())
 
 
 def is_part(inner, outer):
@@ -150,28 +176,17 @@ def said_of_folds(desk):
     return [(it["startLine"], it["endLine"], it["kind"]) for it in found], desk.ask.want
 
 
-def decoded(legend, data):
-    """Semantic tokens as ranges, types and whether each is a declaration."""
-    line = character = 0
-    for lines, units, size, kind, modifiers in zip(*(data[at::5] for at in range(5)), strict=True):
-        line, character = line + lines, units + (0 if lines else character)
-        where = {"start": {"line": line, "character": character}, "end": {"line": line, "character": character + size}}
-        modifier = [name for bit, name in enumerate(legend["tokenModifiers"]) if modifiers >> bit & 1]
-        yield where, legend["tokenTypes"][kind], modifier == ["declaration"]
-
-
-def spelled(text, legend, data):
-    """Semantic tokens in the form of the rows."""
-    return "|".join(f"{kind}{'*' * is_declared} {word_of(text, where)}" for where, kind, is_declared in decoded(legend, data))
-
-
 def said_of_tokens(desk):
+    """The tokens, and those of each line and of all lines up to it: the ones that have a character there."""
     legend = desk.client.legend
     data = desk.request("semanticTokens/full")["data"]
-    whole = desk.request("semanticTokens/range", range=range_of(desk.text, 0, len(desk.text)))["data"]
-    found = list(decoded(legend, data))
-    wrong = [it for it in found if not is_inside(desk.text, it[0]) or it[0]["start"] == it[0]["end"]]
-    return (spelled(desk.text, legend, data), whole, wrong), (desk.ask.want, data, [])
+    found, wrong = decoded(legend, data), []
+    for begin, end in lines_of(desk.text):
+        for where in (range_of(desk.text, begin, end), range_of(desk.text, 0, end), range_of(desk.text, end, len(desk.text))):
+            part = decoded(legend, desk.request("semanticTokens/range", range=where)["data"])
+            wrong += [] if part == tokens_in(found, where) else [(where, part)]
+    wrong += [it for it in found if not is_inside(desk.text, it[0]) or it[0]["start"] == it[0]["end"]]
+    return (spelled(desk.text, legend, data), wrong), (desk.ask.want, [])
 
 
 def formatted(program, text):
@@ -185,17 +200,16 @@ def only_blanks(text, edits):
 
 
 def said_of_format(desk):
-    """The text with the edits, whether they are of blanks alone, and what the whole text's range gives."""
+    """The text with the edits, whether they are of blanks alone, and what the whole text's range gives; or why it is refused."""
     expected = formatted(desk.client.tools, desk.text) if desk.ask.kind == "rules" else None
-    options = {"tabSize": 4, "insertSpaces": True}
-    answers = []
+    options, answers = {"tabSize": 4, "insertSpaces": True}, []
     for method, more in (("formatting", {}), ("rangeFormatting", {"range": range_of(desk.text, 0, len(desk.text))})):
-        try:
-            edits = desk.request(method, options=options, **more)
-            answers.append(None if edits is None else (edited(desk.text, edits), only_blanks(desk.text, edits)))
-        except Refusal as error:
-            answers.append(None if error.code == REFUSED else error.code)
-    return answers, 2 * [None if expected is None else (expected, True)]
+        answer = desk.ask_for(method, options=options, **more)
+        edits = answer.get("result")
+        answers.append(answer.get("error", edits and (edited(desk.text, edits), only_blanks(desk.text, edits))))
+    refused = {"code": REFUSED, "message": desk.ask.want} if desk.ask.want else None
+    unchanged = [] if expected == desk.text else (expected, True)
+    return answers, 2 * [refused if expected is None else unchanged]
 
 
 QUESTIONS = [

@@ -1,6 +1,6 @@
 """What a server answers about texts. In a text `‸` is the place that is asked about; `⟦` and `⟧` stand around what the answer names."""
 
-from dataclasses import dataclass
+from dataclasses import dataclass, replace
 
 BUS = """packet BUS = mid 0x0883 length 16;
 packet PWR = mid 0x0884 length 20;
@@ -37,13 +37,14 @@ CAPABILITIES = {
 
 @dataclass
 class Ask:
-    """A question about a text; `rules` is a rule text that is open beside a scenario."""
+    """A question about a text; `rules` is a rule text that is open beside a scenario, and of a whole list `want` leaves nothing out."""
 
     title: str
     text: str
     want: object = None
     kind: str = "rules"
     rules: str = ""
+    is_whole: bool = False
 
 
 def rule(condition, text=""):
@@ -69,6 +70,11 @@ def schedule(title, text, want=None):
     return Ask(title, text, want, "schedule")
 
 
+def whole(ask):
+    """A question whose row has all that is answered."""
+    return replace(ask, is_whole=True)
+
+
 # Where the name at a place is declared.
 DEFINITIONS = [
     Ask("a packet in a field", on("packet BUS", "packet ⟦BUS⟧", on("BUS u16be", "BUS‸ u16be"))),
@@ -83,6 +89,9 @@ DEFINITIONS = [
     Ask("a name that nothing declares", rule("VOL‸TS < 1;")),
     Ask("a name that is declared later", rule("V‸ < 1; field ⟦V⟧ = P u8 at 12; ") + PACKET),
     Ask("a name that is declared twice", PACKET + FIELD.replace("V", "⟦V⟧") + FIELD + rule("‸V < 1;")),
+    Ask("a field with the name of a rule", rule("V‸ < 1;").replace("R", "V") + "field ⟦V⟧ = P u8 at 12; " + PACKET),
+    Ask("a rule with the name of a field", FIELD + rule("V < 1;").replace("R", "⟦V‸⟧") + PACKET),
+    Ask("a packet with the name of a field", "field P = P‸ u8 at 12; packet ⟦P⟧ = mid 0x0883 length 16;"),
     Ask("behind a character of two units", PACKET + FIELD.replace("V", "⟦V⟧") + rule("V‸ < 1;", WIDE)),
     Ask("a declaration behind a character of two units", PACKET + rule("‸V < 1;", WIDE) + FIELD.replace("V", "⟦V⟧")),
     Ask("on the line behind such characters", f"# {WIDE} {WIDE}\npacket ⟦P⟧ = mid 0x0883 length 16; # {WIDE}\nfield V = P‸ u8 at 12;"),
@@ -121,26 +130,38 @@ PREPARES = [
     schedule("a schedule", "sl‸ots 1\n"),
 ]
 
-# New names: what stands in marks gets the name; without marks the name is refused.
+# Why a new name is refused.
+NO_NAME = "a name is a letter or `_`, then letters, digits and `_`"
+RESERVED = "the new name is a reserved word"
+TOO_LONG = "a name has at most 32 bytes"
+TAKEN = "the text has this name already"
+NOTHING = "no name stands here"
+NO_RULES = "only names in rule texts can be changed"
+
+# New names: what stands in marks gets the name; or a name, and why it is refused.
 RENAMES = [
     Ask("a packet", named("BUS", "packet ⟦B‸US⟧"), "MAIN_BUS"),
     Ask("a field, from a use", named("VOLTS", "⟦VOLT‸S⟧ <"), "v"),
     Ask("a field with two uses", named("AMPS", "⟦‸AMPS⟧ >"), "AMPERES_OF_ALL_THE_LOADS_TOGETHER"[:32]),
     Ask("a rule", named("LOW", "rule ⟦L‸OW⟧"), "_LOW9"),
     Ask("a name in a comment stays", "# BUS\n" + named("BUS", "packet ⟦BUS‸⟧"), "MAIN"),
-    Ask("a reserved word", on("BUS", "B‸US"), "when"),
-    Ask("a type", on("BUS", "B‸US"), "u8"),
-    Ask("a name with a blank", on("BUS", "B‸US"), "MAIN BUS"),
-    Ask("a name that begins with a digit", on("BUS", "B‸US"), "9BUS"),
-    Ask("an empty name", on("BUS", "B‸US"), ""),
-    Ask("a name with a letter outside ASCII", on("BUS", "B‸US"), "B\u00dcS"),
-    Ask("a name of 33 letters", on("BUS", "B‸US"), "N" * 33),
-    Ask("the name of a field", on("BUS", "B‸US"), "AMPS"),
-    Ask("the name of a rule", on("VOLTS", "VOL‸TS"), "HOT"),
-    Ask("a number's place", on("2400", "24‸00"), "V"),
-    Ask("a comment's place", BUS + "# VOL‸TS\n", "V"),
-    scenario("a scenario", "B‸US VOLTS=1\n", "MAIN"),
-    schedule("a schedule", "sl‸ots 1\n", "MAIN"),
+    Ask("its own name", named("BUS", "packet ⟦B‸US⟧"), "BUS"),
+    Ask("its own name in other letters", named("BUS", "packet ⟦B‸US⟧"), "bus"),
+    Ask("a reserved word", on("BUS", "B‸US"), ("when", RESERVED)),
+    Ask("a type", on("BUS", "B‸US"), ("u8", RESERVED)),
+    Ask("a name with a blank", on("BUS", "B‸US"), ("MAIN BUS", NO_NAME)),
+    Ask("a name that begins with a digit", on("BUS", "B‸US"), ("9BUS", NO_NAME)),
+    Ask("an empty name", on("BUS", "B‸US"), ("", NO_NAME)),
+    Ask("a name with a letter outside ASCII", on("BUS", "B‸US"), ("B\u00dcS", NO_NAME)),
+    Ask("a name of 33 letters", on("BUS", "B‸US"), ("N" * 33, TOO_LONG)),
+    Ask("the name of a field", on("BUS", "B‸US"), ("AMPS", TAKEN)),
+    Ask("the name of a rule", on("VOLTS", "VOL‸TS"), ("HOT", TAKEN)),
+    Ask("a name as long", on("BUS", "B‸US"), ("PWR", TAKEN)),
+    Ask("a name that nothing declares", rule("VOL‸TS < 1 or AMPS < 1;"), ("AMPS", TAKEN)),
+    Ask("a number's place", on("2400", "24‸00"), ("V", NOTHING)),
+    Ask("a comment's place", BUS + "# VOL‸TS\n", ("V", NOTHING)),
+    scenario("a scenario", "B‸US VOLTS=1\n", ("MAIN", NO_RULES)),
+    schedule("a schedule", "sl‸ots 1\n", ("MAIN", NO_RULES)),
 ]
 
 # Words that are said of the word at a place; no words where nothing is said.
@@ -158,13 +179,16 @@ HOVERS = [
     Ask("an empty line", BUS + "\n‸\n", []),
     scenario("a packet in a scenario", "at 100 0\nBUS‸ VOLTS=1\n", ["BUS", "0883", "VOLTS"]),
     scenario("a rule in a scenario", "expect state LO‸W active\n", ["LOW", "sequence 7"]),
-    scenario("a word of a scenario", "at 100 0\nti‸ck\n", ["tick"]),
-    scenario("an expectation", "exp‸ect no sequence 7\n", ["expect"]),
-    schedule("a word of a schedule", "sl‸ots 2\n0 housekeeping\n", ["slots"]),
-    schedule("a word that counts ages", "slots 2\n0 sample 0 175 a‸ge\n", ["age"]),
+    scenario("a word of a scenario", "at 100 0\n⟦ti‸ck⟧\n", ["tick"]),
+    scenario("an expectation", "⟦exp‸ect⟧ no sequence 7\n", ["expect"]),
+    schedule("a word of a schedule", "⟦sl‸ots⟧ 2\n0 housekeeping\n", ["slots"]),
+    scenario("what is no word of a scenario", "foo ‸1\n", []),
+    scenario("a comment of a scenario", "tick # ti‸ck\n", []),
+    scenario("a blank line of a scenario", "tick\n ‸ \ntick\n", []),
+    schedule("a word that counts ages", "slots 2\n0 sample 0 175 ⟦a‸ge⟧\n", ["age"]),
 ]
 
-# Words that may stand at a place, and behind `-` words that may not.
+# Words that may stand at a place, in this order, and behind `-` words that may not.
 COMPLETIONS = [
     Ask("an empty text", "‸", "packet field rule - mid when"),
     Ask("the begin of a word", "pack‸", "packet field rule"),
@@ -189,17 +213,54 @@ COMPLETIONS = [
     schedule("the begin of a schedule", "‸", "slots"),
     schedule("an entry of a slot", "slots 2\n0 ‸", "sample housekeeping"),
     schedule("the end of a sample", "slots 2\n0 sample 0 175 ‸", "age keep - sample"),
-    scenario("the begin of a line", "at 100 0\n‸", "tick ramp repeat expect state mode BUS PWR at after - VOLTS"),
+    scenario("the begin of a line", "at 100 0\n‸", "at after tick ramp repeat expect mode state BUS PWR - VOLTS"),
     scenario("a field of a packet", "at 100 0\nBUS ‸", "VOLTS= - AMPS= tick"),
     scenario("a field of a ramp", "ramp ‸", "VOLTS AMPS - BUS"),
     scenario("a mode", "mode ‸", "active passive disabled - off"),
-    scenario("a rule", "state ‸", "LOW HOT all - BUS"),
+    scenario("a rule", "state ‸", "all LOW HOT - BUS"),
     scenario("the state of a rule", "state LOW ‸", "active passive disabled off"),
-    scenario("what is expected", "expect ‸", "sequence event no state result"),
+    scenario("what is expected", "expect ‸", "no sequence event state result"),
     scenario("an application", "start ‸", "LC SCH COUNTER", rules=""),
+    whole(Ask("the whole begin of an item", BUS + "pa‸", "packet field rule")),
+    whole(Ask("the number of `fails`", BUS + "rule R active fails ‸", "")),
+    whole(Ask("behind the number of `fails`", BUS + "rule R active fails 1 ‸", "sequence")),
+    whole(Ask("behind the number of `sequence`", BUS + "rule R active fails 1 sequence 1 ‸", "event")),
+    whole(Ask("behind one limit", BUS + HEAD + '"" report 1 ‸', "")),
+    whole(Ask("behind two limits", BUS + HEAD + '"" report 1 2 ‸', "")),
+    whole(Ask("behind three limits", BUS + HEAD + '"" report 1 2 3 ‸', "when")),
+    whole(Ask("behind four limits", BUS + HEAD + '"" report 1 2 3 4 ‸', "")),
+    whole(Ask("a rule behind a packet without its end", "packet P = mid 0x0883 length 16 rule R ‸", "active passive disabled")),
+    whole(Ask("a field behind a packet without its end", "packet P = mid 0x0883 length 16 field V = ‸", "P")),
+    whole(Ask("a type before another item", "field V = P ‸ packet P = mid 0x0883 length 16;", TYPES)),
+    whole(Ask("a name behind bad bytes", PACKET + "@ $ field V = ‸", "P")),
+    whole(Ask("behind a comment that ends", BUS + "# pack\n‸", "packet field rule")),
+    whole(Ask("a number that is being written", "packet P = mid 0x08‸", "")),
+    whole(Ask("behind what ends an item", "packet P = mid 0x0883 length 16;‸", "packet field rule")),
+    whole(Ask("the last parenthesis", BUS + rule("(not (VOLTS < 1)) ‸"), "and or xor ;")),
+    whole(scenario("behind a moment", "at 100 0 ‸", "")),
+    whole(scenario("behind a statement", "tick ‸", "")),
+    whole(scenario("behind what is no statement", "foo 1 ‸", "")),
+    whole(scenario("the second value of a packet", "BUS VOLTS=1 ‸", "VOLTS=")),
+    whole(scenario("a value", "BUS VOLTS=‸", "")),
+    whole(scenario("a value that is being written", "BUS VOLTS=27‸", "")),
+    whole(scenario("a field that is being written", "PWR AM‸PS=3", "AMPS=")),
+    whole(scenario("a state that is expected", "expect state LOW ‸", "active passive disabled off")),
+    whole(scenario("a result that is expected", "expect result LOW ‸", "none pass fail stale error")),
+    whole(scenario("a result behind a rule with a text's number", "expect result 0:LOW ‸", "none pass fail stale error")),
+    whole(scenario("a rule behind a text's number", "expect result 0:L‸", "LOW HOT")),
+    whole(scenario("behind a number that is none", "expect sequence x ‸", "from at by until")),
+    whole(scenario("behind what is expected", "expect sequence 7 ‸", "from at by until")),
+    whole(scenario("a kind of records", "record 0 0 ‸", "packet tick file half")),
+    whole(scenario("a type of a field", "fields 0883 0 16 u8 12 1 ‸", TYPES)),
+    whole(scenario("a comment of a scenario", "tick # ‸", "")),
+    whole(scenario("a line that is indented", "repeat 2 {\n  expect result HOT ‸\n}\n", "none pass fail stale error")),
+    whole(scenario("a rule of a text that does not compile", "state ‸", "all", rules=BUS + "packet")),
+    whole(schedule("a word that counts ages", "slots 2\n0 sample 0 175 k‸", "age keep")),
+    whole(schedule("behind an entry", "slots 2\n0 housekeeping ‸", "")),
+    whole(schedule("an indented entry", "slots 2\n\t 1 ‸", "sample housekeeping")),
 ]
 
-# All symbols of a text, whose names are marked: the kind of each (packet 5, field 7, rule 12).
+# All symbols of a text, whose names are marked: the kind of each (packet 5, field 7, rule 12; a line of a script 14).
 MARKED_BUS = BUS
 for name in ("packet BUS", "packet PWR", "field VOLTS", "field AMPS", "rule LOW", "rule HOT"):
     MARKED_BUS = MARKED_BUS.replace(name, name.replace(" ", " ⟦") + "⟧")
@@ -209,6 +270,11 @@ SYMBOLS = [
     Ask("behind a character of two units", "packet ⟦P⟧; " + rule("V < 1;", WIDE).replace("R", "⟦R⟧") + "field ⟦V⟧", [5, 12, 7]),
     Ask("a text without items", "# nothing\n", []),
     Ask("an empty text", "", []),
+    scenario("moments", f"⟦at 100  0⟧ # {WIDE}\ntick\n  ⟦after 5⟧\nBUS VOLTS=1\nexpect sequence 7 at 5\n", [14, 14]),
+    scenario("repetitions", "⟦repeat 2⟧ {\n⟦repeat 3⟧ {\ntick\n}\n⟦after 1⟧\n}\n⟦repeat 4⟧ {\n", [14, 14, 14, 14]),
+    scenario("a scenario without moments", "# at 5\ntick\n", []),
+    schedule("a schedule", f"# two {WIDE}\n⟦slots 2⟧\n⟦0 sample 0 175 age⟧\n\n  ⟦1\thousekeeping⟧", [14, 14, 14]),
+    schedule("a schedule of comments", "# slots 2\n", []),
 ]
 
 # The lines of each fold, from 0, and what it is.
@@ -216,8 +282,11 @@ FOLDS = [
     Ask("a rule of two lines", BUS, [(4, 5, "region")]),
     Ask("comments of several lines", "# a\n# b\n# c\npacket P = mid 0x0883 length 16; # d\n# e\n\n# f\n", [(0, 2, "comment")]),
     Ask("an item that is not closed", "rule R active\n  fails 1\n  sequence 2\n", [(0, 2, "region")]),
+    Ask("comments behind blanks", "  # a\n\t# b\n#c\n\n  # d\npacket P = mid 0x0883 length 16;\n", [(0, 2, "comment")]),
+    Ask("comments in an item", "rule R\n# a\n# b\nactive;\n# c", [(0, 3, "region"), (1, 2, "comment")]),
     Ask("an empty text", "", []),
     scenario("repetitions", "at 1 0\nrepeat 2 {\n tick\n repeat 3 {\n  tick\n }\n}\n", [(1, 6, "region"), (3, 5, "region")]),
+    scenario("repetitions without an end", "repeat 2 {\nrepeat 3 {\ntick\n}\n", [(1, 3, "region")]),
     scenario("comments of a scenario", "# a\n# b\nat 100 0\n", [(0, 1, "comment")]),
     schedule("comments of a schedule", "slots 2\n# a\n  # b\n0 housekeeping\n", [(1, 2, "comment")]),
 ]
@@ -256,9 +325,25 @@ TOKENS = [
         f"keyword at|number 100|number 0|comment # {WIDE} start|keyword start|string LC|class BUS|property VOLTS|operator =|number 2750"
         "|keyword tick",
     ),
+    scenario("what is no statement", "foo 1\nexpect foo\nstate NONE active\n", "keyword expect|keyword state|enumMember active"),
+    scenario(
+        "a rule with a text's number",
+        "state 0:LOW active\nexpect result 12:HOT fail\n",
+        "keyword state|number 0|operator :|function LOW|enumMember active"
+        "|keyword expect|keyword result|number 12|operator :|function HOT|enumMember fail",
+    ),
+    scenario(
+        "values",
+        "BUS VOLTS=0x0fA VOLT=1 AMPS= VOLTS=x =2\n",
+        "class BUS|property VOLTS|operator =|number 0x0fA|operator =|number 1|property AMPS|operator =|property VOLTS|operator ="
+        "|operator =|number 2",
+    ),
+    scenario("bytes", "telemetry 0883 0 -\npacket 18aF\n", "keyword telemetry|number 0883|number 0|number -|keyword packet|number 18aF"),
 ]
 
-# Texts that formatting changes, and such that it can't or need not.
+# Texts that formatting changes, and such that it can't or need not; or why it is refused.
+NOT_WHOLE = "the text has an error, so it is not formatted"
+TOO_LARGE = "the text would have over 65,536 bytes, so it is not formatted"
 FORMATS = [
     Ask("loose lines", "packet BUS=mid 0x0883 length 16;\nfield V=BUS u8 at 12;field HEATER = BUS u8\n at 13;\n"),
     Ask("a text in its layout", BUS),
@@ -268,7 +353,10 @@ FORMATS = [
     Ask("a long condition", BUS + rule(" or ".join(f"(VOLTS == {n} and AMPS > {n})" for n in range(5)) + ";")),
     Ask("no line end", PACKET.strip()),
     Ask("carriage returns in comments", "# a\r# b\r\npacket P = mid 0x0883 length 16;\r"),
-    Ask("a text with an error", "packet P = mid"),
+    Ask("a text with an error", "packet P = mid", NOT_WHOLE),
+    Ask("a text with a bad word", 'packet P = mid 1 length 1; "', NOT_WHOLE),
+    Ask("a text of which none of the items is right", "packet P = mid 1 length 1; field V = W u8 at 1 mask 0;\n"),
+    Ask("a text that gets too long", "field A=P u8 at 1;" * 3_600, TOO_LARGE),
     Ask("a text without items", "# nothing\n"),
     Ask("an empty text", ""),
     schedule("a schedule", "slots   1\n"),

@@ -61,7 +61,7 @@ def is_inside(text, where):
 
 def changed(text, change):
     """The text after one change of `textDocument/didChange`."""
-    if "range" not in change:
+    if change.get("range") is None:
         return change["text"]
     begin, end = (index_of(text, change["range"][side]) for side in ("start", "end"))
     return text[:begin] + change["text"] + text[max(begin, end) :]

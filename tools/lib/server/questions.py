@@ -1,11 +1,14 @@
 """Questions about any text, valid or not: whatever the answer is, it has to be of the form that the protocol wants, and inside the text."""
 
+from choices import faults_of_choices
 from client import Refusal
-from language import REFUSED, decoded, flat_symbols, formatted, is_part, locations, only_blanks
+from language import REFUSED, flat_symbols, formatted, is_part, locations, only_blanks
 from places import edited, index_of, is_inside, lines_of, place_of, range_of, word_of
+from tokens import decoded, tokens_in
 
 NEW = "QQ_NEW_NAME"
 MARKUP = "markdown"
+UNFORMATTED = "the text has an error, so it is not formatted"
 
 
 def wrong_ranges(text, ranges):
@@ -20,9 +23,13 @@ def faults_of_uses(text, found, uri):
         yield f"the words {words}"
 
 
-def faults_of_tokens(text, found, client):
-    """Tokens have a size, lie inside a line each, and follow one another."""
+def faults_of_tokens(client, uri, text, method, where, found):
+    """Tokens have a size, lie inside a line each, and follow one another; those of a range are those that have a character there."""
     last = 0
+    if method == "semanticTokens/range":
+        whole = decoded(client.legend, client.request("textDocument/semanticTokens/full", {"textDocument": {"uri": uri}})["data"])
+        if decoded(client.legend, found["data"]) != tokens_in(whole, where):
+            yield f"{decoded(client.legend, found['data'])}, not {tokens_in(whole, where)}"
     for where, kind, _ in decoded(client.legend, found["data"]):
         begin, end = index_of(text, where["start"]), index_of(text, where["end"])
         if not is_inside(text, where) or not last <= begin < end <= lines_of(text)[where["start"]["line"]][1]:
@@ -30,12 +37,10 @@ def faults_of_tokens(text, found, client):
         last = end
 
 
-def faults_of_answer(client, uri, text, method, found):
-    """What is wrong with the form of an answer."""
+def faults_of_answer(client, uri, text, method, where, found):
+    """What is wrong with the form of an answer about a range, or about its begin."""
     if method == "completion":
-        edits = [it["textEdit"] for it in found["items"]]
-        yield from wrong_ranges(text, [it["range"] for it in edits])
-        yield from (it for it in found["items"] if not it["label"] or it["label"] != it["textEdit"]["newText"])
+        yield from faults_of_choices(text, index_of(text, where["start"]), found["items"])
     elif method == "hover" and found:
         yield from wrong_ranges(text, [found["range"]] if "range" in found else [])
         if found["contents"]["kind"] != MARKUP or not found["contents"]["value"]:
@@ -59,7 +64,7 @@ def faults_of_answer(client, uri, text, method, found):
     elif method == "codeAction":
         yield from wrong_ranges(text, [edit["range"] for it in found for edit in it["edit"]["changes"][uri]])
     elif method.startswith("semanticTokens"):
-        yield from faults_of_tokens(text, found, client)
+        yield from faults_of_tokens(client, uri, text, method, where, found)
 
 
 def faults_of_formatting(client, uri, text, where):
@@ -68,7 +73,7 @@ def faults_of_formatting(client, uri, text, where):
     params = {"textDocument": {"uri": uri}, "range": where, "options": {"tabSize": 4, "insertSpaces": True}}
     whole, part = (client.ask(f"textDocument/{method}", params) for method in ("formatting", "rangeFormatting"))
     if wanted is None:
-        if [it.get("error", {}).get("code") for it in (whole, part)] != 2 * [REFUSED]:
+        if [it.get("error") for it in (whole, part)] != 2 * [{"code": REFUSED, "message": UNFORMATTED}]:
             yield f"{whole} and {part} of a text that can't be formatted"
     elif edited(text, whole["result"]) != wanted or not only_blanks(text, whole["result"]):
         yield f"{whole}, not {wanted!r}"
@@ -103,7 +108,7 @@ def faults_of_question(client, chance, uri, text):
     params = {"textDocument": {"uri": uri}, "position": place_of(text, begin), "range": where, **METHODS[method]}
     try:
         found = client.request(f"textDocument/{method}", params)
-        faults = list(faults_of_answer(client, uri, text, method, found))
+        faults = list(faults_of_answer(client, uri, text, method, where, found))
     except Refusal as error:
         faults = [] if method == "rename" and error.code == REFUSED else [str(error)]
     except (KeyError, TypeError, ValueError) as error:

@@ -16,6 +16,8 @@ STATES = 500
 SAVED = 50
 ASKED = 4
 LARGE = 400
+# The greatest number of a place (LSP 3.17, "uinteger"), and greater ones, which clients write for "up to the end".
+BEYOND = (2**31 - 1, 2**32 - 1, 2**32, 2**53, 2**63)
 # Megabytes that the server may have in memory.
 MOST_MEMORY = 64
 PARTS = [f" {word} " for word in WORDS + TYPES] + [
@@ -65,16 +67,17 @@ class Editor:
         """The place of a character, or one that means the same: beyond its line's end or the text's end, or inside a pair of units."""
         place, kind = place_of(text, at), self.random.random()
         if at == len(text) and kind < 0.05:
-            return {"line": place["line"] + self.random.choice((1, 9, 2**31 - 1 - place["line"])), "character": self.random.randrange(9)}
+            return {"line": self.random.choice((place["line"] + 1, place["line"] + 9, *BEYOND)), "character": self.random.randrange(9)}
         if (at == len(text) or text[at] in "\r\n") and kind < 0.1 and text[at - 1 : at + 1] != "\r\n":
-            return {**place, "character": place["character"] + self.random.choice((1, 7, 2**31 - 1 - place["character"]))}
+            return {**place, "character": self.random.choice((place["character"] + 1, place["character"] + 7, *BEYOND))}
         if at < len(text) and units(text[at]) == 2 and kind < 0.5:
             return {**place, "character": place["character"] + 1}
         return place
 
     def change(self, text):
-        if self.random.random() < 0.01:
-            return {"text": self.part(text) + text}
+        kind = self.random.random()
+        if kind < 0.015:
+            return {"text": self.part(text) + text, **({"range": None} if kind < 0.005 else {})}
         begin = self.index(text)
         end = min(len(text), begin + self.size(text))
         start, stop = self.moved(text, begin), self.moved(text, end)
@@ -99,7 +102,7 @@ class Record:
         self.program, self.folder, self.states, self.errors = program, folder, [], 0
 
     def add(self, number, text, published, is_whole):
-        self.states.append((number, text, of_server(published), is_whole))
+        self.states.append((number, text, of_server(published, URI), is_whole))
 
     def faults(self):
         """Where what was published is not what `check` says of the same text; the states are forgotten then."""

@@ -7,16 +7,21 @@ import random
 import re
 import subprocess
 
-from diagnostics import ERROR, LEVELS, WARNING, index_of_column, of_check, of_server
+from diagnostics import ERROR, INFORMATION, LEVELS, index_of_column, of_check, of_server
 from language_rows import BUS
 from places import place_of
 from questions import faults_of_question
+from reading_rows import SECOND
+from rule_reading import RuleReading
+from script_reading import ScriptReading
 
 TOP = os.path.dirname(os.path.dirname(os.path.dirname(os.path.dirname(os.path.abspath(__file__)))))
 SEED = 2_028
 SCENARIOS = 120
 SCHEDULES = 60
-URI, RULES_URI = "file:///script", "file:///names.rules"
+URI, RULES_URI, SECOND_URI = "file:///script", "file:///names.rules", "file:///second.rules"
+# What is said of a refused scenario where no rule text gives names.
+NO_NAMES = (INFORMATION, None, "no rule text that compiles is open, so no packet, field or rule is known by name", (0, 0))
 QUESTIONS = 3
 HEAD = re.compile(r"^[^\n]+?:(\d+):(\d+): (error|warning)\[([\w-]+)\]: (.*)\n *\d+ \|[^\n]*\n *\| *\^* ?(.*)$", re.M)
 WORDS = (
@@ -68,8 +73,15 @@ def of_listing(text, listing):
 
 
 def shortened(diagnostics):
-    found = [it for it in diagnostics if it["severity"] in (ERROR, WARNING)]
-    return [(severity, code, sentence, where[:2]) for severity, code, sentence, where, _ in of_server(found)]
+    return [(severity, code, sentence, where[:2]) for severity, code, sentence, where, _ in of_server(diagnostics, URI)]
+
+
+def faults_of_outline(client, reading):
+    """Symbols and folds are those of a reading of the text, also of one that is refused."""
+    document = {"textDocument": {"uri": URI}}
+    symbols, folds = (client.request(f"textDocument/{it}", document) for it in ("documentSymbol", "foldingRange"))
+    looks = [(symbols, reading.symbols()), ([(it["startLine"], it["endLine"], it["kind"]) for it in folds], reading.folds())]
+    yield from (f"{found}, not {wanted}, of {reading.text!r}" for found, wanted in looks if found != wanted)
 
 
 def say_of_scenario(program, folder, text, rules):
@@ -95,13 +107,15 @@ def faults_of_scenario(client, chance, folder, text, rules):
     """A scenario is opened, changed as a whole, and saved; its warnings are there at opening and saving alone."""
     wanted = say_of_scenario(client.tools, folder, text, rules)
     errors = [it for it in wanted if it[0] == ERROR]
+    note = [NO_NAMES] if errors and not rules else []
     if rules:
         client.open(RULES_URI, "lcrules", rules)
     looks = [
-        (shortened(client.open(URI, "lcscenario", text)), wanted),
-        (shortened(client.change(URI, [{"text": text}])), errors),
-        (shortened(client.save(URI)), wanted),
+        (shortened(client.open(URI, "lcscenario", text)), wanted + note),
+        (shortened(client.change(URI, [{"text": text}])), errors + note),
+        (shortened(client.save(URI)), wanted + note),
     ]
+    yield from faults_of_outline(client, ScriptReading("scenario", text, {RULES_URI: RuleReading(rules)} if rules else {}))
     for _ in range(QUESTIONS):
         yield from faults_of_question(client, chance, URI, text)
     client.close(URI)
@@ -113,36 +127,46 @@ def faults_of_scenario(client, chance, folder, text, rules):
 def faults_of_schedule(client, chance, folder, text):
     wanted = say_of_schedule(client.tools, folder, text)
     looks = [client.open(URI, "lcschedule", text), client.change(URI, [{"text": text}]), client.save(URI)]
+    yield from faults_of_outline(client, ScriptReading("schedule", text))
     for _ in range(QUESTIONS):
         yield from faults_of_question(client, chance, URI, text)
     client.close(URI)
-    yield from (f"{of_server(found)}, not {wanted}, of {text!r}" for found in looks if of_server(found) != wanted)
+    yield from (f"{of_server(found, URI)}, not {wanted}, of {text!r}" for found in looks if of_server(found, URI) != wanted)
+
+
+# What is done with rule texts beside a scenario; the line of the scenario's error then, and whether no rule text gives names.
+NAMING = "at 100 0\nBUS VOLTS=1\nLAMP BRIGHT=2\nstate 1:DARK passive\n"
+STEPS = [
+    ("open", RULES_URI, BUS, [2], False),
+    ("open", SECOND_URI, SECOND, [], False),
+    ("spoil", SECOND_URI, SECOND + "packet", [2], False),
+    ("spoil", SECOND_URI, SECOND, [], False),
+    ("close", RULES_URI, "", [1], False),
+    ("open", RULES_URI, BUS, [3], False),
+    ("close", SECOND_URI, "", [2], False),
+    ("spoil", RULES_URI, BUS + "packet", [1], True),
+    ("close", RULES_URI, "", [1], True),
+]
 
 
 def faults_of_names(client):
-    """The names of a scenario are those of the rule texts that are open and compile."""
-    text, second = "at 100 0\nBUS VOLTS=1\nLAMP BRIGHT=2\nstate 1:DARK passive\n", (
-        "packet LAMP = mid 0x0890 length 16; field BRIGHT = LAMP u8 at 12; "
-        'rule DARK active fails 1 sequence 9 event info 1009 "" when BRIGHT < 1;'
-    )
-    counts = [client.open(URI, "lcscenario", text)]
-    for uri, rules in ((RULES_URI, BUS), ("file:///second.rules", second)):
+    """The names of a scenario are those of the rule texts that are open and compile, by the order of their opening."""
+    published = client.open(URI, "lcscenario", NAMING)
+    looks = [("opening", shortened(published), [1], True)]
+    for what, uri, text, lines, is_alone in STEPS:
         count = len(client.published[URI])
-        client.open(uri, "lcrules", rules)
-        counts.append(client.diagnostics(URI, count))
-    count = len(client.published[URI])
-    client.change("file:///second.rules", [{"text": second + "packet"}])
-    client.save("file:///second.rules")
-    counts.append(client.diagnostics(URI, count))
-    for uri in ("file:///second.rules", RULES_URI):
-        count = len(client.published[URI])
-        client.close(uri)
-        counts.append(client.diagnostics(URI, count))
+        if what == "open":
+            client.open(uri, "lcrules", text)
+        elif what == "spoil":
+            client.change(uri, [{"text": text}])
+            client.save(uri)
+        else:
+            client.close(uri)
+        looks.append((f"{what} {uri}", shortened(client.diagnostics(URI, count)), lines, is_alone))
     client.close(URI)
-    found = [[it["range"]["start"]["line"] for it in diagnostics if it["severity"] == ERROR] for diagnostics in counts]
-    wanted = [[1], [2], [], [2], [2], [1]]
-    if found != wanted:
-        yield f"lines with errors while rule texts are opened, spoiled and closed: {found}, not {wanted}"
+    for what, found, lines, is_alone in looks:
+        if [it[3][0] for it in found if it[0] == ERROR] != lines or [it for it in found if it[0] == INFORMATION] != [NO_NAMES] * is_alone:
+            yield f"after {what}: {found}, not errors in {lines}"
 
 
 def faults_of_scripts(client, folder):

@@ -21,7 +21,7 @@ def messages(out):
 
 
 def summary(message):
-    """A message in a few words: `ID ok`, `ID CODE`, or `diagnostics VERSION COUNT`."""
+    """A message in a few words: `ID ok`, `ID CODE SENTENCE`, or `diagnostics VERSION COUNT`."""
     if isinstance(message, str):
         return message
     if message.get("jsonrpc") != "2.0":
@@ -29,8 +29,14 @@ def summary(message):
     if "method" in message:
         params = message["params"]
         return f"diagnostics {params.get('version', '-')} {len(params['diagnostics'])}"
-    said = "ok" if "result" in message else message["error"]["code"]
+    said = "ok" if "result" in message else f"{message['error']['code']} {message['error']['message']}"
     return f"{json.dumps(message['id'], ensure_ascii=False)} {said}"
+
+
+def faults_of_uris(talk, sent):
+    """What is published is of a document that was opened."""
+    uris = {it["params"]["uri"] for it in sent if isinstance(it, dict) and "params" in it}
+    yield from (f"{talk.title}: the URI {it}" for it in uris if json.dumps(it).encode() not in talk.sent)
 
 
 def is_met(answers, found):
@@ -43,7 +49,9 @@ def faults_of_talk(program, talk):
     except subprocess.TimeoutExpired:
         yield f"{talk.title}: the server goes on for {SECONDS} seconds"
         return
-    found = [summary(it) for it in messages(ran.stdout)]
+    sent = list(messages(ran.stdout))
+    yield from faults_of_uris(talk, sent)
+    found = [summary(it) for it in sent]
     if not is_met(talk.answers, found):
         yield f"{talk.title}: {found}, not {talk.answers}"
     if ran.returncode != talk.status:
