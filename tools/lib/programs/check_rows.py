@@ -3,6 +3,7 @@
 What is said of each text in the form of warnings is in `warnings/`; for which values rules fail and pass is in
 `crates/analysis_rows/stdout`, and here it is said behind a file's name."""
 
+import hashlib
 import json
 
 from records import LOW_VOLTS
@@ -68,11 +69,176 @@ NEVER_FAILS = b"""warning[never-fails]: No packets make its condition true: `V <
 """
 
 
+
+def unused(count):
+    """A text with so many fields that no rule uses, and what is said of each: as text and as JSON."""
+    lines = [f"field F{number} = P u8 at {13 + number};" for number in range(count)]
+    text = "packet P = mid 0x0883 length 2048;\n" + "\n".join(lines) + '\nfield V = P u8 at 12;\nrule R active fails 1 sequence 1 event info 1000 "" when V < 5;\n'
+    said, objects = [], []
+    for number, line in enumerate(lines):
+        name, head, label = f"F{number}", f"no rule uses the field `F{number}`", "leave it out, or compare it in a rule"
+        said.append(f"rules:{number + 2}:7: warning[unused-field]: {head}\n{number + 2:3} | {line}\n    |       {'^' * len(name)} {label}\n\n")
+        at = {"column": 7, "end_column": 7 + len(name), "label": label, "line": number + 2}
+        objects.append({"at": at, "code": None, "edit": None, "file": "rules", "level": "warning", "message": head, "others": [], "warning": "unused-field"})
+    as_json = [json.dumps(it, sort_keys=True, separators=(",", ":")) + "\n" for it in objects]
+    return text.encode(), [it.encode() for it in said], [it.encode() for it in as_json]
+
+
+def counted(count, shown=100, words=b""):
+    text, said, _ = unused(count)
+    return Row(
+        f"{count} warnings as text",
+        ["flight_tools", "check", "rules"],
+        {"rules": text},
+        output=b"".join(said[:shown]) + b"rules: 1 rule, %d warnings%s\n" % (count, words),
+    )
+
+
+def counted_in_json(count):
+    text, _, objects = unused(count)
+    return Row(f"{count} warnings in JSON", ["flight_tools", "check", "--json", "rules"], {"rules": text}, output=b"".join(objects))
+
+
+# Whether the second rule fails wherever the first does is not found out within 16,384 choices: it does, since both have `F12 < 1`, but
+# that field comes last, after pairs of others.
+PAIRS = " xor ".join(f"F{n} < 1 and F{6 + n} < 1" for n in range(6))
+OTHER_PAIRS = " xor ".join(f"F{n} < 2 and F{6 + (n + 1) % 6} < 2" for n in range(6))
+HARD = (
+    "packet P = mid 0x0883 length 99; "
+    + " ".join(f"field F{n} = P u16be at {12 + 2 * n};" for n in range(13))
+    + f' rule A active fails 1 sequence 1 event info 1000 "" when ({PAIRS}) and F12 < 1 and (F0 < 9 or F1 < 9 or F2 < 9);'
+    + f' rule B active fails 1 sequence 2 event info 1000 "" when ({OTHER_PAIRS}) or F12 < 1 or F3 > 9 and F4 > 9 and F5 > 9;'
+).encode()
+UNDECIDED = b"1 pair of rules was not looked at to the end\n"
+
+TWO_RULES = LOW_VOLTS + b"rule OTHER active fails 1 sequence 8 event error 1002 \"\" when V > 9000;"
+NEVER_SAMPLED = json.dumps(
+    {
+        "at": {"column": 150, "end_column": 155, "label": "sample it, as rule 1, or leave it out", "line": 1},
+        **dict.fromkeys(["code", "edit"]),
+        "file": "rules",
+        "level": "warning",
+        "message": "the schedule never samples `OTHER`",
+        "others": [],
+        "warning": "never-sampled",
+    },
+    sort_keys=True,
+    separators=(",", ":"),
+).encode() + b"\n"
+
+# One warning: no rule uses the field W.
+WARNED_ONCE = b"packet P = mid 0x0883 length 16;\nfield V = P u16be at 12;\nfield W = P u8 at 14;\n" + b'rule LOW active fails 1 sequence 7 event error 1001 "" when V < 5;\n'
+OF_WARNED_ONCE = b"""warned:3:7: warning[unused-field]: no rule uses the field `W`
+  3 | field W = P u8 at 14;
+    |       ^ leave it out, or compare it in a rule
+
+warned: 1 rule, 1 warning
+"""
+
+
+NEVER_FAILS_IN_TABLES = LOW_VOLTS.split(b"rule")[0] + b'rule LOW active fails 2 sequence 7 event error 1001 "low volts" when V < 2400 and V > 2600;'
+OF_NEVER_FAILS = (
+    ADT_LISTING.replace(hashlib.sha256(LOW_VOLTS).hexdigest().encode(), hashlib.sha256(NEVER_FAILS_IN_TABLES).hexdigest().encode())
+    .replace(b"watchpoints 1\n", b"watchpoints 2\n")
+    .replace(b"when w0\n", b"when w0 and w1\n")
+    + b"warning: actionpoint 0: never fails; passes for w0 = 0\n"
+)
+
+
+def strictly(texts, status, output):
+    files = {"good": LOW_VOLTS, "warned": WARNED_ONCE, "rules": b"packet BUS"}
+    return Row(f"strictly: {texts}", ["flight_tools", "check", "--strict", *texts.split()], files, status=status, output=output)
+
+
+# Two errors of a text, which every command reports in one form.
+TWO_ERRORS = b"packet P = mid 0x0883 length 11;\nfield V = P u8 at 12;\nrule R active fails 0 sequence 1 event info 1000 \"\" when V < 1;\n"
+OF_TWO_ERRORS = b"""rules:1:30: error[29]: the packet length is out of range
+  1 | packet P = mid 0x0883 length 11;
+    |                              ^^ write 12 to 2,048
+
+rules:3:21: error[28]: the number of `fails` is out of range
+  3 | rule R active fails 0 sequence 1 event info 1000 "" when V < 1;
+    |                     ^ write 1 to 65,535
+
+2 errors
+"""
+# As long as a text may be, with an error at its end, and a byte longer.
+LONGEST = b"# " + b"x" * 65_532 + b"\n@"
+OF_LONGEST = b"rules:2:1: error[1]: `@` has no meaning in this language\n  2 | @\n    | ^ leave it out\n\n1 error\n"
+TOO_LONG = b"rules: the text has over 65,536 bytes\n"
+COMMANDS = {
+    "live": "live plan rules",
+    "report": "report plan stream page rules",
+    "a comparison's old text": "compare plan stream rules good",
+    "a comparison's new text": "compare plan stream good rules",
+    "a further text of a comparison": "compare plan stream good good --with good rules",
+    "try": "try script plan rules",
+    "the second text of a trial": "try script plan good rules",
+    "packets": "packets --rules rules stream",
+    "stream": "stream --rules good --rules rules stream",
+    "scenario": "scenario --rules rules script made",
+}
+
+
+def refused_by(what, words, text, error):
+    files = {"plan": b"slots 1\n", "stream": b"", "script": b"tick\n", "good": LOW_VOLTS, "rules": text}
+    return Row(what, ["flight_tools", *words.split()], files, status=1, error=error)
+
+
+def errors(count):
+    """So many packets with a wrong length, of which the first ten are reported."""
+    text = b"".join(b"packet P%d = mid 0x0883 length 11;\n" % number for number in range(count))
+    said = b"".join(
+        b"rules:%d:%d: error[29]: the packet length is out of range\n%3d | packet P%d = mid 0x0883 length 11;\n    | %s^^ write 12 to 2,048\n\n"
+        % (number + 1, 31, number + 1, number, b" " * 30)
+        for number in range(10)
+    )
+    told = b"over 100 errors" if count > 100 else b"%d errors" % count
+    return Row(f"{count} errors of a text", ["flight_tools", "check", "rules"], {"rules": text}, status=1, output=said + told + b", the first 10 shown\n")
+
+
 def explained(title, name, status=0, output=b"", error=b""):
     return Row(title, ["flight_tools", "check", "--explain", name], {}, status=status, output=output, error=error)
 
 
+LIKES = [
+    *(errors(count) for count in (11, 99, 100, 101, 150)),
+    counted(99),
+    counted(100),
+    counted(101, words=b", the first 100 shown"),
+    counted_in_json(101),
+    Row("a pair of rules that stays undecided", ["flight_tools", "check", "rules"], {"rules": HARD}, output=b"rules: 2 rules, 0 warnings\nrules: " + UNDECIDED),
+    Row("a pair of rules that stays undecided, in JSON", ["flight_tools", "check", "--json", "rules"], {"rules": HARD}, output=noted([UNDECIDED])),
+    *(
+        Row(
+            f"a rule that the schedule never samples, in JSON{', strictly' if strict else ''}",
+            ["flight_tools", "check", "--json", *strict, "--schedule", "schedule", "rules"],
+            {"rules": TWO_RULES, "schedule": SAMPLES_THE_FIRST},
+            status=len(strict),
+            output=NEVER_SAMPLED,
+        )
+        for strict in ([], ["--strict"])
+    ),
+    strictly("warned good", 1, OF_WARNED_ONCE + b"good: " + ONE_RULE),
+    strictly("good warned", 1, b"good: " + ONE_RULE + OF_WARNED_ONCE),
+    strictly("good good", 0, 2 * (b"good: " + ONE_RULE)),
+    strictly("warned rules good", 1, OF_WARNED_ONCE + ENDS_EARLY + b"good: " + ONE_RULE),
+    *(refused_by(f"two errors of a text that is refused: {what}", words, TWO_ERRORS, OF_TWO_ERRORS) for what, words in COMMANDS.items()),
+    *(refused_by(f"a text as long as may be that is refused: {what}", words, LONGEST, OF_LONGEST) for what, words in COMMANDS.items() if what in ("live", "report", "packets")),
+    refused_by("a text that is a byte too long: live", "live plan rules", LONGEST + b"@", TOO_LONG),
+    explained("the shortest name of a warning misspelt", "no-rule", status=2, error=b"--explain no-rule: did you mean `no-rules`?\n"),
+    explained("a warning in capitals", "NO-RULES", status=2, error=b"--explain NO-RULES: did you mean `no-rules`?\n"),
+    Row(
+        "actionpoints of which is to be warned",
+        ["flight_tools", "table", "--watchpoints", "wdt", "adt"],
+        {"rules": NEVER_FAILS_IN_TABLES},
+        first=COMPILED,
+        output=OF_NEVER_FAILS,
+    ),
+]
+
 ROWS = [
+    *LIKES,
     explained("an error by its number", "26", output=MASKS),
     explained("a warning by its name", "never-fails", output=NEVER_FAILS),
     explained("a text that is too long has no place", "5", output=b"error[5]: over 65,536 bytes, whatever they are\n  65,537 blanks: the file has 65,537 bytes, at most 65,536 are allowed\n"),

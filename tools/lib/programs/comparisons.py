@@ -88,6 +88,16 @@ STOPPED_COMPARISONS = [
         b": add it with --with",
     ),
     ("a half of a text that is no half", put_in(BUS_STREAM, 16, half(b"/cf/late_wdt.tbl", 3, 1)), FIRST_DIFFERENCES, b"record 17 is none", b""),
+    *(
+        (
+            f"a comparison over a stream that brings text {text}",
+            put_in(BUS_STREAM, 16, half(b"/cf/late_wdt.tbl", 1, text)),
+            FIRST_DIFFERENCES,
+            b"record 17 names rule text %d, which is not given" % text,
+            b": add it with --with",
+        )
+        for text in (255, 256, 300, 65_535)
+    ),
 ]
 
 
@@ -132,6 +142,9 @@ APART = b"".join([beginning(), OFF, 2 * LOW_SAMPLE, *OLD_AGAIN, *FURTHER, OFF, L
 IN_ONE_SLOT = b"slots 1\n0 sample 0 175 keep\n0 housekeeping\n"
 HIGH = record(1, records.LOW[11:23] + (2_500).to_bytes(2, "big") + bytes(2))
 TURNS = b"".join([beginning(), start(b"SCH"), HIGH, TICK, *LATE_HALVES, *LOADED, *JUDGED, TICK, *IN_FORCE, records.LOW, TICK])
+# The same, with the tick right after the order that activates the text, and that order right after the housekeeping that judged it.
+IN_THREE_SLOTS = b"slots 3\n0 sample 0 175 keep\n1 housekeeping\n2 sample 0 175 keep\n2 housekeeping\n"
+TURNS_AFTER_AN_ORDER = b"".join([beginning(), start(b"SCH"), HIGH, TICK, *LATE_HALVES, *LOADED, *JUDGED, records.LOW, TICK, *IN_FORCE, TICK])
 
 # The actionpoints of a rule text in the first version of their table: images that the compiler doesn't write.
 FIRST_RULES = read("run_rows/data/texts/low_volts.txt")
@@ -151,6 +164,45 @@ WITH_FIRST_VERSION = half(b"/cf/lc_def_wdt.tbl", 1) + first_version(b"/cf/lc_def
 TO_FIRST_VERSION = [first_version(b"/cf/again.tbl"), *OLD_AGAIN[1:]]
 
 NAMES = [
+    Row("a command about a rule that only the later text has", COMPARE, {
+        **COMPARED,
+        "old": FIELDS + LOW,
+        "new": RULES,
+        "stream": b"".join(records_in(put_in(BUS_STREAM, 4, record(1, commanded(0x18A4, 3, b"\0\1\0\3"))))[:5]),
+    }, status=1, output=b"""\
+100.00000 record 5 (state 1 disabled: new HOT): only old: LC 9 error: command refused 153
+100.00000 record 5 (state 1 disabled: new HOT): only new: LC 8 information: command 3 done (state)
+old alone: 1; new alone: 1; both: 5
+"""),
+    Row("a command about a rule that neither text has", COMPARE, {
+        **COMPARED,
+        "old": FIELDS + LOW,
+        "new": FIELDS + LOW.replace(b"2400", b"2390"),
+        "stream": b"".join(records_in(put_in(BUS_STREAM, 4, record(1, commanded(0x18A4, 3, b"\0\1\0\3"))))[:5]),
+    }, output=b"old alone: 0; new alone: 0; both: 6\n"),
+    Row("a rule that turns at the tick right after the order by which a further text comes into force", [*COMPARE, "--with", "late"], {
+        "schedule": IN_THREE_SLOTS,
+        "stream": TURNS_AFTER_AN_ORDER,
+        "old": FIELDS + LOW.replace(b'"low volts"', b'"low volts" report 0 9 9'),
+        "new": FIELDS + LOW,
+        "late": LATE,
+    }, status=1, output=b"""\
+100.00000 record 17: only old: LC 5 information of LOW: pass to fail
+old alone: 1; new alone: 0; both: 16
+"""),
+    Row("tables of none of the given texts in the other run, which has no line there", COMPARE, {
+        "schedule": NO_SLOTS,
+        "stream": b"".join([beginning(), LOW_SAMPLE, *TO_FIRST_VERSION, 2 * LOW_SAMPLE]),
+        "old": b"# The same.\n" + FIRST_RULES,
+        "new": FIRST_RULES,
+    }, status=1, output=b"""\
+100.00000 record 11 (housekeeping): only new: LC 2 information: tables adopted
+100.00000 record 13 (sample 65535 65535 keep): only old: sequence 7 (LOW)
+100.00000 record 13 (sample 65535 65535 keep): only old: LC 1001 error of LOW: low volts, FailCount = 2, RTS = 7
+100.00000 record 15 (sample 65535 65535 keep): only new: sequence 7
+100.00000 record 15 (sample 65535 65535 keep): only new: LC 1001 error: low volts: AP = 0, FailCount = 2, RTS = 7
+old alone: 2; new alone: 3; both: 9
+"""),
     Row("a rule of one name that one text has disabled", COMPARE, {
         "schedule": NO_SLOTS,
         "stream": beginning() + OFF,

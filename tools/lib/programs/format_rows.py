@@ -67,7 +67,23 @@ text:2:9: error[11]: expected `=`, found the name `P`
 1 error
 """
 
+# A text of over 8,192 bytes, and as it is laid out; its last item is the one that isn't yet.
+LONG = b"".join(b"packet P%04d = mid 0x0883 length 16;\n" % number for number in range(1_500))
+LONG_LAST = b"packet LAST=mid 0x0883 length 16;"
+LONG_LAID_OUT = LONG + b"packet LAST  = mid 0x0883 length 16;\n"
+
 ROWS = [
+    Row("a long text of standard input", ["flight_tools", "format", "-"], reads=LONG + LONG_LAST, output=LONG_LAID_OUT),
+    Row("a long text of standard input differs at its end", ["flight_tools", "format", "--check", "-"], reads=LONG + LONG_LAST, status=1, output=b"-\n"),
+    Row("a long text of standard input that doesn't differ", ["flight_tools", "format", "--check", "-"], reads=LONG_LAID_OUT),
+    Row(
+        "a text that is too long of standard input",
+        ["flight_tools", "format", "-"],
+        reads=b"#" * 65_537,
+        status=1,
+        error=b"standard input: the text has over 65,536 bytes\n",
+    ),
+    Row("a text that differs before one that doesn't", ["flight_tools", "format", "--check", "one", "two"], {"one": WIDE, "two": LAID_OUT}, status=1, output=b"one\n"),
     Row("a text is formatted in place", ["flight_tools", "format", "text"], {"text": WIDE}, after={"text": LAID_OUT}),
     Row("a formatted text stays", ["flight_tools", "format", "text"], {"text": LAID_OUT}),
     Row("deep parentheses", ["flight_tools", "format", "text"], {"text": DEEP}, after={"text": DEEP_LAID_OUT}),

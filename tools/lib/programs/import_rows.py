@@ -1,7 +1,7 @@
 """`flight_tools import` and `export`: archives of space packets, whole and with every kind of damage, and the streams that they
 become."""
 
-from row import GONE, Has, Link, Row
+from row import GONE, Link, Row, Twin
 from tool_rows import BUS_STREAM, FULL, NOT_THERE
 
 MARKER = bytes([0x1A, 0xCF, 0xFC, 0x1D])
@@ -204,9 +204,99 @@ PLACES = [
     ),
 ]
 
+# An idle packet without a fault, one of the host's own, and an idle one without a secondary header.
+WHOLE_IDLE = telemetry(0, 150, mid=0x0FFF)
+MIXED = TEN[0] + WHOLE_IDLE + OWN + IDLE + TEN[1]
+# A second archive that begins with a command, whose time is that of the first one's last packet, and goes on at a later second.
+GOES_ON = COMMAND + telemetry(2, 104)
+
+SEVERAL = [
+    Row(
+        "an archive that is cut and a whole one after it",
+        [*IMPORT, "cut", "whole", "stream"],
+        {"cut": TEN[0] + TEN[1][:9], "whole": OTHER},
+        status=4,
+        output=counts("cut", 1) + line("cut", 16, "the last packet is cut, 9 bytes of it are there") + counts("whole", 1),
+        after={"stream": recorded(TEN[0], 100, 0x8000) + recorded(OTHER, 200)},
+    ),
+    Row(
+        "a whole archive and one that is cut after it",
+        [*IMPORT, "whole", "cut", "stream"],
+        {"cut": TEN[0] + TEN[1][:9], "whole": OTHER},
+        status=4,
+        output=counts("whole", 1) + counts("cut", 1) + line("cut", 16, "the last packet is cut, 9 bytes of it are there"),
+        after={"stream": recorded(OTHER, 200) + recorded(TEN[0], 100, 0x8000)},
+    ),
+    Row(
+        "idle packets are kept alone",
+        [*IMPORT, "--keep-idle", "raw", "stream"],
+        {"raw": MIXED},
+        output=counts("raw", 3, faulty=2)
+        + line("raw", 32, "a packet is left out: its message id is the host's own")
+        + line("raw", 48, "a packet is left out: it has no secondary header"),
+        after={"stream": recorded(TEN[0], 100, 0x8000) + recorded(WHOLE_IDLE, 150) + recorded(TEN[1], 101, 0x8000)},
+    ),
+    Row(
+        "packets with a fault are kept alone",
+        [*IMPORT, "--keep-faulty", "raw", "stream"],
+        {"raw": MIXED},
+        output=counts("raw", 3, idle=2),
+        after={"stream": recorded(TEN[0], 100, 0x8000) + recorded(OWN, 200) + recorded(TEN[1], 101, 0x8000)},
+    ),
+    Row(
+        "ticks and a command's time go on over two archives",
+        [*IMPORT, "--tick", "2", "first", "second", "stream"],
+        {"first": TEN[0] + TEN[1], "second": GOES_ON},
+        output=counts("first", 2) + counts("second", 2),
+        after={
+            "stream": recorded(TEN[0], 100, 0x8000)
+            + recorded(TEN[1], 101, 0x8000)
+            + recorded(COMMAND, 101, 0x8000)
+            + tick(102)
+            + tick(104)
+            + recorded(telemetry(2, 104), 104)
+        },
+    ),
+    Row(
+        "steps go on over two archives",
+        [*IMPORT, "--step", "0.75", "first", "second", "stream"],
+        {"first": TEN[0], "second": TEN[1] + TEN[2]},
+        output=counts("first", 1) + counts("second", 2),
+        after={"stream": recorded(TEN[0], 0, 0xC000) + recorded(TEN[1], 1, 0x8000) + recorded(TEN[2], 2, 0x4000)},
+    ),
+    *(
+        Row(
+            f"the message ids {ids}, of which one has over 16 bits",
+            [*IMPORT, "--only", ids, "raw", "stream"],
+            {"raw": PLAIN},
+            status=2,
+            error=f"--only {ids}: write message ids, as 0x0883,0x0884\n".encode(),
+        )
+        for ids in ("0x10883", "65536", "0x0883,0x10884")
+    ),
+    Row(
+        "the greatest message id alone",
+        [*IMPORT, "--only", "0xFFFF,65534,0x0883", "raw", "stream"],
+        {"raw": TEN[0] + OTHER},
+        output=counts("raw", 1, other=1),
+        after={"stream": recorded(TEN[0], 100, 0x8000)},
+    ),
+    Row("an archive in its stream's place", ["flight_tools", "export", "stream", "stream"], {"stream": STREAM}, status=3, error=b"cannot use stream: the same call reads it, or writes it twice\n"),
+    *(
+        Row(f"an archive under another name of its stream: {what}", ["flight_tools", "export", "stream", "other"], {"stream": STREAM, "other": other}, status=3,
+            error=b"cannot use other: the same call reads it, or writes it twice\n")
+        for what, other in (("a link", Link("stream")), ("a second name", Twin("stream")))
+    ),
+    Row("an archive to a full device", ["flight_tools", "export", "stream", "/dev/full"], {"stream": STREAM}, status=3, error=b"cannot use /dev/full: %s\n" % FULL),
+    Row("a long archive to a full device", ["flight_tools", "export", "stream", "/dev/full"], {"stream": MANY_STREAM}, status=3, error=b"cannot use /dev/full: %s\n" % FULL),
+    Row("an import to a full device", [*IMPORT, "raw", "/dev/full"], {"raw": PLAIN}, status=3, error=b"cannot use /dev/full: %s\n" % FULL),
+    Row("a long import to a full device", [*IMPORT, "raw", "/dev/full"], {"raw": MANY}, status=3, error=b"cannot use /dev/full: %s\n" % FULL),
+]
+
 ROWS = [
     *RESYNCED,
     *PLACES,
+    *SEVERAL,
     Row("an archive", [*IMPORT, "raw", "stream"], {"raw": PLAIN}, output=counts("raw", 10), after={"stream": STREAM}),
     Row(
         "two archives, one behind the other, over an old stream",

@@ -1,5 +1,6 @@
-"""`flight_tools packets`: the line of each kind of packet, byte by byte, and packets that are cut."""
+"""`flight_tools packets`: the line of each kind of packet, byte by byte, with names of rules, and packets that are cut."""
 
+from records import event
 from row import Row
 
 # How an event packet at second 100 and a half begins, its sender with what stands behind it, and its text.
@@ -48,6 +49,14 @@ EVENTS = [
         made(168, EVENT, (12, b"ABCDEFGHIJKLMNOPQRST"), numbered(1001, 1), (44, b"x" * 122)),
         b"1 100.50000 ABCDEFGHIJKLMNOPQRST 1001 debug: " + b"x" * 122 + b"\n",
     ),
+    *(
+        listed(f"an event packet of type {kind}", made(168, EVENT, LC, numbered(1001, kind), TEXT), b"1 100.50000 LC 1001 type %d: bus .1\n" % kind)
+        for kind in (0, 6, 77, 65_535)
+    ),
+    *(
+        listed(f"an event's text {text}", made(168, EVENT, LC, numbered(65_535, 1), (44, text)), b"1 100.50000 LC 65535 debug: %s\n" % said)
+        for text, said in ((b"\x07a", b".a"), (b"\x07", b"."), (b"a\x07", b"a."), (b"\xE2\x82\xAC~", b"...~"), (b"\xFFab\x80", b".ab."))
+    ),
     listed(
         "the ends of what is printed",
         made(168, EVENT, LC, numbered(1001, 1), (44, b"\x1F ~\x7F\x80\xFF")),
@@ -76,6 +85,15 @@ OTHERS = [
         made(22, (0, b"\x08\x83\xC0\0\0\x01\x01\x02"), (8, b"\x08\x08\xC0\0\0\0\x01"), (15, b"\x0F\xAB\xC0\0\0\0\x01")),
         b"1 - packet 0x0883 of 8 bytes\n2 - packet 0x0808 of 7 bytes\n3 - packet 0x0FAB of 7 bytes\n",
     ),
+    *(
+        listed(f"{what} of {size} bytes", made(size, (0, head), (4, (size - 7).to_bytes(2, "big"))), b"1 - packet 0x%04X of %d bytes\n" % (int.from_bytes(head[:2], "big"), size))
+        for what, head, sizes in (
+            ("housekeeping", b"\x08\xA7\xC0\0\0\0\0\0\0\x64\x80", (20, 191, 193)),
+            ("an event packet", b"\x08\x08\xC0\0\0\0\0\0\0\x64\x80", (12, 167, 169)),
+            ("a request", b"\x18\xA9\xC0\0\0\0\x04", (11, 13)),
+        )
+        for size in sizes
+    ),
     listed("no packets", b"", b""),
     cut("a byte that is no packet", b"\x18", b"", 0),
     cut("a packet without its last byte", REQUEST[:-1], b"", 0),
@@ -88,4 +106,98 @@ OTHERS = [
     ),
 ]
 
-ROWS = [*EVENTS, *OTHERS]
+# ---- names of rules
+
+
+def ruled(*names, event=1001, text=b"low volts"):
+    """A text with these rules, all with one event."""
+    rule = b'rule %s active fails 2 sequence 7 event error %d "%s" when V < %d;'
+    return b"packet P = mid 0x0883 length 16; field V = P u16be at 12; " + b" ".join(rule % (name, event, text, n) for n, name in enumerate(names, 1))
+
+
+def named(title, texts, packets, lines):
+    files = {f"rules{number}": text for number, text in enumerate(texts)}
+    words = [word for name in files for word in ("--rules", name)]
+    lines = b"".join(b"%d %s\n" % (number, line) for number, line in enumerate(lines, 1))
+    return Row(title, ["flight_tools", "packets", *words, "file"], {**files, "file": b"".join(packets)}, output=lines)
+
+
+def about(*events):
+    """Events of LC, each its number and its text."""
+    return [event(count, b"LC", number, 2, text) for count, (number, text) in enumerate(events)]
+
+
+# Numbers of rules at the ends of their digits; the last is none.
+PLACES = [0, 9, 10, 99, 100, 175, 176]
+
+NAMES = [
+    named(
+        "each kind of event about a rule, by its name",
+        [ruled(b"LOW", b"TWIN")],
+        about(
+            (3, b"actionpoint 0 failed, LC passive"),
+            (4, b"actionpoint 1 failed, passive"),
+            (5, b"actionpoint 0 pass to fail"),
+            (6, b"actionpoint 1 fail to pass"),
+            (7, b"actionpoint 1 fail to pass"),
+            (2, b"actionpoint 0 pass to fail"),
+            (3, b"actionpoint 2 failed, LC passive"),
+            (3, b"actionpoint"),
+            (4, b"actionpoint 1"),
+            (1001, b"low volts: AP = 0, FailCount = 2, RTS = 7"),
+            (1001, b"low volts: AP = 1, FailCount = 65535, RTS = 7"),
+            (1001, b"low volts: AP = 2, FailCount = 2, RTS = 7"),
+            (1002, b"low volts: AP = 1, FailCount = 2, RTS = 7"),
+            (1001, b"low volt: AP = 1, FailCount = 2, RTS = 7"),
+        ),
+        [
+            b"100.00000 LC 3 information of LOW: failed, LC passive",
+            b"100.00000 LC 4 information of TWIN: failed, passive",
+            b"100.00000 LC 5 information of LOW: pass to fail",
+            b"100.00000 LC 6 information of TWIN: fail to pass",
+            b"100.00000 LC 7 information: actionpoint 1 fail to pass",
+            b"100.00000 LC 2 information: actionpoint 0 pass to fail",
+            b"100.00000 LC 3 information: actionpoint 2 failed, LC passive",
+            b"100.00000 LC 3 information: actionpoint",
+            b"100.00000 LC 4 information: actionpoint 1",
+            b"100.00000 LC 1001 information of LOW: low volts, FailCount = 2, RTS = 7",
+            b"100.00000 LC 1001 information of TWIN: low volts, FailCount = 65535, RTS = 7",
+            b"100.00000 LC 1001 information: low volts: AP = 2, FailCount = 2, RTS = 7",
+            b"100.00000 LC 1002 information: low volts: AP = 1, FailCount = 2, RTS = 7",
+            b"100.00000 LC 1001 information: low volt: AP = 1, FailCount = 2, RTS = 7",
+        ],
+    ),
+    named(
+        "rules with numbers of one to three digits",
+        [ruled(*(b"R%d" % number for number in range(176)))],
+        about(
+            *((5, b"actionpoint %d pass to fail" % number) for number in PLACES),
+            *((1001, b"low volts: AP = %d, FailCount = 2, RTS = 7" % number) for number in PLACES),
+        ),
+        [
+            *(b"100.00000 LC 5 information of R%d: pass to fail" % number for number in PLACES[:-1]),
+            b"100.00000 LC 5 information: actionpoint 176 pass to fail",
+            *(b"100.00000 LC 1001 information of R%d: low volts, FailCount = 2, RTS = 7" % number for number in PLACES[:-1]),
+            b"100.00000 LC 1001 information: low volts: AP = 176, FailCount = 2, RTS = 7",
+        ],
+    ),
+    named(
+        "names of one length of two texts",
+        [ruled(b"LOW", b"ONE"), ruled(b"HOT", b"ONE", b"LAST")],
+        about((5, b"actionpoint 0 pass to fail"), (6, b"actionpoint 1 fail to pass"), (4, b"actionpoint 2 failed, passive"), (1001, b"low volts: AP = 0, FailCount = 2, RTS = 7")),
+        [
+            b"100.00000 LC 5 information: actionpoint 0 pass to fail",
+            b"100.00000 LC 6 information of 0:ONE: fail to pass",
+            b"100.00000 LC 4 information of 1:LAST: failed, passive",
+            b"100.00000 LC 1001 information: low volts: AP = 0, FailCount = 2, RTS = 7",
+        ],
+    ),
+    named(
+        "three texts, of which the last gives a rule another name",
+        [ruled(b"LOW"), ruled(b"LOW"), ruled(b"LOT")],
+        [*about((5, b"actionpoint 0 pass to fail")), REQUEST],
+        [b"100.00000 LC 5 information: actionpoint 0 pass to fail", b"- sequence request 7, count 0 (0:LOW, 1:LOW, 2:LOT)"],
+    ),
+]
+
+ROWS = [*EVENTS, *OTHERS, *NAMES]

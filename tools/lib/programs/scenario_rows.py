@@ -94,8 +94,37 @@ field LOAD = PWR u16le at 14 mask 0x0FF0;
 field WHOLE = PWR u32be at 12;
 """
 TOCK = b"repeat 3 {\ntick\n}\ntock\n"
+WIDE_RAMP = b"tick\nramp WHOLE 0 200000 by 1 each 1\n"
+NESTED = 40
+
+# Requests to sample that are too short to name rules, and the shortest that does.
+SHORT_SAMPLES = [command(0, 0x18A6, 0, b"\0\0\0\xAF\0\1\0\0"[:size]) for size in range(9)]
+
+LIKES = [
+    says("repetitions within repetitions", b"repeat 1 {\n" * NESTED + b"tick\nafter 1\n" + b"}\n" * NESTED + b"tick\n", tick(0) + tick(1)),
+    says("twice within twice, ten times", b"repeat 2 {\n" * 10 + b"tick\n" + b"}\n" * 10, 1_024 * tick(0)),
+    says("the greatest and the least values", b"""\
+BUS VOLTS=65535 DEGREES=-32768
+BUS VOLTS=0xFFFF DEGREES=32767
+BUS VOLTS=0x0000FFFF DEGREES=-1
+ramp VOLTS 65534 65535 by 4294967295 each 0
+ramp DEGREES -32768 -32767 by 0x1 each 0x0 tick
+""", bus(0, 0, 65535, -32768) + bus(0, 1, 65535, 32767) + bus(0, 2, 65535, -1) + bus(0, 3, 65534, -1) + bus(0, 4, 65534, -32768) + tick(0)
+        + bus(0, 5, 65534, -32767) + tick(0)),
+    Row(
+        "a ramp of too many values",
+        SCENARIO,
+        {"rules": MASKED, "script": WIDE_RAMP},
+        status=1,
+        error=told(WIDE_RAMP, 2, 169, b"the script has over 1,000,000 lines", b"up to here it has so many").replace(b"^" * 31, b"^" * 4),
+    ),
+    listed("requests to sample that are too short", [], b"".join(
+        b"%d 0 0 packet 18a6 LC sample code 0 %d bytes\n" % (size + 1, size + 8) for size in range(8)
+    ) + b"9 0 0 packet 18a6: sample 0 175 age\n", SHORT_SAMPLES),
+]
 
 ROWS = [
+    *LIKES,
     says("fields by name keep their values", b"""\
 at 5 0
 BUS VOLTS=2750 DEGREES=-3  # both

@@ -34,7 +34,79 @@ def stream(title, stream, words, output, **others):
     return Row(title, ["flight_tools", "stream", *words, "file"], {"file": stream}, output=output, **others)
 
 
+# A sequence request with the greatest count, and one with the first of 14 bits.
+REQUESTS = b"".join(bytes([0x18, 0xA9]) + (0xC000 | count).to_bytes(2, "big") + bytes([0, 5, 4, 0x88, 0, 7, 0, 0]) for count in (8_191, 8_192, 16_383))
+
+# Packets with a text, a time and a sender, each with one after it that has less of these.
+FULLER = EVENT + REQUESTS[:12] + HOUSEKEEPING + b"\x08\x83\xC0\x02\0\0\x07" + EVENT + HOUSEKEEPING + REQUESTS[12:24]
+LATE_HOUSEKEEPING = HOUSEKEEPING[:6] + bytes([0, 0, 0, 7, 0x80, 0]) + HOUSEKEEPING[12:]
+LAST_PART = bytes([0, 0, 0, 100, 0xFF, 0xFF])
+ALL_RULES = bytes([0x08, 0xA7, 0xC0, 0, 0, 185]) + LAST_PART + bytes([0, 3, 0, 176]) + bytes([0x12, 0x23, 0x34, 0x41] * 44)
+OF_ALL_RULES = "disabled, 176 rules: " + ", ".join(f"{n} {('active fail', 'passive stale', 'disabled error', 'off pass')[n % 4]}" for n in range(176))
+LONGEST = b"\x08\x83\xC0\0\xFF\xFF" + bytes(65_536)
+MANY = 70_000
+SHORT = b"\x08\x83\xC0\0\0\0\x07"
+
+
+def with_two_epochs(title, rows, output):
+    """The same packets with an instant of second 0 and without one: the column of UTC is empty then."""
+    utc = b"2000-01-01T12:01:45.00000Z"
+    later = b"2000-01-01T12:01:42.00000Z"
+    return [
+        packets(f"{title}, in UTC", rows, ["--csv", "--epoch", EPOCH], NAMES + output),
+        packets(title, rows, ["--csv"], NAMES + output.replace(utc, b"").replace(later, b"")),
+    ]
+
+
+LIKES = [
+    packets("the greatest counts as values", REQUESTS, ["--csv"], NAMES + b"".join(
+        b'%d,,,request,,,,,7,%d,0x18A9,12,"sequence request 7, count %d"\n' % (number, count, count) for number, count in enumerate((8_191, 8_192, 16_383), 1)
+    )),
+    packets("the greatest counts as objects", REQUESTS, ["--json"], b"".join(
+        b'{"count":%d,"id":null,"kind":"request","level":null,"message_id":"0x18A9","number":%d,"says":"sequence request 7, count %d","sender":null,'
+        b'"sequence":7,"size":12,"text":null,"time":null,"utc":null}\n' % (count, number, count) for number, count in enumerate((8_191, 8_192, 16_383), 1)
+    )),
+    packets("housekeeping at half a second", LATE_HOUSEKEEPING, ["--csv", "--epoch", EPOCH], NAMES + b"""\
+1,7.50000,2000-01-01T12:00:07.50000Z,housekeeping,LC,,,"active, 2 rules: 0 active pass, 1 active pass",,0,0x08A7,192,\
+"LC housekeeping: active, 2 rules: 0 active pass, 1 active pass"
+"""),
+    packets("an event at the last part of a second", EVENT[:6] + LAST_PART + EVENT[12:], ["--csv", "--epoch", EPOCH], NAMES + b"""\
+1,100.99998,2000-01-01T12:01:40.99998Z,event,LC,1001,error,"low volts: AP = 0, FailCount = 2, RTS = 7",,5,0x0808,168,"LC 1001 error: low volts: AP = 0, FailCount = 2, RTS = 7"
+"""),
+    packets("housekeeping of all rules at the last part of a second, as an object", ALL_RULES, ["--json", "--epoch", EPOCH], (
+        '{"count":0,"id":null,"kind":"housekeeping","level":null,"message_id":"0x08A7","number":1,'
+        f'"says":"LC housekeeping: {OF_ALL_RULES}","sender":"LC","sequence":null,"size":192,"text":"{OF_ALL_RULES}",'
+        '"time":"100.99998","utc":"2000-01-01T12:01:40.99998Z"}\n'
+    ).encode()),
+    stream("a tick at the last part of a second", TICK[:5] + b"\xFF\xFF" + TICK[7:], ["--csv", "--epoch", EPOCH], RECORD_NAMES + b"1,100.99998,2000-01-01T12:01:40.99998Z,tick,,11\n"),
+    *with_two_epochs("packets with less after packets with more", FULLER, b"""\
+1,105.00000,2000-01-01T12:01:45.00000Z,event,LC,1001,error,"low volts: AP = 0, FailCount = 2, RTS = 7",,5,0x0808,168,"LC 1001 error: low volts: AP = 0, FailCount = 2, RTS = 7"
+2,,,request,,,,,7,8191,0x18A9,12,"sequence request 7, count 8191"
+3,102.00000,2000-01-01T12:01:42.00000Z,housekeeping,LC,,,"active, 2 rules: 0 active pass, 1 active pass",,0,0x08A7,192,\
+"LC housekeeping: active, 2 rules: 0 active pass, 1 active pass"
+4,,,other,,,,,,2,0x0883,7,packet 0x0883 of 7 bytes
+5,105.00000,2000-01-01T12:01:45.00000Z,event,LC,1001,error,"low volts: AP = 0, FailCount = 2, RTS = 7",,5,0x0808,168,"LC 1001 error: low volts: AP = 0, FailCount = 2, RTS = 7"
+6,102.00000,2000-01-01T12:01:42.00000Z,housekeeping,LC,,,"active, 2 rules: 0 active pass, 1 active pass",,0,0x08A7,192,\
+"LC housekeeping: active, 2 rules: 0 active pass, 1 active pass"
+7,,,request,,,,,7,8192,0x18A9,12,"sequence request 7, count 8192"
+"""),
+    packets("packets with less after packets with more, as objects", FULLER[: 168 + 12], ["--json", "--epoch", EPOCH], b"""\
+{"count":5,"id":1001,"kind":"event","level":"error","message_id":"0x0808","number":1,\
+"says":"LC 1001 error: low volts: AP = 0, FailCount = 2, RTS = 7","sender":"LC","sequence":null,\
+"size":168,"text":"low volts: AP = 0, FailCount = 2, RTS = 7","time":"105.00000","utc":"2000-01-01T12:01:45.00000Z"}
+{"count":8191,"id":null,"kind":"request","level":null,"message_id":"0x18A9","number":2,"says":"sequence request 7, count 8191","sender":null,\
+"sequence":7,"size":12,"text":null,"time":null,"utc":null}
+"""),
+    packets("the longest packet as values", LONGEST, ["--csv"], NAMES + b"1,,,other,,,,,,0,0x0883,65542,packet 0x0883 of 65542 bytes\n"),
+    packets("many packets as values", MANY * SHORT, ["--csv"], NAMES + b"".join(
+        b"%d,,,other,,,,,,0,0x0883,7,packet 0x0883 of 7 bytes\n" % number for number in range(1, MANY + 1)
+    )),
+    stream("the longest record as values", bytes([3]) + TICK[1:7] + (65_536).to_bytes(4, "big") + b"w".ljust(65_536, b"\0"), ["--csv"], RECORD_NAMES + b"1,100.50000,,file,w 65496 bytes,65547\n"),
+    stream("many records as values", MANY * TICK, ["--csv"], RECORD_NAMES + b"".join(b"%d,100.50000,,tick,,11\n" % number for number in range(1, MANY + 1))),
+]
+
 ROWS = [
+    *LIKES,
     packets("requests as values, and a byte behind them", PACKETS, ["--csv"], NAMES + b"""\
 1,,,request,,,,,7,0,0x18A9,12,"sequence request 7, count 0"
 2,,,request,,,,,7,0,0x18A9,12,"sequence request 7, count 0"
