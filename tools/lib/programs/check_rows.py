@@ -99,15 +99,15 @@ def counted_in_json(count):
     return Row(f"{count} warnings in JSON", ["flight_tools", "check", "--json", "rules"], {"rules": text}, output=b"".join(objects))
 
 
-# Whether the second rule fails wherever the first does is not found out within 16,384 choices: it does, since both have `F12 < 1`, but
+# Whether the second rule fails wherever the first does is not found out within 16,384 choices: it does, since both have `WORD12 < 1`, but
 # that field comes last, after pairs of others.
-PAIRS = " xor ".join(f"F{n} < 1 and F{6 + n} < 1" for n in range(6))
-OTHER_PAIRS = " xor ".join(f"F{n} < 2 and F{6 + (n + 1) % 6} < 2" for n in range(6))
+PAIRS = " xor ".join(f"WORD{n} < 1 and WORD{6 + n} < 1" for n in range(6))
+OTHER_PAIRS = " xor ".join(f"WORD{n} < 2 and WORD{6 + (n + 1) % 6} < 2" for n in range(6))
 HARD = (
     "packet P = mid 0x0883 length 99; "
-    + " ".join(f"field F{n} = P u16be at {12 + 2 * n};" for n in range(13))
-    + f' rule A active fails 1 sequence 1 event info 1000 "" when ({PAIRS}) and F12 < 1 and (F0 < 9 or F1 < 9 or F2 < 9);'
-    + f' rule B active fails 1 sequence 2 event info 1000 "" when ({OTHER_PAIRS}) or F12 < 1 or F3 > 9 and F4 > 9 and F5 > 9;'
+    + " ".join(f"field WORD{n} = P u16be at {12 + 2 * n};" for n in range(13))
+    + f' rule A active fails 1 sequence 1 event info 1000 "" when ({PAIRS}) and WORD12 < 1 and (WORD0 < 9 or WORD1 < 9 or WORD2 < 9);'
+    + f' rule B active fails 1 sequence 2 event info 1000 "" when ({OTHER_PAIRS}) or WORD12 < 1 or WORD3 > 9 and WORD4 > 9 and WORD5 > 9;'
 ).encode()
 UNDECIDED = b"1 pair of rules was not looked at to the end\n"
 
