@@ -111,7 +111,7 @@ def fill(database, campaign):
 
 def opened(file):
     """A table that is only read."""
-    return sqlite3.connect(f"file:{urllib.parse.quote(file)}?mode=ro", uri=True)
+    return sqlite3.connect(f"file:{urllib.parse.quote(os.fsencode(file))}?mode=ro", uri=True)
 
 
 def dump(file):
