@@ -5,7 +5,7 @@ import shutil
 import subprocess
 
 from archives import kit, library_words
-from edits import FUNCTION, Bad, Edit, function_at
+from edits import FUNCTION, Bad, Edit, function_at, head_above
 from repository import ROOT
 
 # The head of an impl or a trait, whose methods the prover names by the type and then by the trait.
@@ -92,22 +92,30 @@ class Said:
                 self.note(plain(found[1].split("::")), goal)
 
 
-def path_of(function, text_of):
+def path_of(function, text_of, edit):
     """The end of the path by which the prover knows a function that an edit names by module and name. A method's is its type, which may
-    be of another module, and its name. Where it is not the one of its name in the module, the whole module."""
+    be of another module, and its name. It is the one of its name that the edit changes, or else that its module has; where that is not
+    one, the whole module."""
     module, _, name = function.rpartition("::")
-    lines = text_of(f"src/{module.replace('::', '/') or 'lib'}.rt").split("\n")
-    places = [at for at, line in enumerate(lines) if (found := FUNCTION.match(line)) and found[1] == name]
-    if len(places) != 1:
+    changed = [(path, text.split("\n"), line) for path, text, line in edit.places(text_of)]
+    heads = {(path, head_above(lines, line)) for path, lines, line in changed if function_at(path, "\n".join(lines), line) == function}
+    if not heads and module:
+        path = f"src/{module.replace('::', '/')}.rt"
+        heads = {(path, at) for at, line in enumerate(text_of(path).split("\n")) if (found := FUNCTION.match(line)) and found[1] == name}
+    if not heads:
+        heads = {(path, head_above(lines, line)) for path, lines, line in changed if (function_at(path, "\n".join(lines), line) or "").split("::")[-1] == name}
+    if len(heads) != 1:
         return module
-    own = len(lines[places[0]]) - len(lines[places[0]].lstrip())
+    path, head = heads.pop()
+    lines = text_of(path).split("\n")
+    own = len(lines[head]) - len(lines[head].lstrip())
     if own == 0:
         return function
-    for line in reversed(lines[: places[0]]):
+    for line in reversed(lines[:head]):
         if line.strip() and len(line) - len(line.lstrip()) < own:
-            head = HEAD.match(line)
-            if head:
-                return f"{head['trait'] or head['type'] + (head['of'] or '')}::{name}"
+            found = HEAD.match(line)
+            if found:
+                return f"{found['trait'] or found['type'] + (found['of'] or '')}::{name}"
     return module
 
 
@@ -157,11 +165,7 @@ class Trial:
 
     def is_far_reaching(self, edit):
         """Whether it changes more outside functions than what a file uses: functions of other files may depend on that."""
-        outside = []
-        for path, old, _ in edit.pairs:
-            text = self.text_of(path)
-            if function_at(path, text, text[: text.find(old)].count("\n")) is None:
-                outside.append(old.strip())
+        outside = [old.strip() for (_, old, _), place in zip(edit.pairs, edit.places(self.text_of)) if function_at(*place) is None]
         return any(not old.startswith(("use ", "ghost use ")) for old in outside)
 
     def groups(self, edits):
@@ -254,7 +258,7 @@ class TrialOverLibraries(Trial):
     def looked_at(self, edit):
         """The functions of an edit, by the prover's paths; none where an example must be refused: then all is checked."""
         wanted = [edit.refused_by[0]] if edit.refused_by else sorted(edit.functions(self.text_of) - {None})
-        return [path_of(it, self.text_of) for it in wanted if not it.startswith("proofs::")]
+        return [path_of(it, self.text_of, edit) for it in wanted if not it.startswith("proofs::")]
 
     def words(self, edits, looked_at):
         # (what the first check keeps of definitions and proofs, the others take over)

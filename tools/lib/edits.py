@@ -33,17 +33,22 @@ def module_of(path):
     return "" if inner in ("lib", "main") else inner
 
 
+def head_above(lines, line):
+    """The line (from 0) with the head of the function in which a line of a source stands, or None outside all functions."""
+    inside = max(len(lines[line]) - len(lines[line].lstrip()), 1)
+    for number in range(line, -1, -1):
+        if FUNCTION.match(lines[number]) and (number == line or len(lines[number]) - len(lines[number].lstrip()) < inside):
+            return number
+    return None
+
+
 def function_at(path, text, line):
     """The function in which a line (from 0) of a source stands, with its module, or None outside all functions."""
     if not path.startswith("src/"):
         return None
     lines = text.split("\n")
-    inside = max(len(lines[line]) - len(lines[line].lstrip()), 1)
-    for number in range(line, -1, -1):
-        found = FUNCTION.match(lines[number])
-        if found and (number == line or len(lines[number]) - len(lines[number].lstrip()) < inside):
-            return "::".join(filter(None, (module_of(path), found[1])))
-    return None
+    head = head_above(lines, line)
+    return None if head is None else "::".join(filter(None, (module_of(path), FUNCTION.match(lines[head])[1])))
 
 
 class Edit:
@@ -88,13 +93,15 @@ class Edit:
             made[path] = text.replace(old, new)
         return made
 
-    def functions(self, texts):
-        """The functions that it changes; None among them for what stands outside all functions."""
-        found = set()
+    def places(self, texts):
+        """Where it changes a text: by pair the file, its text and the line (from 0)."""
         for path, old, _ in self.pairs:
             text = texts(path)
-            found.add(function_at(path, text, text[: text.find(old)].count("\n")))
-        return found
+            yield path, text, text[: text.find(old)].count("\n")
+
+    def functions(self, texts):
+        """The functions that it changes; None among them for what stands outside all functions."""
+        return {function_at(*place) for place in self.places(texts)}
 
 
 def edits_of(crate, root=ROOT, folders=FOLDERS):
