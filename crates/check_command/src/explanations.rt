@@ -163,7 +163,7 @@ pub const REFUSALS: [Explanation; 25] = [
         at: "",
         meaning: "over 65,536 bytes, whatever they are",
         example: "65,537 blanks",
-        said: "the file has 65,537 bytes, at most 65,536 are allowed",
+        said: "the file is too long: at most 65,536 bytes are allowed",
         advice: "did you mean `5`?",
     },
     Explanation {

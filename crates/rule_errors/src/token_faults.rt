@@ -294,11 +294,13 @@ fn is_line_end(text: &[u8], at: usize) -> bool
     }
 }
 
-fn long_text(alloc: Global, text: &[u8]) -> Result<Message, AllocError>
+fn long_text(alloc: Global) -> Result<Message, AllocError>
     ensures { IfOk result (λ message. (message.code ≡ 5) × (first_place message ≡ None)) }
 {
-    let count = Many(text.len(), "byte");
-    let head = format!(in alloc; "the file has {count}, at most 65,536 are allowed")?;
+    let head = String::from_str(
+        alloc,
+        "the file is too long: at most 65,536 bytes are allowed",
+    )?;
     Ok(Message {
         code: 5,
         warning: None,
@@ -342,7 +344,7 @@ fn describe_fault(
         LexReason::Unclosed { at } => unclosed_string(alloc, text, at),
         LexReason::StringTooLong { at } => long_string(alloc, text, at),
         LexReason::ForbiddenByte { at } => forbidden_or_unclosed(alloc, text, at, begin),
-        LexReason::TextTooLong => long_text(alloc, text),
+        LexReason::TextTooLong => long_text(alloc),
         LexReason::Memory => Err(AllocError),
     }
 }

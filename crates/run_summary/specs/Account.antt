@@ -255,8 +255,8 @@ abbrev pub before_with : List Stand → ℕ → List Stand → List Stand
 before_with stands rule [] = []
 before_with stands rule (before ∷ more) = stand_at rule stands ∷ before_with stands (rule + 1) more
 
--- the tables in force: a change that no packet reported is told now. An adoption of the text that was in force before, whose event 2 a
--- filter holds back, isn't seen.
+-- the tables in force: a change that no packet reported is told now. An adoption of the text that is in force, or of none where none is,
+-- isn't seen where a filter holds back its event 2.
 abbrev pub left_by : Option How → Place → Account → Account
 left_by None place a = record a { bands = begun place a.bands }
 left_by (Some how) place a = enforced_so place how a

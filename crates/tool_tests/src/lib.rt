@@ -12,3 +12,5 @@ mod pages;
 mod results;
 #[cfg(test)]
 mod scripts;
+#[cfg(test)]
+mod warnings;

@@ -111,7 +111,7 @@ def of_length(length):
     def faults(programs):
         status, error, published = talk(programs, " " * length, [])
         found = (status, error, [it["message"].split("\n")[0] for it in published])
-        expected = (0, b"", [f"the file has {length:,} bytes, at most 65,536 are allowed"])
+        expected = (0, b"", ["the file is too long: at most 65,536 bytes are allowed"])
         return [] if found == expected else [f"it was {found} and should be {expected}"]
 
     return faults

@@ -116,7 +116,7 @@ ramp DEGREES -32768 -32767 by 0x1 each 0x0 tick
         SCENARIO,
         {"rules": MASKED, "script": WIDE_RAMP},
         status=1,
-        error=told(WIDE_RAMP, 2, 169, b"the script has over 1,000,000 lines", b"up to here it has so many").replace(b"^" * 31, b"^" * 4),
+        error=told(WIDE_RAMP, 2, 169, b"the ramp has over 100,000 values, or the script over 1,000,000 lines", b"write a greater step").replace(b"^" * 31, b"^" * 4),
     ),
     listed("requests to sample that are too short", [], b"".join(
         b"%d 0 0 packet 18a6 LC sample code 0 %d bytes\n" % (size + 1, size + 8) for size in range(8)
