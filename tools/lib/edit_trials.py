@@ -45,7 +45,7 @@ class Said:
         self.is_uncompiled = bool(re.search(r"\berror\[[\w-]+\]", text))
         self.is_uncovered = "ahead of the check: " in text
         self.is_limit = status == 3 or bool(re.search(r"antt ran out of|outgrew the memory limit|stopped at the step limit", text))
-        self.clauses, self.named = {}, set()
+        self.clauses, self.named, self.uncompiled = {}, set(), {}
         for line in text.split("\n"):
             self.read(line, text_of)
 
@@ -79,6 +79,11 @@ class Said:
             above = text_of(f"{found[1]}.antt").split("\n")[: int(found[2])]
             names = [it[1] for it in (re.match(r"(?:pub )?([a-z]\w*) :", text) for text in above) if it]
             self.note(found[1].replace("/", "::"), f"example {names[-1]}" if names else "example")
+            return
+        found = re.match(r"(src/\S+?):(\d+):\d+: error\[[\w-]+\]", line)
+        if found:
+            function = function_at(found[1], text_of(found[1]), int(found[2]) - 1)
+            self.uncompiled.setdefault(function, line[:160])
             return
         found = re.match(r"(?:note: )?(src/\S+?):(\d+):\d+: .*?\(`([^`]+)`\)", line)
         if found:
@@ -220,28 +225,33 @@ class Trial:
         return False, function, "not judged: " + " / ".join(said.text.strip().split("\n")[-3:])[:300]
 
     def rows(self, paths, has_control=True):
-        """A row of each of these edits: its name, whether it is refused as it says, the function, and by what."""
-        edits, bad = [], []
+        """A row of each of these edits, in their order: its name, whether it is refused as it says, the function, and by what."""
+        edits, rows = [], {}
         for path in paths:
             try:
                 edit = Edit(self.crate, path)
                 edit.applied(self.text_of)
                 edits.append(edit)
             except Bad as error:
-                bad.append((os.path.basename(path).removesuffix(".edit"), False, "", str(error)))
-        if not edits:
-            return bad
-        if has_control and not self.check([], edits).is_proved:
-            return [(it.name, False, "", "it is not proved without an edit") for it in edits] + bad
-        judged = {}
-        for group in self.groups(edits):
-            said = self.check(group, group)
-            for edit in group:
-                row = self.judge(edit, said, group)
-                if row is None:
-                    row = self.judge(edit, self.check([edit], [edit]), [edit])
-                judged[edit.name] = row
-        return [(it.name, *judged[it.name]) for it in edits] + bad
+                rows[path] = (os.path.basename(path).removesuffix(".edit"), False, "", str(error))
+        if edits and has_control and not self.check([], edits).is_proved:
+            rows.update({it.path: (it.name, False, "", "it is not proved without an edit") for it in edits})
+        else:
+            rows.update({edit.path: (edit.name, *row) for group in self.groups(edits) for edit, row in self.judged(group)})
+        return [rows[path] for path in paths]
+
+    def judged(self, group):
+        """The row of each edit of a group. Those whose functions do not compile are told so, and the others are checked without them."""
+        said = self.check(group, group)
+        broken = [(edit, it) for edit in group if len(group) > 1 for it in sorted(edit.functions(self.text_of) & said.uncompiled.keys() - {None})[:1]]
+        for edit, function in broken:
+            yield edit, (False, function, f"it does not compile: {said.uncompiled[function]}")
+        rest = [it for it in group if it not in [edit for edit, _ in broken]]
+        if broken:
+            yield from self.judged(rest) if rest else []
+            return
+        for edit in rest:
+            yield edit, self.judge(edit, said, group) or self.judge(edit, self.check([edit], [edit]), [edit])
 
 
 class TrialOverLibraries(Trial):
