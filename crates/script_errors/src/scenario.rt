@@ -54,7 +54,7 @@ fn whole_said(alloc: Global, line: &[u8], reason: Reason) -> Result<LineMessage,
     let (head, advice) = match reason {
         Reason::Unended => ("`repeat` has no `}`", "a line `}` ends what is repeated"),
         Reason::Unbegun => ("`}` ends no `repeat`", "leave it out"),
-        Reason::TooLong if verb.text == b"ramp" => (
+        Reason::TooLong if verb.text == b"ramp".as_slice() => (
             "the ramp has over 100,000 values, or the script over 1,000,000 lines",
             "write a greater step",
         ),
