@@ -131,7 +131,7 @@ const EXPLANATIONS: &[(Stage, &str, &str)] = &[
         "An event of LC with this number comes, or after `HOST` one of the host's own; without a number, any.",
     ),
     (
-        Stage::Span,
+        Stage::LastSpan,
         ".. from S, .. at S, .. by S, .. until S",
         "From second S on; in S; up to S; before S; else in the whole run. `from` goes with one of the last two.",
     ),
@@ -149,7 +149,11 @@ const EXPLANATIONS: &[(Stage, &str, &str)] = &[
 
 /// What is said of the statement at a stage.
 pub(crate) fn explanation_of(stage: Stage) -> Option<Explanation> {
-    let row = EXPLANATIONS.iter().find(|row| row.0 == stage)?;
+    let named = match stage {
+        Stage::From | Stage::Until => Stage::LastSpan,
+        stage => stage,
+    };
+    let row = EXPLANATIONS.iter().find(|row| row.0 == named)?;
     Some(Explanation {
         form: row.1,
         says: row.2,

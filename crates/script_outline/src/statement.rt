@@ -62,8 +62,18 @@ pub(crate) enum Stage {
     NoEvent,
     /// What may come, maybe with its number.
     Coming,
-    /// A word for a span, without its second.
-    Span,
+    /// What may come, without its span.
+    Spans,
+    /// A span that lacks its first second.
+    From,
+    /// A span with its first second, after which its end may come.
+    FromSecond,
+    /// A span that lacks its end.
+    Until,
+    /// A span with its end, after which its first second may come.
+    UntilSecond,
+    /// A span that lacks one second alone.
+    LastSpan,
     ExpectState,
     ExpectResult,
     ResultWord,
@@ -107,7 +117,11 @@ const APPLICATIONS: WordList = &[b"LC", b"SCH", b"COUNTER"];
 
 const STATES: WordList = &[b"active", b"passive", b"disabled", b"off"];
 
-const SPANS: WordList = &[b"from", b"at", b"by", b"until"];
+const FROM: WordPart = WordPart::Keyword(&[b"from"]);
+
+const AT: WordPart = WordPart::Keyword(&[b"at"]);
+
+const UNTIL: WordPart = WordPart::Keyword(&[b"by", b"until"]);
 
 /// All steps. The last one of a stage is taken for a word that none fits.
 pub(crate) const STEPS: &[Step] = &[
@@ -276,11 +290,7 @@ pub(crate) const STEPS: &[Step] = &[
         WordPart::Constant(&[b"active", b"passive", b"disabled"]),
         Stage::End,
     ),
-    (
-        Stage::State,
-        WordPart::Constant(&[b"all"]),
-        Stage::StateWord,
-    ),
+    (Stage::State, WordPart::Constant(&[b"all"]), Stage::Mode),
     (Stage::State, WordPart::Number, Stage::StateWord),
     (Stage::State, WordPart::Rule, Stage::StateWord),
     (Stage::StateWord, WordPart::Constant(STATES), Stage::End),
@@ -323,16 +333,31 @@ pub(crate) const STEPS: &[Step] = &[
         WordPart::Constant(&[b"HOST"]),
         Stage::Coming,
     ),
-    (Stage::NoEvent, WordPart::Keyword(SPANS), Stage::Span),
-    (Stage::NoEvent, WordPart::Number, Stage::Coming),
+    (Stage::NoEvent, FROM, Stage::From),
+    (Stage::NoEvent, AT, Stage::LastSpan),
+    (Stage::NoEvent, UNTIL, Stage::Until),
+    (Stage::NoEvent, WordPart::Number, Stage::Spans),
     (Stage::Event, WordPart::Constant(&[b"HOST"]), Stage::Coming),
-    (Stage::Event, WordPart::Keyword(SPANS), Stage::Span),
-    (Stage::Event, WordPart::Number, Stage::Coming),
-    (Stage::Sequence, WordPart::Keyword(SPANS), Stage::Span),
-    (Stage::Sequence, WordPart::Number, Stage::Coming),
-    (Stage::Coming, WordPart::Number, Stage::Coming),
-    (Stage::Coming, WordPart::Keyword(SPANS), Stage::Span),
-    (Stage::Span, WordPart::Number, Stage::Coming),
+    (Stage::Event, FROM, Stage::From),
+    (Stage::Event, AT, Stage::LastSpan),
+    (Stage::Event, UNTIL, Stage::Until),
+    (Stage::Event, WordPart::Number, Stage::Spans),
+    (Stage::Sequence, FROM, Stage::From),
+    (Stage::Sequence, AT, Stage::LastSpan),
+    (Stage::Sequence, UNTIL, Stage::Until),
+    (Stage::Sequence, WordPart::Number, Stage::Spans),
+    (Stage::Coming, FROM, Stage::From),
+    (Stage::Coming, AT, Stage::LastSpan),
+    (Stage::Coming, UNTIL, Stage::Until),
+    (Stage::Coming, WordPart::Number, Stage::Spans),
+    (Stage::Spans, FROM, Stage::From),
+    (Stage::Spans, AT, Stage::LastSpan),
+    (Stage::Spans, UNTIL, Stage::Until),
+    (Stage::From, WordPart::Number, Stage::FromSecond),
+    (Stage::FromSecond, UNTIL, Stage::LastSpan),
+    (Stage::Until, WordPart::Number, Stage::UntilSecond),
+    (Stage::UntilSecond, FROM, Stage::LastSpan),
+    (Stage::LastSpan, WordPart::Number, Stage::End),
     (Stage::ExpectState, WordPart::Rule, Stage::StateWord),
     (Stage::ExpectResult, WordPart::Rule, Stage::ResultWord),
     (

@@ -16,18 +16,19 @@ entry := "sample" NUM NUM ages | "housekeeping"
 scenario := "at" NUM NUM | "after" NUM | "fields" HEX NUM NUM { TYPE NUM NUM } | "telemetry" HEX NUM HEX | "command" HEX NUM HEX
   | "tick" | "sample" NUM NUM ages | "housekeeping" | order APPLICATION | "load" NAME | upload TABLE | half NUM NAME | "file" NAME HEX
   | "packet" HEX | "record" NUM NUM kind HEX | "ramp" FIELD NUM NUM "by" NUM "each" NUM [ "tick" ] | "repeat" NUM "{" | "}"
-  | "mode" mode | "state" subject state | "filter" APPLICATION NUM NUM | "expect" expected | PACKET { VALUE }
+  | "mode" mode | "state" "all" mode | "state" subject state | "filter" APPLICATION NUM NUM | "expect" expected | PACKET { VALUE }
 ages := "age" | "keep"
 order := "start" | "stop" | "restart" | "reload"
 upload := "validate" | "activate" | "abort"
 half := "wdt" | "adt"
 kind := "packet" | "tick" | "file" | "half"
 mode := "active" | "passive" | "disabled"
-subject := "all" | NUM | RULE
+subject := NUM | RULE
 state := mode | "off"
 expected := coming | "no" coming | "state" RULE state | "result" RULE result
-coming := "sequence" [ NUM ] { span NUM } | "event" [ "HOST" ] [ NUM ] { span NUM }
-span := "from" | "at" | "by" | "until"
+coming := "sequence" [ NUM ] [ span ] | "event" [ "HOST" ] [ NUM ] [ span ]
+span := "from" NUM [ end NUM ] | "at" NUM | end NUM [ "from" NUM ]
+end := "by" | "until"
 result := "none" | "pass" | "fail" | "stale" | "error"
 """
 CONSTANTS = "age keep active passive disabled off all HOST none pass fail stale error".split()
