@@ -109,6 +109,7 @@ static void spoil_text(void)
     CHECK(25, is_refusal_of_text(code) && told.sentence.length > 0);
     CHECK(26, is_filled(first, NEEDLEMAUVE_WDT) && is_filled(second, NEEDLEMAUVE_ADT));
     CHECK(27, told.refusal.of != NEEDLEMAUVE_BYTES || told.refusal.at <= length);
+    CHECK(28, told.watchpoints == 0 && told.rules == 0);
   }
   answered[code] += 1;
   free(text);
@@ -175,6 +176,7 @@ static void spoil_host(void)
   uint32_t code = needlemauve_host_new(texts, size, &size, 1, plan, plan_length, room, &host, &made);
   CHECK(61, code == made.refusal.code && is_sentence(&made.sentence) && (code == 0) == (host.at != NULL));
   CHECK(62, code == 0 || is_refusal_of_text(code) || (code >= 131 && code <= 133));
+  CHECK(78, code != 0 || (made.refusal.of == NEEDLEMAUVE_NOTHING && made.refusal.at == 0 && made.refusal.text == 0));
   CHECK(63, code != 0 || needlemauve_host_new(texts, size, &size, 1, plan, plan_length, room, &host, &made) ==
                              NEEDLEMAUVE_HAS_HOST);
   CHECK(60, code != 0 || (strcmp(made.sentence.bytes, "the handle holds a host already") == 0 && is_sentence(&made.sentence)));

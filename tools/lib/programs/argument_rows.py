@@ -5,7 +5,7 @@ from records import LOW, LOW_VOLTS, NO_ENTRIES, OF_TWO_FAILING_SAMPLES, STARTED,
 from row import FOLDER, Holds, Row
 
 # Numbers of rule texts.
-FIVE, MANY = 5, 70
+FIVE, MANY, MOST = 5, 70, 300
 
 
 def texts(count):
@@ -71,7 +71,7 @@ def trial_of(count):
     )
 
 
-TEXTS = [make(count) for make in (run_of, live_of) for count in (2, FIVE, MANY)] + [report_of(MANY), trial_of(MANY)]
+TEXTS = [make(count) for make in (run_of, live_of) for count in (2, FIVE, MANY)] + [live_of(MOST), report_of(MANY), trial_of(MANY)]
 
 # Calls by a schedule whose last slot alone samples: as many ticks as it has slots lead to one sample.
 SLOTS = {

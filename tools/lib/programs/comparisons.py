@@ -344,6 +344,14 @@ old alone: 2; new alone: 0; both: 5
         error=said_of_unended(b"new"),
     ),
     Row(
+        "a long comparison to a full device",
+        COMPARE,
+        {"schedule": NO_SLOTS, "stream": beginning() + 200 * record(1, commanded(0x18A4, 3, b"\0\1\0\3")), "old": FIELDS + LOW, "new": RULES},
+        status=3,
+        error=b"cannot use standard output: the device is full\n",
+        prints_to="/dev/full",
+    ),
+    Row(
         "a comparison to a full device",
         COMPARE,
         COMPARED,

@@ -340,6 +340,14 @@ ROWS = [
     ),
     Row("a long stream", ["flight_tools", "export", "stream", "raw"], {"stream": MANY_STREAM}, after={"raw": MANY}),
     Row(
+        "a long stream that is cut, exported",
+        ["flight_tools", "export", "stream", "raw"],
+        {"stream": MANY_STREAM[:-1]},
+        status=4,
+        error=b"stream: the stream ends inside record 3000\n",
+        after={"raw": MANY[:-16]},
+    ),
+    Row(
         "markers",
         [*IMPORT, "--marked", "raw", "stream"],
         {"raw": b"".join(MARKER + packet for packet in TEN)},

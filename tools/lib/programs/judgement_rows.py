@@ -24,6 +24,7 @@ OUTCOMES = [
     ("VOLTS > 100 and VOLTS > 200 and VOLTS > 300", "VOLTS = 301", "VOLTS = 300"),
     ("DEGREES < -5", "DEGREES = -6", "DEGREES = -5"),
     ("DEGREES >= 0", "DEGREES = 0", "DEGREES = -1"),
+    ("DEGREES >= 0 and DEGREES < 100 or FAR < 1", "DEGREES = -1, FAR = 0", "DEGREES = -1, FAR = 1"),
 ]
 FIELDS = """\
 packet BUS = mid 0x0883 length 2048;
@@ -176,6 +177,16 @@ def never(name, number, pairs, last):
 
 UNDECIDED = FOURTEEN + never("ONE", 1, NEXT, "L") + never("OTHER", 2, APART, "M")
 
+# A rule that never fails, and one without a field or the sequence of the first: what is open of the second differs for each set of its G
+# that are 1, and for each of them a search would take both values of the fourteen S before it comes to L.
+FIVE = range(5)
+WITHOUT_A_COMMON_FIELD = (
+    "packet P = mid 0x0883 length 64;\n"
+    + "".join(f"field {name} = P u8 at {12 + n};\n" for n, name in enumerate(["L", *(f"S{n}" for n in range(14)), *(f"G{n}" for n in FIVE), *(f"H{n}" for n in FIVE)]))
+    + ruled("ONE", 1, 1, f"({' xor '.join(f'S{n} == 1' for n in range(14))}) and L < 0", "never-fails, constant-comparison")
+    + ruled("OTHER", 2, 2, " xor ".join([*(f"G{n} == 1 and H{n} == 1" for n in FIVE), "(" + " or ".join(f"G{n} == 2" for n in FIVE) + ")"]))
+)
+
 SEARCHES = [
     Row("a relation of two rules that takes many choices", ["flight_tools", "check", "rules"], {"rules": (PAIRED + PAIR).encode()}, output=(of_pair(PAIRED + PAIR) + "rules: 2 rules, 1 warning\n").encode()),
     Row(
@@ -189,6 +200,12 @@ SEARCHES = [
         ["flight_tools", "check", "rules"],
         {"rules": UNDECIDED.encode()},
         output=b"rules: 2 rules, 0 warnings\nrules: 1 pair of rules was not looked at to the end\n",
+    ),
+    Row(
+        "two rules without a common field are not compared, however many choices that would take",
+        ["flight_tools", "check", "rules"],
+        {"rules": WITHOUT_A_COMMON_FIELD.encode()},
+        output=b"rules: 2 rules, 0 warnings\n",
     ),
 ]
 

@@ -88,7 +88,7 @@ FIRST = [
     ruled("SIGNS", "A < 1 or A <= 2 or A != 3 or A == 4 or A >= 5 or A > 6", [["A", "<", "1"], ["A", "<=", "2"], ["A", "!=", "3"], ["A", "==", "4"],
         ["A", ">=", "5"], ["A", ">", "6"]], ["or", "or", "or", "or", "or", 0, 1, 2, 3, 4, 5], report=(1, 4, 5), says="~5 V"),
     ruled("AND", "A < 1 and C <= 2 or D == 3", [["A", "<", "1"], ["C", "<=", "2"], ["D", "==", "3"]], ["or", "and", 0, 1, 2], report=(255, 65535, 0), level="debug"),
-    ruled("OR", "D > 3 or C >= 2 and A != 1", [["D", ">", "3"], ["C", ">=", "2"], ["A", "!=", "1"]], ["or", 0, "and", 1, 2], state="passive", level="error"),
+    ruled("OR", "D > 3 or C >= 2 and A != 1", [["D", ">", "3"], ["C", ">=", "2"], ["A", "!=", "1"]], ["or", 0, "and", 1, 2], state="passive", level="error", says="\\ </a>\\n"),
     ruled("XOR", "A < 1 xor not A < 2 and B < 3 xor C > 9", [["A", "<", "1"], ["A", "<", "2"], ["B", "<", "3"], ["C", ">", "9"]],
         ["xor", "xor", 0, "and", "not", 1, 2, 3], state="disabled", level="critical"),
     ruled("DEEP", "A < 1 or (A < 2 or (A < 3 and not not (A < 4 xor A < 5)))", [["A", "<", str(n)] for n in range(1, 6)],
@@ -139,6 +139,8 @@ OF_FOUR = (
     b"sample 65535 65535 keep\nafter 1\nfields 0884 1 16 i8 12 31\nsample 65535 65535 keep\n"
 )
 NEVER, SHORT = [None, None, None, "stale"], [None, 6, TICKS, "error"]
+# All of one value: the second and the fourth comparison are false, the others true.
+OF_ONE_FIELD = LOW_VOLTS.split(b"rule")[0] + b'rule ALL active fails 1 sequence 7 event error 1001 "all" when V < 5 or V > 30 or V == 4 or V >= 9 or V != 7;'
 LOWER = b'rule LOWER active fails 1 sequence 8 event error 1002 "lower" when VOLTS < 2000 and W < 7;'
 TWO = {
     "low": LOW_VOLTS,
@@ -165,6 +167,14 @@ VERDICTS = [
                     ["Y", 1, [6, TICKS], [[6, TICKS, None]]],
                 ]),
             },
+        ),
+    ),
+    Trial(
+        "verdicts of five comparisons of one value",
+        shown(
+            {"rules": OF_ONE_FIELD, "script": b"at 100 0\n" + START % (0, 0) + b"fields 0883 0 16 u16be 12 4\nsample 65535 65535 keep\n"},
+            ["rules"],
+            {"requests": those("record samples", [[5, [[5, 0, [[4, 4, 0, verdict] for verdict in ("true", "false", "true", "false", "true")]]]]])},
         ),
     ),
     Trial(
@@ -370,6 +380,12 @@ TIMES = [
         {**NO_PART, "window": {"from": None, "until": 50 * TICKS, "records": 0, "packets": 0}},
         ["--until", "50"],
     ),
+    page_of_times(
+        "of a part before second 0",
+        b"at 100 0\ntick\nat 101 0\ntick\n",
+        {**NO_PART, "window": {"from": None, "until": 0, "records": 0, "packets": 0}},
+        ["--until", "0"],
+    ),
     *(
         page_of_times(
             f"from {seconds}.{digits} on",
@@ -417,13 +433,12 @@ def to_a_device_that_is_full_at_its_end(programs):
     return faults
 
 
-def on_a_terminal(programs):
-    """The progress of a page: how many bytes of the stream were read, after each twentieth part."""
-    stream = 60 * TICK
+def on_a_terminal(programs, words, files):
+    """The status of a call whose standard error is a terminal, and the lines that it prints there."""
     with tempfile.TemporaryDirectory(prefix="try-programs-") as place:
-        written(place, {"schedule": NO_ENTRIES, "rules": LOW_VOLTS, "stream": stream})
+        written(place, {"schedule": NO_ENTRIES, "rules": LOW_VOLTS, **files})
         ours, its = pty.openpty()
-        words = [programs["flight_tools"], "report", "schedule", "stream", "page", "rules"]
+        words = [programs["flight_tools"], *words.split()]
         ran = subprocess.Popen(words, cwd=place, stdin=subprocess.DEVNULL, stdout=subprocess.DEVNULL, stderr=its)
         os.close(its)
         said = b""
@@ -437,19 +452,39 @@ def on_a_terminal(programs):
             said += piece
         status = ran.wait(timeout=SECONDS)
         os.close(ours)
+    return status, said.decode().split("\r\n")
+
+
+def progress_on_a_terminal(programs):
+    """How many bytes of a stream were read, after each twentieth part, which is no number of whole records."""
+    stream = 64 * TICK
     size, part, lines = len(stream), len(stream) // 20, []
     next_at = part
     for read in range(len(TICK), size + 1, len(TICK)):
         if read >= next_at:
             lines.append(f"{read} of {size} bytes")
             next_at += part
-    found, expected = (status, said.decode().split("\r\n")), (0, [*lines, ""])
+    found, expected = on_a_terminal(programs, "report schedule stream page rules", {"stream": stream}), (0, [*lines, ""])
     return [] if found == expected else [f"it was {found} and should be {expected}"]
+
+
+def faults_on_a_terminal(programs):
+    """Each call, its status, and the line that is printed."""
+    calls = [
+        ("report schedule stream page rules --until noon", 2, "--until noon: write seconds, as 104 or 104.00000"),
+        ("report none stream page rules", 3, "cannot use none: there is none of that name"),
+        ("report schedule stream page rules", 4, "stream: the stream ends inside record 1"),
+    ]
+    for words, status, line in calls:
+        found, expected = on_a_terminal(programs, words, {"stream": TICK[:-1]}), (status, [line, ""])
+        if found != expected:
+            yield f"{words}: it was {found} and should be {expected}"
 
 
 DEVICES = [
     Trial("a page that is cut at its end leaves the old one", to_a_device_that_is_full_at_its_end),
-    Trial("the progress of a page on a terminal", on_a_terminal),
+    Trial("the progress of a page on a terminal", progress_on_a_terminal),
+    Trial("faults of a page on a terminal have the statuses that they have elsewhere", faults_on_a_terminal),
 ]
 
 TRIALS = [*CONDITIONS, *VERDICTS, *EVENTS, *FILES, *REDUCED, *TIMES, *DEVICES]

@@ -273,6 +273,16 @@ def from_no_input(programs):
         return [] if found == expected else [f"it ended with {found} and should with {expected}"]
 
 
+def from_a_file_that_is_too_long(programs):
+    """A rule text of standard input that is a byte too long is refused also where a file brings all but that byte in whole pieces."""
+    with tempfile.TemporaryDirectory(prefix="try-programs-") as place:
+        written(place, {"text": b"\n" * 65_537})
+        ran = subprocess.run(["sh", "-c", f"{programs['flight_tools']} format - < text"], cwd=place, capture_output=True, timeout=SECONDS)
+        found = (ran.returncode, ran.stdout, ran.stderr)
+        expected = (1, b"", b"standard input: the text has over 65,536 bytes\n")
+        return [] if found == expected else [f"it ended with {found} and should with {expected}"]
+
+
 TRIALS = [
     Trial("packets come through pipes before more of the stream does", through_pipes),
     Trial("packets come through named pipes before more of the stream does", through_fifos),
@@ -282,6 +292,7 @@ TRIALS = [
     Trial("packets to a process that dies end the run quietly", to_one_that_dies),
     Trial("a signal ends a run as it comes between two records", by_signals),
     Trial("a folder as the stream of a run as it comes", from_no_input),
+    Trial("a text that is a byte too long, of a file as standard input", from_a_file_that_is_too_long),
     Trial("no memory is taken for a hole of 3 GB", of_a_sparse_file),
     Trial("a stream is listed in pieces, and its script says it again", in_pieces),
     Trial("a page keeps the rights of the old one", with_the_old_rights),

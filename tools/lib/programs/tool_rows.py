@@ -189,6 +189,8 @@ REPORTS = [
         for title, options, line in (
             ("a page from no second", ["--from", "noon"], b"--from noon: write seconds, as 104 or 104.00000\n"),
             ("a page from six digits of a second", ["--from", "1.000000"], b"--from 1.000000: write seconds, as 104 or 104.00000\n"),
+            ("a page from seconds with a unit", ["--from", "104s"], b"--from 104s: write seconds, as 104 or 104.00000\n"),
+            ("a page until seconds with a comma", ["--until", "104,5"], b"--until 104,5: write seconds, as 104 or 104.00000\n"),
             ("a page until an empty word", ["--until", ""], b"--until : write seconds, as 104 or 104.00000\n"),
             ("a page until before it begins", ["--from", "5", "--until", "5"], b"--until 5: write seconds after those of --from\n"),
         )

@@ -96,9 +96,23 @@ LINES = [
     missing("a rule that no text has, after blanks", b"start LC\n    expect state NONE off\n", 2),
     missing("a rule that no text has, after tabs and before a carriage return", b"start LC\n\t\texpect result NONE pass\r\n", 2),
     missing("a rule that no text has, before a line that says nothing", b"expect state NONE active\ntock\n", 1),
+    missing("a rule that no text has, between a line that sets a state and one that says nothing", b"state LOW off\nexpect state NONE active\ntock\n", 2),
+    missing("a rule that no text has, before blanks", b"start LC\nexpect state NONE off  \t\n", 2),
     stopped("a run that stops after 150 records", 150 * b"tick\n" + b"wdt 1 /cf/w.tbl\n" + 50 * b"tick\n", 151),
     stopped("a run that stops after 300 repeated records", b"repeat 150 {\ntick\ntick\n}\n  wdt 1 /cf/w.tbl\ntick\n", 5),
     stopped("a run that stops at the last number of a text", b"at 7 0\ntick\n\tadt 65535 /cf/a.tbl\n", 3),
+    Row(
+        "a schedule of a trial, with a mistake after blank lines",
+        TRY,
+        {"script": b"tick\n", "schedule": b"\n \t\n\nslots 1\n0 housekeepin\n", "rules": RULES},
+        status=1,
+        error=b"""schedule:5:3: error[131]: expected `sample` or `housekeeping`, found `housekeepin`
+  5 | 0 housekeepin
+    |   ^^^^^^^^^^^ did you mean `housekeeping`?
+
+1 error
+""",
+    ),
     tried(
         "a trial to a full device",
         BEGIN + b"expect no sequence\nexpect sequence\n",

@@ -199,14 +199,25 @@ def only_blanks(text, edits):
     return all(set(word_of(text, it["range"]) + it["newText"]) <= BLANKS for it in edits)
 
 
+def wrong_parts(desk, edits, options):
+    """Ranges that begin or end at an edit or inside one, where what they give is not the edits that lie in them."""
+    ends = [tuple(index_of(desk.text, it["range"][side]) for side in ("start", "end")) for it in edits]
+    places = sorted({at for begin, end in ends for at in (begin, (begin + end) // 2, end) if desk.text[at - 1 : at + 1] != "\r\n"})
+    for where in (it for at in places for it in (range_of(desk.text, 0, at), range_of(desk.text, at, len(desk.text)))):
+        part = desk.request("rangeFormatting", options=options, range=where)
+        if part != [it for it in edits if is_part(it["range"], where)]:
+            yield where, part
+
+
 def said_of_format(desk):
-    """The text with the edits, whether they are of blanks alone, and what the whole text's range gives; or why it is refused."""
+    """The text with the edits, whether they are of blanks alone, and what ranges give; or why it is refused."""
     expected = formatted(desk.client.tools, desk.text) if desk.ask.kind == "rules" else None
     options, answers = {"tabSize": 4, "insertSpaces": True}, []
     for method, more in (("formatting", {}), ("rangeFormatting", {"range": range_of(desk.text, 0, len(desk.text))})):
         answer = desk.ask_for(method, options=options, **more)
         edits = answer.get("result")
         answers.append(answer.get("error", edits and (edited(desk.text, edits), only_blanks(desk.text, edits))))
+    answers += wrong_parts(desk, edits or [], options)
     refused = {"code": REFUSED, "message": desk.ask.want} if desk.ask.want else None
     unchanged = [] if expected == desk.text else (expected, True)
     return answers, 2 * [refused if expected is None else unchanged]

@@ -222,6 +222,7 @@ COMPLETIONS = [
     scenario("what is expected", "expect ‸", "no sequence event state result"),
     scenario("an application", "start ‸", "LC SCH COUNTER", rules=""),
     whole(Ask("the whole begin of an item", BUS + "pa‸", "packet field rule")),
+    whole(Ask("a name whose underscore is written last", BUS + rule("V_‸"), "VOLTS AMPS not (")),
     whole(Ask("the number of `fails`", BUS + "rule R active fails ‸", "")),
     whole(Ask("behind the number of `fails`", BUS + "rule R active fails 1 ‸", "sequence")),
     whole(Ask("behind the number of `sequence`", BUS + "rule R active fails 1 sequence 1 ‸", "event")),
@@ -249,6 +250,7 @@ COMPLETIONS = [
     whole(scenario("a result behind a rule with a text's number", "expect result 0:LOW ‸", "none pass fail stale error")),
     whole(scenario("a rule behind a text's number", "expect result 0:L‸", "LOW HOT")),
     whole(scenario("behind a number that is none", "expect sequence x ‸", "from at by until")),
+    whole(scenario("a table behind its application's point", "validate LC.L‸", "LC.LC_WDT LC.LC_ADT")),
     whole(scenario("behind what is expected", "expect sequence 7 ‸", "from at by until")),
     whole(scenario("a kind of records", "record 0 0 ‸", "packet tick file half")),
     whole(scenario("a type of a field", "fields 0883 0 16 u8 12 1 ‸", TYPES)),
@@ -339,6 +341,8 @@ TOKENS = [
         "|operator =|number 2",
     ),
     scenario("bytes", "telemetry 0883 0 -\npacket 18aF\n", "keyword telemetry|number 0883|number 0|number -|keyword packet|number 18aF"),
+    scenario("a carriage return in a comment", "tick # a\rbc\ntick\n", "keyword tick|comment # a|comment bc|keyword tick"),
+    schedule("carriage returns in a comment", "# a\r\rb \r\nslots 2\n", "comment # a|comment b |keyword slots|number 2"),
 ]
 
 # Texts that formatting changes, and such that it can't or need not; or why it is refused.

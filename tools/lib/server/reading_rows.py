@@ -55,7 +55,15 @@ UNSOUND = (
     f"{PACKET}\nfield V = P u8 at 12 mask 0x1FF; field W = P i16be at 12 mask 0x10000; field X = P u8 at 12 mask 0 stale 2;\n"
     f'{HEAD}"" when V < 1;\npacket P = mid 0x0884 length 16;\n'
 )
-TEXTS = [ALL_TYPES, FULL_PACKETS, BUS.replace("\n", " "), *with_line_ends(RULES), *with_line_ends(UNSOUND)]
+# A field with two names: each rule's values have the name that stands in its condition.
+TWO_NAMES = f"""{PACKET}
+field OLD = P u16be at 12; field NEW = P u16be at 12;
+rule FIRST active fails 1 sequence 1 event info 1001 "" when OLD < 9;
+rule SECOND active fails 1 sequence 2 event info 1002 "" when NEW < 8;
+rule THIRD active fails 1 sequence 3 event info 1003 "" when OLD > 7;
+rule FOURTH active fails 1 sequence 4 event info 1004 "" when NEW > 6;
+"""
+TEXTS = [ALL_TYPES, FULL_PACKETS, BUS.replace("\n", " "), TWO_NAMES, *with_line_ends(RULES), *with_line_ends(UNSOUND)]
 
 SECOND = """packet LAMP = mid 0x0890 length 17;
 field BRIGHT = LAMP u8 at 12; field DARKNESS = LAMP i32le at 13;
