@@ -4,7 +4,7 @@ import re
 import shutil
 import subprocess
 
-from archives import kit, library_words
+from archives import is_left_by_ci, kit, library_words
 from edits import FUNCTION, Bad, Edit, function_at, head_above
 from repository import ROOT
 
@@ -254,6 +254,17 @@ class Trial:
             yield edit, self.judge(edit, said, group) or self.judge(edit, self.check([edit], [edit]), [edit])
 
 
+def texts_below(folder):
+    """The bytes of each source, definition and proof of a crate, by its path."""
+    found = {}
+    for part in ("src", "specs", "proofs"):
+        for at, _, names in os.walk(f"{folder}/{part}"):
+            for name in names:
+                with open(f"{at}/{name}", "rb") as it:
+                    found[os.path.relpath(f"{at}/{name}", folder)] = it.read()
+    return found
+
+
 class TrialOverLibraries(Trial):
     """A copy of a crate, of which only the functions are checked that must be refused, over the libraries that `rt ci` left in a clone."""
 
@@ -264,6 +275,11 @@ class TrialOverLibraries(Trial):
             if os.path.isdir(f"{ROOT}/crates/{crate}/{part}"):
                 shutil.copytree(f"{ROOT}/crates/{crate}/{part}", f"{self.folder}/{part}")
         os.mkdir(f"{self.folder}/kept")
+
+    def is_proved_there(self):
+        """Whether `rt ci` proved the crate's very text in the clone."""
+        own = f"crates/{self.crate}"
+        return is_left_by_ci(self.clone, [self.crate]) and texts_below(f"{self.clone}/{own}") == texts_below(f"{ROOT}/{own}")
 
     def looked_at(self, edit):
         """The functions of an edit, by the prover's paths; none where an example must be refused: then all is checked."""
