@@ -133,7 +133,7 @@ pub const WARNINGS: [Explanation; 17] = [
     Explanation {
         name: "spare-comparison",
         at: "the rule's name",
-        meaning: "While its fields are known, the rule says the same with true or false in the comparison's place. Keep the comparison if its field may be known while the others are stale.",
+        meaning: "While its fields are known, the rule says the same with true or false in the comparison's place. Without it the rule can fail while that field is stale, or be stale where it failed.",
         example: "",
         said: "",
         advice: "did you mean `spare-comparison`?",

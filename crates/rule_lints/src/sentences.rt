@@ -614,7 +614,10 @@ fn spare_comparison(
         return Err(AllocError);
     };
     let head = spare_head(alloc, subject, spare)?;
-    let label = String::from_str(alloc, "leave the comparison out")?;
+    let label = String::from_str(
+        alloc,
+        "leave it out, unless it matters which fields are stale",
+    )?;
     let mut words = plain(head, label);
     words.other = subject.term_mark(alloc, spare.rule, &spare.term)?;
     Ok(words)
