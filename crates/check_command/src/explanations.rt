@@ -109,7 +109,7 @@ pub const WARNINGS: [Explanation; 17] = [
     Explanation {
         name: "constant-comparison",
         at: "the comparison",
-        meaning: "It has one result for all numbers that its field's type and mask allow.",
+        meaning: "It has one result for all numbers that its field's type and mask allow. It still makes its rule stale with the field.",
         example: "",
         said: "",
         advice: "did you mean `constant-comparison`?",
