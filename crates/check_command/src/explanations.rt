@@ -117,7 +117,7 @@ pub const WARNINGS: [Explanation; 17] = [
     Explanation {
         name: "fails-alike",
         at: "the second rule's name",
-        meaning: "Whenever the fields of these rules are known, all fail or none. One warning stands for them all.",
+        meaning: "Whenever the fields of these rules are known, all fail or none. Their sequences and states may differ. One warning stands for them all.",
         example: "",
         said: "",
         advice: "did you mean `fails-alike`?",
@@ -125,7 +125,7 @@ pub const WARNINGS: [Explanation; 17] = [
     Explanation {
         name: "fails-wherever",
         at: "the name of the rule that fails less often",
-        meaning: "Both request one sequence, and whenever this one fails and the other's fields are known, the other fails too. This one may go, unless its `fails` is the lower one. Of rules that fail alike with one sequence, only the first is named.",
+        meaning: "Both request one sequence, and whenever this one fails and the other's fields are known, the other fails too. This one may go, if its `fails` is not the lower one and the other is as active. Of rules that fail alike with one sequence, only the first is named.",
         example: "",
         said: "",
         advice: "did you mean `fails-wherever`?",

@@ -288,8 +288,26 @@ impl<'a> Stop<'_, 'a> {
         }
     }
 
+    /// Whether a number stands at that place, directly after another one.
+    fn follows_number(&self) -> bool {
+        let before = match self.number.checked_sub(1) {
+            Some(number) => self.source.token(number),
+            None => None,
+        };
+        match (before, self.token()) {
+            (Some(before), Some(token)) => matches!(
+                (before.kind, token.kind),
+                (TokenKind::Number(_), TokenKind::Number(_))
+            ),
+            _ => false,
+        }
+    }
+
     /// What to do if no similar word is known.
     fn other_advice(&self, alloc: Global) -> Result<Advice, AllocError> {
+        if self.is_too_many() && self.follows_number() {
+            return Advice::plain(alloc, "leave it out, or write both numbers as one");
+        }
         if self.is_too_many() {
             let text = self.source.text;
             return Advice::leave_out(alloc, text, self.span(), "leave it out");

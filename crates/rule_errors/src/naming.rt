@@ -5,9 +5,9 @@ ghost use Rattle.diagnostics.specs.Message.{IsAt};
 
 use crate::advice::Advice;
 use crate::marks::{declared_mark, mark, span};
-use crate::nearest::nearest_name;
+use crate::nearest::{last_nearest_name, nearest_name};
 use crate::source::{Declaration, NameKind, Source};
-use diagnostics::{Many, Message, around, printable};
+use diagnostics::{Many, Message, around, choice_of, printable};
 use rule_lexer::{Token, TokenKind};
 use std::alloc::{AllocError, Global};
 
@@ -103,9 +103,27 @@ fn near_name<'a>(
     }
 }
 
+/// To write the nearest name, or, in words only, one of two that are equally near.
+fn near_advice(
+    alloc: Global,
+    source: &Source<'_>,
+    near: &[u8],
+    wanted: NameKind,
+    token: Token<'_>,
+) -> Result<Advice, AllocError> {
+    match last_nearest_name(alloc, source, wanted, token.text)? {
+        Some(other) if other != near => {
+            let names = choice_of(alloc, &[near, other])?;
+            Ok(Advice::words(format!(in alloc; "did you mean {names}?")?))
+        }
+        _ => Advice::meant(alloc, span(token), near),
+    }
+}
+
 /// What to do about an unknown name, by the declaration that is near.
 fn advice(
     alloc: Global,
+    source: &Source<'_>,
     near: Option<Declaration<'_>>,
     wanted: NameKind,
     token: Token<'_>,
@@ -114,7 +132,7 @@ fn advice(
         Some(near) if near.text == token.text => {
             Advice::plain(alloc, other_kind(wanted, near.kind))
         }
-        Some(near) => Advice::meant(alloc, span(token), near.text),
+        Some(near) => near_advice(alloc, source, near.text, wanted, token),
         None => Ok(Advice::words(declaration(alloc, wanted, token.text)?)),
     }
 }
@@ -193,7 +211,7 @@ pub fn unknown(
     let near = near_name(alloc, source, wanted, token.text)?;
     let others = other_uses(source, token, wanted);
     let head = unknown_head(alloc, wanted, token.text)?;
-    let Advice { label, edit } = advice(alloc, near, wanted, token)?;
+    let Advice { label, edit } = advice(alloc, source, near, wanted, token)?;
     let label = with_uses(alloc, label, others)?;
     let other = declared_mark(alloc, near, "declared here")?;
     Message::at(alloc, 22, head, mark(token, label))

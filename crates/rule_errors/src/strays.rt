@@ -68,11 +68,39 @@ fn is_among(character: char, rows: &[(u32, u32)]) -> bool {
     rows.iter().any(|row| row.0 <= code && code <= row.1)
 }
 
-/// Words for signs of other languages.
-const WORDS: &[(char, &[u8])] = &[('&', b"and"), ('|', b"or"), ('!', b"not"), ('^', b"xor")];
+/// Hyphens, dashes and minus signs, each of three bytes: the first and the last of each range.
+const DASHES: &[(u32, u32)] = &[
+    (0x2010, 0x2015),
+    (0x2212, 0x2212),
+    (0xFE63, 0xFE63),
+    (0xFF0D, 0xFF0D),
+];
 
-/// Parentheses for those of other languages.
-const PARENTHESES: &[(char, &[u8])] = &[('[', b"("), ('{', b"("), (']', b")"), ('}', b")")];
+const DASH_SIZE: usize = 3;
+
+/// Words for signs of other languages, and of mathematics.
+const WORDS: &[(char, &[u8])] = &[
+    ('&', b"and"),
+    ('\u{2227}', b"and"),
+    ('|', b"or"),
+    ('\u{2228}', b"or"),
+    ('!', b"not"),
+    ('~', b"not"),
+    ('\u{AC}', b"not"),
+    ('^', b"xor"),
+    ('\u{2295}', b"xor"),
+];
+
+/// Signs for those of other languages, and of mathematics.
+const SIGNS: &[(char, &[u8])] = &[
+    ('[', b"("),
+    ('{', b"("),
+    (']', b")"),
+    ('}', b")"),
+    ('\u{2264}', b"<="),
+    ('\u{2265}', b">="),
+    ('\u{2260}', b"!="),
+];
 
 /// What stands for a character in these rows.
 fn meant_by(character: char, rows: &[(char, &'static [u8])]) -> Option<&'static [u8]> {
@@ -119,6 +147,14 @@ impl<'a> Stray<'a> {
             }
             _ => Advice::plain(alloc, label),
         }
+    }
+
+    /// What to do about another minus, as a document writes it.
+    fn dash_advice(self, alloc: Global) -> Result<Advice, AllocError> {
+        if self.size == DASH_SIZE {
+            return Advice::meant(alloc, self.span(), b"-");
+        }
+        Advice::plain(alloc, "`-` stands directly before a number")
     }
 
     /// What to do about a slash.
@@ -190,6 +226,13 @@ impl<'a> Stray<'a> {
         }
     }
 
+    /// Whether it stands inside a number, which would be another one without it.
+    fn parts_number(self) -> bool {
+        let before = last_word(front(self.text, self.at));
+        matches!(before, [first, ..] if first.is_ascii_digit())
+            && self.span().parts_words(self.text)
+    }
+
     /// What to do about a character that no language has in its place.
     fn other_advice(self, alloc: Global) -> Result<Advice, AllocError> {
         let unseen = "this can't be seen: leave it out";
@@ -202,12 +245,13 @@ impl<'a> Stray<'a> {
             };
             return Advice::change(alloc, self.span(), new, unseen);
         }
-        let label = if is_among(self.character, WITHOUT_WIDTH) {
-            unseen
-        } else {
-            "leave it out"
-        };
-        Advice::change(alloc, self.span(), b"", label)
+        if is_among(self.character, WITHOUT_WIDTH) {
+            return Advice::change(alloc, self.span(), b"", unseen);
+        }
+        if self.parts_number() {
+            return Advice::plain(alloc, "a number is whole, and has digits alone");
+        }
+        Advice::change(alloc, self.span(), b"", "leave it out")
     }
 
     /// What to do about a character that begins no token, by the character.
@@ -217,6 +261,7 @@ impl<'a> Stray<'a> {
             '/' => self.slash_advice(alloc),
             '.' => self.point_advice(alloc),
             sign if is_among(sign, OTHER_QUOTES) => self.quote_advice(alloc),
+            sign if is_among(sign, DASHES) => self.dash_advice(alloc),
             _ => self.other_advice(alloc),
         }
     }
@@ -227,7 +272,7 @@ impl<'a> Stray<'a> {
             let old = self.span();
             return Advice::word_instead(alloc, self.text, old, "did you mean ", word, "?");
         }
-        match meant_by(self.character, PARENTHESES) {
+        match meant_by(self.character, SIGNS) {
             Some(sign) => Advice::meant(alloc, self.span(), sign),
             None => self.sign_advice(alloc),
         }

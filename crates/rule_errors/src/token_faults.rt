@@ -113,13 +113,31 @@ fn with_sign(alloc: Global, written: &[u8]) -> Result<Vec<u8>, AllocError> {
     Ok(whole)
 }
 
+/// Whether these are digits, all of them binary ones, or none.
+fn are_binary(digits: &[u8]) -> bool {
+    digits.iter().all(|byte| matches!(*byte, b'0' | b'1'))
+}
+
+/// Whether another number than the one that is left without letters may be meant: with a letter like a digit behind the digits, with
+/// an exponent, or in binary digits.
+fn is_doubtful(digits: &[u8]) -> bool {
+    let count = digit_count(digits);
+    match (front(digits, count), behind(digits, count)) {
+        (_, [b'O' | b'o' | b'I' | b'l', ..]) => true,
+        ([_, ..], [b'e' | b'E', power @ ..]) => digit_count(power) == power.len(),
+        ([b'0'], [b'b' | b'B', rest @ ..]) => are_binary(rest),
+        _ => false,
+    }
+}
+
 /// What to do about an invalid number of these bytes.
 fn number_advice(alloc: Global, old: ByteSpan, written: &[u8]) -> Result<Advice, AllocError> {
-    if matches!(behind(written, sign_size(written)), b"0x") {
+    let digits = behind(written, sign_size(written));
+    if matches!(digits, b"0x") {
         return Advice::plain(alloc, "write hexadecimal digits behind `0x`");
     }
     let number = with_sign(alloc, written)?;
-    if is_number(alloc, number.as_slice()) {
+    if !is_doubtful(digits) && is_number(alloc, number.as_slice()) {
         return Advice::meant(alloc, old, number.as_slice());
     }
     Advice::plain(alloc, "write digits, or hexadecimal digits behind `0x`")

@@ -552,9 +552,15 @@ fn fails_alike(
 ) -> Result<WarningWords, AllocError> {
     let numbers = rules_of_group(alloc, subject.judged, warning.about)?;
     let (label, other) = if numbers.len() > 2 {
-        ("leave all but one out", "the first one")
+        (
+            "leave all but one out, unless their requests or states are needed",
+            "the first one",
+        )
     } else {
-        ("leave one of the two out", "the other one")
+        (
+            "leave one of the two out, unless its request or state is needed",
+            "the other one",
+        )
     };
     let head = alike_head(alloc, subject, &numbers)?;
     let mut words = plain(head, String::from_str(alloc, label)?);
@@ -576,7 +582,8 @@ fn fails_wherever(
         subject.text_at(warning.at),
         " does",
     )?;
-    let label = "both request one sequence: it may go, unless it counts fewer failures";
+    let label =
+        "both request one sequence: it may go, if the other is as active and counts as few failures";
     let mut words = plain(head, String::from_str(alloc, label)?);
     words.other = subject.rule_mark(alloc, warning.about, "fails there, too")?;
     Ok(words)

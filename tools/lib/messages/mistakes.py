@@ -95,12 +95,12 @@ class Mistakes:
         return self.put(text, is_word, parted)
 
     def stray(self, text):
-        sign = self.random.choice("@%$:,?~;=<)(")
+        sign = self.random.choice("@%$:,?;=<)(")
         at, _ = self.pick(text)
         return cut(text, at, 0, f"{sign} ")
 
     def stray_inside(self, text):
-        sign = self.random.choice("@%$:,?~")
+        sign = self.random.choice("@%$:,?")
         at, token = self.pick(text)
         return cut(text, at + self.random.randrange(len(token)), 0, sign)
 

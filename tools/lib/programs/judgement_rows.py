@@ -137,7 +137,7 @@ PAIR = ruled("WITHIN", 1, 1, WITHIN) + ruled("AROUND", 2, 1, AROUND, "same-seque
 OF_PAIR = """\
 rules:{0}:6: warning[fails-wherever]: `AROUND` fails wherever `WITHIN` does
 {0:3} | {1}
-    |      ^^^^^^ both request one sequence: it may go, unless it counts fewer failures
+    |      ^^^^^^ both request one sequence: it may go, if the other is as active and counts as few failures
 {2:3} | {3}
     |      ------ fails there, too
 
