@@ -114,6 +114,28 @@ fn first_error(
     first
 }
 
+/// Whether a line would end a repetition if no words stood after its `}`.
+fn is_spoiled_end(line: &[u8]) -> bool {
+    let mut words = line
+        .split(|byte| byte.is_ascii_whitespace())
+        .filter(|word| !word.is_empty());
+    let is_end = words.next().is_some_and(|word| matches!(word, b"}"));
+    is_end && words.next().is_some_and(|word| !word.starts_with(b"#"))
+}
+
+/// The number of the line that keeps the repetition, which begins on the line with this number, from its end: a later one that begins with
+/// `}` and has more words, or else its own.
+fn unended_line(scenario: &[u8], number: usize) -> usize {
+    let mut line = 1usize;
+    for bytes in scenario.split(|byte| *byte == b'\n') {
+        if line > number && is_spoiled_end(bytes) {
+            return line;
+        }
+        line = line.saturating_add(1);
+    }
+    number
+}
+
 /// The message about a scenario that is refused with this error. The names are those that rule texts declare.
 fn message_of(
     alloc: Global,
@@ -123,7 +145,12 @@ fn message_of(
 ) -> Result<Message, AllocError> {
     match error {
         LineError::Words(ScenarioError::Line { n, reason }) => {
-            scenario_message(alloc, scenario, n, reason, names)
+            let line = if error.is_unended() {
+                unended_line(scenario, n)
+            } else {
+                n
+            };
+            scenario_message(alloc, scenario, line, reason, names)
         }
         LineError::Expectation(ReadError::Line { n, fault: _ }) => {
             expectation_message(alloc, scenario, n)

@@ -1,10 +1,10 @@
 //! Messages about the words `FIELD=VALUE` of a scenario, and about the values of a ramp.
 
 use crate::argument::value_in;
-use crate::names::{DeclaredNames, FieldName};
+use crate::names::{DeclaredNames, FieldName, NAMES_ADVICE};
 use crate::said::{LineMessage, advise, expect_word, mark_word, said_of};
 use crate::word::{Word, nth_word};
-use diagnostics::{Signed, nearest, quote};
+use diagnostics::{Signed, choice_of, nearest, quote};
 use std::alloc::{AllocError, Global};
 
 /// The most names that a message suggests.
@@ -27,11 +27,14 @@ fn assignment_in(word: Word<'_>) -> Option<(Word<'_>, Word<'_>)> {
     ))
 }
 
-/// A suggestion for a word, among these names: a similar name, or else the first four.
-fn meant_among(alloc: Global, word: Word<'_>, names: &[&[u8]]) -> Result<String, AllocError> {
-    if let Some(meant) = nearest(alloc, word.text, names)? {
-        let meant = quote(alloc, meant)?;
-        return format!(in alloc; "did you mean {meant}?");
+/// The advice to write one of these names of fields: all of them, or the first four and dots.
+fn names_advice(alloc: Global, names: &[&[u8]]) -> Result<String, AllocError> {
+    if names.is_empty() {
+        return String::from_str(alloc, "no rule text declares a field");
+    }
+    if names.len() <= MOST_LISTED {
+        let words = choice_of(alloc, names)?;
+        return format!(in alloc; "write {words}");
     }
     let mut label = String::from_str(alloc, "write ")?;
     for (number, name) in names.iter().enumerate() {
@@ -46,6 +49,15 @@ fn meant_among(alloc: Global, word: Word<'_>, names: &[&[u8]]) -> Result<String,
         label.push_str(shown.as_str())?;
     }
     Ok(label)
+}
+
+/// A suggestion for a word, among these names of fields: a similar name, or else the advice to write one of them.
+fn meant_among(alloc: Global, word: Word<'_>, names: &[&[u8]]) -> Result<String, AllocError> {
+    if let Some(meant) = nearest(alloc, word.text, names)? {
+        let meant = quote(alloc, meant)?;
+        return format!(in alloc; "did you mean {meant}?");
+    }
+    names_advice(alloc, names)
 }
 
 /// The first word after the verb that has no `=`.
@@ -146,6 +158,14 @@ fn is_ramp(verb: Word<'_>) -> bool {
     matches!(verb.text, b"ramp")
 }
 
+/// The message about an `=` at this place of the line, without a name in front of it. The names are those of the packet's fields.
+fn unnamed_said(alloc: Global, at: usize, own: &[&[u8]]) -> Result<LineMessage, AllocError> {
+    let sign = Word { at, text: b"=" };
+    let head = String::from_str(alloc, "a field's name is missing before `=`")?;
+    let label = names_advice(alloc, own)?;
+    Ok(said_of(sign, head, label))
+}
+
 /// The message about a field name that no rule text declares, if the line has one. Of a ramp it is always its field's name.
 pub fn unknown_said(
     alloc: Global,
@@ -162,9 +182,16 @@ pub fn unknown_said(
         }
     };
     let own = names.fields_of(alloc, verb.text)?;
+    if name.is_end() {
+        return Ok(Some(unnamed_said(alloc, name.at, own.as_slice())?));
+    }
     let shown = name.quote(alloc)?;
     let head = format!(in alloc; "no rule text has a field {shown}")?;
-    let label = meant_among(alloc, name, own.as_slice())?;
+    let label = if names.is_empty() {
+        String::from_str(alloc, NAMES_ADVICE)?
+    } else {
+        meant_among(alloc, name, own.as_slice())?
+    };
     Ok(Some(said_of(name, head, label)))
 }
 

@@ -46,6 +46,12 @@ fn record_said(alloc: Global, kind: Word<'_>, bytes: Word<'_>) -> Result<LineMes
     advise(alloc, bytes, String::from_str(alloc, head)?, advice)
 }
 
+/// The message about a line after whose seconds time would go beyond the last moment. Error: out of memory.
+pub fn late_said(alloc: Global, seconds: Word<'_>) -> Result<LineMessage, AllocError> {
+    let head = String::from_str(alloc, "moments end at second 4,294,967,295")?;
+    advise(alloc, seconds, head, "this goes on behind it: write less")
+}
+
 /// The message about a line whose words are valid one by one, but make no record. Error: out of memory.
 pub fn body_said(alloc: Global, line: &[u8]) -> Result<LineMessage, AllocError> {
     let verb = nth_word(line, 0);
@@ -54,15 +60,7 @@ pub fn body_said(alloc: Global, line: &[u8]) -> Result<LineMessage, AllocError> 
         b"file" => too_long(alloc, "record", nth_word(line, 2), 40, 65_536),
         b"telemetry" => too_long(alloc, "packet", nth_word(line, 3), 12, 2_048),
         b"command" => too_long(alloc, "packet", nth_word(line, 3), 8, 2_048),
-        b"after" => {
-            let head = String::from_str(alloc, "moments end at second 4,294,967,295")?;
-            advise(
-                alloc,
-                nth_word(line, 1),
-                head,
-                "this goes on behind it: write less",
-            )
-        }
+        b"after" => late_said(alloc, nth_word(line, 1)),
         _ => record_said(alloc, nth_word(line, 3), nth_word(line, 4)),
     }
 }

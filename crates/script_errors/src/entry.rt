@@ -1,6 +1,6 @@
 //! Messages about a line of a schedule that should be an entry of a slot.
 
-use crate::said::{LineMessage, advise, expect_word, expected_word, too_many};
+use crate::said::{LineMessage, advise, expect_word, expected_word, said_of, too_many};
 use crate::word::{Word, are_digits, nth_word};
 use schedules::MOST_DIGITS;
 use std::alloc::{AllocError, Global};
@@ -61,7 +61,12 @@ fn range_said(alloc: Global, line: &[u8]) -> Result<LineMessage, AllocError> {
     }
     let begin = first.quote(alloc)?;
     let head = format!(in alloc; "{begin} to {shown} are no range of rules")?;
-    advise(alloc, first, head, RULES_ADVICE)
+    if number(first) > LAST_RULE || number(last) > LAST_RULE {
+        return advise(alloc, first, head, RULES_ADVICE);
+    }
+    let least = number(first);
+    let label = format!(in alloc; "write {least} at least: the last rule is not before the first")?;
+    Ok(said_of(last, head, label))
 }
 
 /// Whether the word is `age` or `keep`.

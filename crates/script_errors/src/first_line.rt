@@ -1,6 +1,6 @@
 //! Messages about a line that should be `slots N`.
 
-use crate::said::{LineMessage, advise, expect_word, expected_word, too_many};
+use crate::said::{LineMessage, MARK_ADVICE, advise, expect_word, expected_word, too_many};
 use crate::word::{are_digits, nth_word};
 use schedules::MOST_DIGITS;
 use std::alloc::{AllocError, Global};
@@ -31,6 +31,9 @@ fn number_said(alloc: Global, line: &[u8]) -> Result<LineMessage, AllocError> {
 /// The message about the first line with words, which is invalid. Error: out of memory.
 pub fn first_said(alloc: Global, line: &[u8]) -> Result<LineMessage, AllocError> {
     let first = nth_word(line, 0);
+    if first.has_order_mark() {
+        return expect_word(alloc, first, "`slots`", MARK_ADVICE);
+    }
     let is_slots = matches!(first.text, b"slots");
     if !is_slots {
         let advice = "a schedule begins with `slots` and their number";

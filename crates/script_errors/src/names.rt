@@ -8,6 +8,9 @@ use std::alloc::{AllocError, Global};
 /// The greatest length of a field, in bytes.
 const LONGEST_FIELD: i64 = 4;
 
+/// The advice for a name where none is declared.
+pub const NAMES_ADVICE: &str = "names come from rule texts: `--rules` gives them";
+
 /// A field that a rule text declares.
 #[derive(Clone, Copy)]
 pub struct FieldName<'a> {
@@ -114,6 +117,11 @@ impl<'a> DeclaredNames<'a> {
             })?,
         }
         Ok(())
+    }
+
+    /// Whether no name is declared.
+    pub(crate) fn is_empty(&self) -> bool {
+        self.packets.is_empty() && self.fields.is_empty() && self.rules.is_empty()
     }
 
     /// The first field with this name.

@@ -139,6 +139,9 @@ const RAMP: &[Wanted] = &[FIELD, FROM, TO, BY, STEP, EACH, PACE];
 
 const RAMP_WITH_TICKS: &[Wanted] = &[FIELD, FROM, TO, BY, STEP, EACH, PACE, TICK];
 
+/// The number of a ramp's word with the seconds between two values.
+pub const PACE_PLACE: usize = 7;
+
 /// The words that have to follow this first word, on a line with `count` words after it. None if the word begins no such statement.
 pub fn order_words(verb: &[u8], count: usize) -> Option<&'static [Wanted]> {
     match verb {

@@ -9,6 +9,9 @@ use crate::word::Word;
 use diagnostics::{Mark, Message, nearest, quote};
 use std::alloc::{AllocError, Global};
 
+/// The advice for a word that begins with a byte order mark, as some editors write it in front of a text.
+pub const MARK_ADVICE: &str = "remove the byte order mark (U+FEFF) in front of it";
+
 /// A message about a line. Its places count from the line's first byte.
 #[derive(Drop)]
 pub struct LineMessage {

@@ -6,11 +6,11 @@ ghost use Rattle.script_errors.specs.Telling.{IsOn};
 
 use crate::assignment::{other_said, shared_said, unassigned_said, unknown_said, value_said};
 use crate::line::{line_count, line_numbered};
-use crate::names::DeclaredNames;
+use crate::names::{DeclaredNames, NAMES_ADVICE};
 use crate::orders::{ALL, order_words};
-use crate::said::{LineMessage, advise, message_on, said_of};
+use crate::said::{LineMessage, advise, expect_word, message_on, said_of};
 use crate::wanted::wanted_said;
-use crate::word::{Word, before_comment, nth_word};
+use crate::word::{Word, are_digits, before_comment, nth_word};
 use diagnostics::{Message, nearest, quote};
 use scenarios::Reason;
 use std::alloc::{AllocError, Global};
@@ -18,21 +18,33 @@ use std::alloc::{AllocError, Global};
 /// The number of the message about a line in a rule text's words that is invalid.
 pub const NO_WORDS: u8 = 169;
 
-/// The message about a rule's name that no rule text has. Error: out of memory.
-pub fn rule_said(
+/// The advice for a rule's name or number that no rule text has.
+fn rule_advice(word: Word<'_>, names: &DeclaredNames<'_>) -> &'static str {
+    if are_digits(word.text) {
+        "write the name of a rule, or a number from 0 to 65,534"
+    } else if names.is_empty() {
+        NAMES_ADVICE
+    } else {
+        "write the name of a rule"
+    }
+}
+
+/// The message about a rule's name or number that no rule text has.
+fn rule_said(
     alloc: Global,
     word: Word<'_>,
-    rules: &[&[u8]],
+    names: &DeclaredNames<'_>,
 ) -> Result<LineMessage, AllocError> {
+    let rules = names.rules_and(alloc, ALL)?;
     let shown = word.quote(alloc)?;
     let head = format!(in alloc; "no rule text has a rule {shown}")?;
-    match nearest(alloc, word.text, rules)? {
+    match nearest(alloc, word.text, rules.as_slice())? {
         Some(meant) => {
             let meant = quote(alloc, meant)?;
             let label = format!(in alloc; "did you mean {meant}?")?;
             Ok(said_of(word, head, label))
         }
-        None => advise(alloc, word, head, "write the name of a rule"),
+        None => advise(alloc, word, head, rule_advice(word, names)),
     }
 }
 
@@ -92,6 +104,16 @@ fn order_said(alloc: Global, line: &[u8], reason: Reason) -> Result<LineMessage,
     }
 }
 
+/// The message about a line that would end a repetition if no words stood after its `}`. None if the line is no such line.
+fn end_said(alloc: Global, line: &[u8]) -> Result<Option<LineMessage>, AllocError> {
+    let behind = nth_word(line, 1);
+    if !matches!(nth_word(line, 0).text, b"}") || behind.is_end() {
+        return Ok(None);
+    }
+    let advice = "`}` has a line of its own";
+    Ok(Some(expect_word(alloc, behind, "the end of the line", advice)?))
+}
+
 /// The message about a line that is refused for this reason, with these declared names.
 fn line_said(
     alloc: Global,
@@ -107,10 +129,8 @@ fn line_said(
             value_said(alloc, line, names)?
         }
         Reason::TwoValues => shared_said(alloc, line, names)?,
-        Reason::UnknownRule => {
-            let rules = names.rules_and(alloc, ALL)?;
-            Some(rule_said(alloc, nth_word(line, 1), rules.as_slice())?)
-        }
+        Reason::UnknownRule => Some(rule_said(alloc, nth_word(line, 1), names)?),
+        Reason::Unended => end_said(alloc, line)?,
         _ => None,
     };
     match said {

@@ -4,12 +4,13 @@ ghost use Rattle.std.specs.Prelude.{◌≡◌, ◌≤◌, IfOk};
 ghost use Rattle.script_errors.specs.Line.{line_count};
 ghost use Rattle.script_errors.specs.Telling.{IsOn, reason_code};
 
-use crate::body::body_said;
+use crate::body::{body_said, late_said};
 use crate::fields::fields_said;
 use crate::line::{line_count, line_numbered};
-use crate::said::{LineMessage, expected_word, message_on};
+use crate::orders::PACE_PLACE;
+use crate::said::{LineMessage, MARK_ADVICE, expected_word, message_on};
 use crate::statement::{Statement, VERBS, statement_of};
-use crate::wanted::{missing_said, wanted_said, wrong_said};
+use crate::wanted::{wanted_said, wrong_said};
 use crate::word::{Word, before_comment, nth_word};
 use diagnostics::Message;
 use std::alloc::{AllocError, Global};
@@ -21,9 +22,6 @@ const VERBS_ADVICE: &str = "write `at`, `after`, `fields`, `tick`, `sample`, `st
 /// The same if packets are declared.
 const PACKETS_ADVICE: &str =
     "write a packet's name, `after`, `tick`, `start`, `state`, `expect` or another";
-
-/// The advice for a word that begins with a byte order mark, as some editors write it in front of a text.
-const MARK_ADVICE: &str = "remove the byte order mark (U+FEFF) in front of it";
 
 /// The number of the message for each reason.
 fn code_of(reason: Reason) -> u8
@@ -47,9 +45,6 @@ fn packet_said(
     line: &[u8],
     statement: Statement,
 ) -> Result<Option<LineMessage>, AllocError> {
-    if let Some(said) = missing_said(alloc, line, 1, statement.wanted)? {
-        return Ok(Some(said));
-    }
     if let Some(said) = wrong_said(alloc, line, 1, statement.wanted)? {
         return Ok(Some(said));
     }
@@ -82,11 +77,6 @@ fn packets_and_verbs<'a>(alloc: Global, packets: &[&'a [u8]]) -> Result<Vec<&'a 
     Ok(known)
 }
 
-/// Whether a word begins with the byte order mark of UTF-8 (Unicode standard, section 23.8).
-fn has_order_mark(word: Word<'_>) -> bool {
-    matches!(word.text, [0xEF, 0xBB, 0xBF, ..])
-}
-
 /// The message about a line that begins no statement, with these declared packets.
 fn verb_said(alloc: Global, verb: Word<'_>, packets: &[&[u8]]) -> Result<LineMessage, AllocError> {
     let known = packets_and_verbs(alloc, packets)?;
@@ -95,18 +85,20 @@ fn verb_said(alloc: Global, verb: Word<'_>, packets: &[&[u8]]) -> Result<LineMes
     } else {
         ("a packet's name or a statement", PACKETS_ADVICE)
     };
-    if has_order_mark(verb) {
+    if verb.has_order_mark() {
         return expected_word(alloc, verb, &[], wanted, MARK_ADVICE);
     }
     expected_word(alloc, verb, known.as_slice(), wanted, advice)
 }
 
-/// The message about a refused line, with these declared packets.
+/// The message about a refused line, with these declared packets. A ramp is refused where the seconds between its values go beyond the last
+/// moment.
 fn line_said(alloc: Global, line: &[u8], packets: &[&[u8]]) -> Result<LineMessage, AllocError> {
     let line = before_comment(line);
     let verb = nth_word(line, 0);
     match statement_of(verb.text) {
         Some(statement) => statement_said(alloc, line, statement),
+        None if matches!(verb.text, b"ramp") => late_said(alloc, nth_word(line, PACE_PLACE)),
         None => verb_said(alloc, verb, packets),
     }
 }

@@ -6,25 +6,8 @@ use crate::statement::Wanted;
 use crate::word::nth_word;
 use std::alloc::{AllocError, Global};
 
-/// The message about the first of these words that the line lacks, if it lacks one. `first` is the number of the first of them.
-pub fn missing_said(
-    alloc: Global,
-    line: &[u8],
-    first: usize,
-    wanted: &[Wanted],
-) -> Result<Option<LineMessage>, AllocError> {
-    let mut number = first;
-    for one in wanted {
-        let found = nth_word(line, number);
-        if found.is_end() {
-            return Ok(Some(word_said(alloc, *one, found)?));
-        }
-        number = number.saturating_add(1);
-    }
-    Ok(None)
-}
-
-/// The message about the first of these words that doesn't have its required shape, if there is one.
+/// The message about the first of these words that is missing or doesn't have its required shape, if there is one. `first` is the number of
+/// the first of them.
 pub fn wrong_said(
     alloc: Global,
     line: &[u8],
@@ -55,19 +38,16 @@ pub fn surplus_said(
     Ok(Some(too_many(alloc, behind)?))
 }
 
-/// The message about the words from this number on: a missing one, else one too many, else one without its required shape. None if they are
-/// exactly these words.
+/// The message about the words from this number on: the first that is missing or doesn't have its required shape, else one too many. None if
+/// they are exactly these words.
 pub fn wanted_said(
     alloc: Global,
     line: &[u8],
     first: usize,
     wanted: &[Wanted],
 ) -> Result<Option<LineMessage>, AllocError> {
-    if let Some(said) = missing_said(alloc, line, first, wanted)? {
+    if let Some(said) = wrong_said(alloc, line, first, wanted)? {
         return Ok(Some(said));
     }
-    if let Some(said) = surplus_said(alloc, line, first.saturating_add(wanted.len()))? {
-        return Ok(Some(said));
-    }
-    wrong_said(alloc, line, first, wanted)
+    surplus_said(alloc, line, first.saturating_add(wanted.len()))
 }

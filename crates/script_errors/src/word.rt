@@ -37,6 +37,11 @@ impl<'a> Word<'a> {
         self.text.is_empty()
     }
 
+    /// Whether it begins with the byte order mark of UTF-8 (Unicode standard, section 23.8).
+    pub fn has_order_mark(self) -> bool {
+        matches!(self.text, [0xEF, 0xBB, 0xBF, ..])
+    }
+
     /// The number of bytes of the line up to the word's end.
     pub fn end(self) -> usize {
         self.at.saturating_add(self.text.len())

@@ -174,7 +174,7 @@ def contradicted(title, line, word, other):
 
 FIELDS = [
     refused("a field that is like none of six", [b"P Q=1"], 1, 169, b"Q", b"no rule text has a field `Q`", b"write `FIELD0`, `FIELD1`, `FIELD2`, `FIELD3` ..", SIX),
-    refused("a field that is like none of four", [b"P Q=1"], 1, 169, b"Q", b"no rule text has a field `Q`", b"write `FIELD0`, `FIELD1`, `FIELD2`, `FIELD3`", FOUR),
+    refused("a field that is like none of four", [b"P Q=1"], 1, 169, b"Q", b"no rule text has a field `Q`", b"write `FIELD0`, `FIELD1`, `FIELD2` or `FIELD3`", FOUR),
     contradicted("a low byte first that another field contradicts", b"SW WORD=0x0102 LAST=1 FIRST=3", b"FIRST=3", b"WORD=0x0102"),
     contradicted("a high byte last that another field contradicts", b"SW FIRST=2 LAST=2 WORD=0x0102", b"WORD=0x0102", b"LAST=2"),
     contradicted("four bytes of which two fields share one", b"SW WIDE=0x04030201 FIRST=1 WORD=0x0301", b"WORD=0x0301", b"WIDE=0x04030201"),
