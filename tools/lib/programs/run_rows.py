@@ -65,8 +65,8 @@ WRITTEN = [
     run("what is no record stops the run", b"not a stream of records", b"stopped: 141 record 1\n", b"", status=4),
 ]
 
-# The files of a run, of which the next rows take away one more each: the output's place is a folder, and the rules are no text.
-FILES = {"schedule": NO_ENTRIES, "stream": b"", "rules": b"@", "out": FOLDER}
+# The files of a run, of which the next rows take away one more each: the output's place is a folder.
+FILES = {"schedule": NO_ENTRIES, "stream": b"", "rules": LOW_VOLTS, "out": FOLDER}
 
 
 def unusable(name, missing):
@@ -96,15 +96,14 @@ REFUSED = [
     refused("nine entries of a slot", b"schedule: 133 line 10\n", schedule=NO_ENTRIES + b"0 housekeeping\n" * 9),
 ]
 
-# A text is refused by the run itself: its output is made, and empty.
+# A text is refused before the stream and the output are opened: no output is made, and an old one stays.
 NO_TEXT = [
     Row(
-        "refused: a text, behind its stream",
+        "refused: a text",
         [*RUN, "rules"],
         {"schedule": NO_ENTRIES, "stream": b"not a stream", "rules": b"field V = P u8 at 0;"},
         status=1,
         error=b"refused: 22 at 10\n",
-        after={"out": b""},
     ),
     Row(
         "refused: the second of two texts",
@@ -112,7 +111,6 @@ NO_TEXT = [
         {"schedule": NO_ENTRIES, "stream": b"", "empty": b"", "rules": b"packet"},
         status=1,
         error=b"refused: 11 at 6\n",
-        after={"out": b""},
     ),
     Row(
         "refused: a text of more than 65,536 bytes",
@@ -120,8 +118,37 @@ NO_TEXT = [
         {"schedule": NO_ENTRIES, "stream": b"", "rules": filled(LOW_VOLTS, b" ", 65_537)},
         status=1,
         error=b"refused: 5\n",
-        after={"out": b""},
     ),
+    Row(
+        "refused: a text, before a stream that isn't there and an output that is a folder",
+        [*RUN, "rules"],
+        {"schedule": NO_ENTRIES, "rules": b"@", "out": FOLDER},
+        status=1,
+        error=b"refused: 1 at 0\n",
+    ),
+    Row(
+        "refused: the first of two texts, before the second, which isn't there",
+        [*RUN, "rules", "none"],
+        {"schedule": NO_ENTRIES, "stream": b"", "rules": b"packet"},
+        status=1,
+        error=b"refused: 11 at 6\n",
+    ),
+]
+
+OLD = {"schedule": NO_ENTRIES, "stream": TWO_FAILING_SAMPLES, "rules": LOW_VOLTS, "wrong": b"field V = P u8 at 0;", "out": b"what was there before"}
+
+
+def leaves(title, words, line, status=1, **files):
+    """A call that ends with this line and leaves the old output as it is."""
+    return Row(f"the old output stays: {title}", words, {**OLD, **files}, status=status, error=line)
+
+
+LEFT = [
+    leaves("a text that is refused", [*RUN, "wrong"], b"refused: 22 at 10\n"),
+    leaves("a text that is refused, behind another", [*RUN, "rules", "wrong"], b"refused: 22 at 10\n"),
+    leaves("a text that isn't there", [*RUN, "rules", "none"], b"cannot use none\n", status=3),
+    leaves("a schedule that is refused", [*RUN, "rules"], b"schedule: 131 line 2\n", schedule=b"slots 1\nsample\n"),
+    leaves("a stream that isn't there", "flight_run run --schedule schedule --stream none --out out rules".split(), b"cannot use none\n", status=3),
 ]
 
 USABLE = {"schedule": NO_ENTRIES, "stream": TWO_FAILING_SAMPLES, "rules": LOW_VOLTS, "folder": FOLDER}
@@ -156,4 +183,4 @@ LONGEST = [
     ),
 ]
 
-ROWS = [*WRITTEN, *IN_ORDER, *REFUSED, *NO_TEXT, *DEVICES, *LONGEST]
+ROWS = [*WRITTEN, *IN_ORDER, *REFUSED, *NO_TEXT, *LEFT, *DEVICES, *LONGEST]

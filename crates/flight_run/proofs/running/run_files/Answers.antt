@@ -13,7 +13,7 @@ returns-in_err-plan-clause-stops g c =
 pub returns-in_err-texts-clause-stops : goal.returns-in_err-texts-clause-stops
 returns-in_err-texts-clause-stops g c =
     passes _ _ _ c.from_residual-in_err-texts.ensures.1
-    (inr (at_texts c.args.schedule.now c.args.stream c.args.out _ _ c.in_ok-plan.ensures.said.0 _ _ (fault_of_file c.in_err-texts.field-0.0) c.in_ok-plan.ensures.said.2 (lifted _ _ _ c.in_err-texts.field-0.0 c.in_err-texts.ensures.stops)))
+    (inr (at_texts c.args.schedule.now c.args.stream c.args.out _ _ c.in_ok-plan.ensures.said.0 _ _ c.in_err-texts.field-0.0 c.in_ok-plan.ensures.said.2 c.in_err-texts.ensures.stops))
 
 pub returns-in_err-slices-clause-stops : goal.returns-in_err-slices-clause-stops
 returns-in_err-slices-clause-stops g c =
