@@ -1,14 +1,13 @@
 //! The command `import RAW.. STREAM`.
 
 use crate::import_options::{ids_of, number_of, resync_by, start_number, times_of};
-use crate::import_stream::Stream;
+use crate::import_stream::{Stream, check_replaced};
 use flight_tools_args::ImportWords;
 use packet_archive::{
     ArchiveFront, Choice, Clock, ImportOptions, Met, Report, Resync, Tally, import_held,
 };
 use program_io::{
-    Feed, STANDARD_INPUT, Why, begin, check_stream_place, discard, feed_of, feed_over,
-    is_standard_output, keep,
+    Feed, STANDARD_INPUT, Why, begin, discard, feed_of, feed_over, is_standard_output, keep,
 };
 use std::alloc::Global;
 use std::fs::Files;
@@ -130,7 +129,7 @@ fn check_names<'a, R: Files + AllocGlobal>(
         return Ok(());
     }
     check_apart(rt, stream, archives)?;
-    Ok(check_stream_place(rt, stream)?)
+    check_replaced(rt, stream)
 }
 
 /// Imports archives to standard output; the reports go to standard error.

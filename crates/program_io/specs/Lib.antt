@@ -3,5 +3,4 @@ pub mod Why
 pub mod Error
 pub mod Arguments
 pub mod FileCall
-pub mod Replaced
 pub mod Stops
