@@ -50,8 +50,11 @@ class Said:
             self.read(line, text_of)
 
     def note(self, function, goal):
-        if "+" in function:
-            function = f"{function.rpartition('::')[0]}::{goal.split('-')[0]}"
+        module, _, names = function.rpartition("::")
+        if "+" in names:
+            # (a function that calls itself stands alone, as `+over`; of several that call each other the goal's name begins with the one)
+            alone = [it for it in names.split("+") if it]
+            function = f"{module}::{alone[0] if len(alone) == 1 else goal.split('-')[0]}"
         clauses = self.clauses.setdefault(function, [])
         if clause_of(goal) not in clauses:
             clauses.append(clause_of(goal))
