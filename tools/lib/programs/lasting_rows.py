@@ -12,7 +12,7 @@ FILES = {"schedule": NO_ENTRIES, "stream": TWO_FAILING_SAMPLES, "rules": LOW_VOL
 def itself_run(title, out, rules="rules"):
     """A run whose output is a file that it reads: nothing is opened for writing."""
     words = f"flight_run run --schedule schedule --stream stream --out {out} {rules}"
-    return Row(title, words.split(), FILES, status=3, error=b"cannot use %s\n" % out.encode())
+    return Row(title, words.split(), {**FILES, "second": LOW_VOLTS}, status=3, error=b"cannot use %s\n" % out.encode())
 
 
 def itself_compiled(title, words, name):
@@ -31,7 +31,7 @@ ITSELF = [
     itself_run("the output is the stream's second name", "twin"),
     itself_run("the output is the schedule", "schedule"),
     itself_run("the output is a rule text", "rules"),
-    itself_run("the output is the second rule text", "stream", "rules stream"),
+    itself_run("the output is the second rule text", "second", "rules second"),
     itself_compiled("the watchpoints are the rules", "rules rules adt", b"rules"),
     itself_compiled("the actionpoints are the rules", "rules wdt rules", b"rules"),
     itself_compiled("both tables are one new file", "rules wdt wdt", b"wdt"),
