@@ -1,11 +1,10 @@
--- What `import` asks for, and what it replaces. This project's own.
-use Rattle.std.specs.Prelude.{ℕ, Bool, true, false, List, length, nat_le}
-use Rattle.lc_model.specs.Host.Stream.{header_size}
+-- What `import` asks for. This project's own.
+use Rattle.std.specs.Prelude.{◌≡◌, ℕ, Bool, true, false, is_some, ◌||◌}
+use Rattle.flight_tools_args.specs.declared.plan.ImportWords.{ImportWords}
+use Rattle.packet_archive.specs.declared.clock.Times.{Times}
+use Rattle.packet_archive.specs.declared.clock.Times.TheVariants.{Header, Steps}
 use Rattle.packet_archive.specs.declared.front.Resync.{Resync}
 use Rattle.packet_archive.specs.declared.front.Resync.TheVariants.{Never, Within, AtEnd}
-use Rattle.stream_script.specs.Front.{front_in}
-use Rattle.stream_script.specs.declared.front.Front.{Front}
-use Rattle.stream_script.specs.declared.front.Front.TheVariants.{End, Record, NoRecord, Cut}
 
 -- the shortest step in millionths of a second: the first that is no shorter than 1/65,536 s
 abbrev pub least_step : ℕ
@@ -17,11 +16,11 @@ resync_by false is_more = Never
 resync_by true true = Within
 resync_by true false = AtEnd
 
--- whether the first bytes of a file, at least those of a header if it has them, begin with a record's header
-abbrev pub begins_by : Front → ℕ → Bool
-begins_by (Record kind size) count = true
-begins_by Cut count = nat_le header_size count
-begins_by front count = false
+-- whether an option is given that is about times in headers
+abbrev pub is_of_headers : ImportWords → Bool
+is_of_headers how = is_some how.time_at || is_some how.epoch
 
-abbrev pub begins_stream : List ℕ → Bool
-begins_stream bytes = begins_by (front_in bytes) (length bytes)
+-- packets come by steps exactly where a step is given, and then nothing is about times in headers
+abbrev pub AreAsked : ImportWords → Times → Type 0
+AreAsked how (Steps step) = (is_some how.step ≡ true) × (is_of_headers how ≡ false)
+AreAsked how (Header at epoch) = is_some how.step ≡ false

@@ -1,8 +1,9 @@
 //! The options of `import`.
 
-ghost use Rattle.std.specs.Prelude.{◌≡◌, ◌≤◌, IfOk, IfSome};
-ghost use Rattle.file_commands.specs.Import.{least_step, resync_by};
+ghost use Rattle.std.specs.Prelude.{◌≡◌, ◌≤◌, is_some, nat_eq, not, IfOk, IfSome};
+ghost use Rattle.file_commands.specs.Import.{AreAsked, is_of_headers, least_step, resync_by};
 
+use crate::rows::ONE_OF_TWO;
 use flight_tools_args::ImportWords;
 use packet_archive::{Resync, Times};
 use std::alloc::Global;
@@ -24,6 +25,9 @@ const LEAST_STEP: u64 = 16;
 /// What is written for a step that is refused.
 const NO_STEP: &str = "write seconds from 0.000016 on, with at most six digits after the point";
 
+/// What is written for ticks that are refused.
+const NO_TICK: &str = "write whole seconds from 1 on, or leave it out for no ticks";
+
 /// What is written for the word of a numeric option that is refused.
 const NO_VALUE: &str = "no such value";
 
@@ -42,7 +46,7 @@ fn number_in(word: &str, most: u32) -> Option<u32>
 }
 
 /// The value of a numeric option, or `default` if it isn't given. Error: `Value` for any other word.
-pub fn number_of<'a>(
+fn number_of<'a>(
     option: &'a str,
     word: Option<&'a str>,
     most: u32,
@@ -83,17 +87,43 @@ fn step_in(word: &str) -> Option<u64>
     if step < LEAST_STEP { None } else { Some(step) }
 }
 
-/// The source of the packets' times: the steps of an option, or the packets' headers.
-pub fn times_of<'a>(wanted: ImportWords<'a>) -> Result<Times, Fault<'a>> {
-    match wanted.step {
-        Some(word) => match step_in(word) {
+/// The first option of an import that is about times in headers, if one is given.
+fn header_option(wanted: ImportWords<'_>) -> Option<&'static str>
+    ensures { is_some result ≡ is_of_headers wanted.entry }
+{
+    match (wanted.time_at, wanted.epoch) {
+        (Some(_), _) => Some("--time-at"),
+        (None, Some(_)) => Some("--epoch"),
+        (None, None) => None,
+    }
+}
+
+/// The source of the packets' times: the steps of an option, or the packets' headers. Error: `Value` for an invalid word, and for a step
+/// beside an option that is about times in headers.
+pub fn times_of<'a>(wanted: ImportWords<'a>) -> Result<Times, Fault<'a>>
+    ensures { IfOk result (AreAsked wanted.entry) }
+{
+    match (wanted.step, header_option(wanted)) {
+        (Some(_), Some(option)) => Err(Fault::Value("--step", option, ONE_OF_TWO)),
+        (Some(word), None) => match step_in(word) {
             Some(step) => Ok(Times::Steps { step }),
             None => Err(Fault::Value("--step", word, NO_STEP)),
         },
-        None => Ok(Times::Header {
+        (None, _) => Ok(Times::Header {
             at: number_of("--time-at", wanted.time_at, 65_535, OWN_TIME)? as u16,
             epoch: number_of("--epoch", wanted.epoch, u32::MAX, 0)?,
         }),
+    }
+}
+
+/// The seconds from tick to tick, or 0 for no ticks if the option isn't given. Error: `Value` for a word that is no number, and for 0.
+pub fn tick_of<'a>(word: Option<&'a str>) -> Result<u32, Fault<'a>>
+    ensures { IfOk result (λ seconds. is_some word.entry ≡ not (nat_eq seconds 0)) }
+{
+    let seconds = number_of("--tick", word, u32::MAX, 0)?;
+    match word {
+        Some(word) if seconds == 0 => Err(Fault::Value("--tick", word, NO_TICK)),
+        _ => Ok(seconds),
     }
 }
 

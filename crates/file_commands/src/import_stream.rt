@@ -1,42 +1,12 @@
-//! The stream that an import writes, and the file that it may take the place of.
-
-ghost use Rattle.std.specs.Prelude.{◌≡◌};
-ghost use Rattle.file_commands.specs.Import.{begins_stream};
+//! The stream that an import writes.
 
 use lc_model::Moment;
 use lc_model::stream::{HEADER, moment_of};
-use program_io::{Why, fault_of, read_front};
+use program_io::fault_of;
 use std::alloc::Global;
-use std::fs::{self, Files};
 use std::io::Write;
-use stream_script::{Front, front_of, read_script};
+use stream_script::read_script;
 use tool_faults::{Fault, fault_at, listing_result, output_fault};
-
-/// Whether a file with these first bytes begins with a record's header.
-fn begins_stream(front: &[u8]) -> bool
-    ensures { result ≡ begins_stream front.now }
-{
-    match front_of(front) {
-        Front::Record { .. } => true,
-        Front::Cut => front.len() >= HEADER,
-        Front::End | Front::NoRecord => false,
-    }
-}
-
-/// Checks that the file of this name may be replaced by a stream: there is none, it is empty, it is a device or a pipe, or its first
-/// record is one. Error: `File` with `NoStream` if it begins otherwise, as an archive does.
-pub fn check_replaced<'a, R: Files + AllocGlobal>(rt: &R, name: &'a str) -> Result<(), Fault<'a>> {
-    match fs::metadata(rt, name) {
-        Ok(there) if there.is_file() && there.len() > 0 => {}
-        _ => return Ok(()),
-    }
-    let front = read_front(rt, name, HEADER as u64).map_err(|fault| fault_at(name, fault))?;
-    if begins_stream(front.as_slice()) {
-        Ok(())
-    } else {
-        Err(Fault::File(name, Why::NoStream))
-    }
-}
 
 /// The records that bring both halves of a rule text as the Limit Checker's tables, and start it and the scheduler.
 fn start_of<'a>(alloc: Global, moment: Moment, text: u16) -> Result<Vec<u8>, Fault<'a>> {

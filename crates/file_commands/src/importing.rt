@@ -1,13 +1,14 @@
 //! The command `import RAW.. STREAM`.
 
-use crate::import_options::{ids_of, number_of, resync_by, start_number, times_of};
-use crate::import_stream::{Stream, check_replaced};
+use crate::import_options::{ids_of, resync_by, start_number, tick_of, times_of};
+use crate::import_stream::Stream;
 use flight_tools_args::ImportWords;
 use packet_archive::{
     ArchiveFront, Choice, Clock, ImportOptions, Met, Report, Resync, Tally, import_held,
 };
 use program_io::{
-    Feed, STANDARD_INPUT, Why, begin, discard, feed_of, feed_over, is_standard_output, keep,
+    Feed, STANDARD_INPUT, Why, begin, check_stream_place, discard, feed_of, feed_over,
+    is_standard_output, keep,
 };
 use std::alloc::Global;
 use std::fs::Files;
@@ -129,7 +130,7 @@ fn check_names<'a, R: Files + AllocGlobal>(
         return Ok(());
     }
     check_apart(rt, stream, archives)?;
-    check_replaced(rt, stream)
+    Ok(check_stream_place(rt, stream)?)
 }
 
 /// Imports archives to standard output; the reports go to standard error.
@@ -223,7 +224,7 @@ pub fn import<'a, R: Files + Eprint + AllocGlobal, I: Read + Drop, W: Write>(
             },
             times: times_of(wanted)?,
         },
-        clock: Clock::new(number_of("--tick", wanted.tick, u32::MAX, 0)?),
+        clock: Clock::new(tick_of(wanted.tick)?),
         is_resync: wanted.resync,
         said: Said {
             text: String::new(rt.alloc()),

@@ -19,6 +19,9 @@ use std::io::{Read, Write};
 use stream_script::{Front, front_of};
 use tool_faults::{Fault, epoch_of, listing_result, output_fault};
 
+/// What is written for two options of which each leaves no room for the other.
+pub const ONE_OF_TWO: &str = "one of the two, not both";
+
 /// How rows are written: as values or as objects, and from which epoch their times count.
 #[derive(Clone, Copy)]
 pub struct Rows {
@@ -48,7 +51,7 @@ pub fn rows_of<'a>(words: RowWords<'a>) -> Result<Option<Rows>, Fault<'a>>
 {
     let epoch = epoch_of(words.epoch)?;
     let form = match (words.csv, words.json) {
-        (true, true) => return Err(Fault::Value("--csv", "--json", "one of the two, not both")),
+        (true, true) => return Err(Fault::Value("--csv", "--json", ONE_OF_TWO)),
         (true, false) => Form::Csv,
         (false, true) => Form::Json,
         (false, false) => return text_form(words.epoch),

@@ -94,7 +94,7 @@ const WHOLE: &[&str] = &["{\"status\":0,\"says\":\"", " records\",\"whole\":true
 
 const NO_RECORD: &[&str] = &[
     "{\"status\":4,\"says\":\"record ",
-    " of the stream is none\",\"whole\":false}",
+    " of the stream is none, or names a rule text that is not given\",\"whole\":false}",
 ];
 
 const CUT: &[&str] = &[

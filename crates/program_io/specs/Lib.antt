@@ -3,4 +3,5 @@ pub mod Why
 pub mod Error
 pub mod Arguments
 pub mod FileCall
+pub mod Replaced
 pub mod Stops

@@ -1,5 +1,5 @@
 -- The fault for each failure of a run. This project's own.
-use Rattle.std.specs.Prelude.{◌≡◌, Bool, not, ◌&&◌, ◌||◌, if◌then◌else◌, nat_lt, length, ◌==◌, List, ℕ, Option, Some, None, Result, Ok, Err, unwrap_or, slice_get}
+use Rattle.std.specs.Prelude.{◌≡◌, Bool, codes, not, ◌&&◌, ◌||◌, if◌then◌else◌, nat_lt, length, ◌==◌, List, ℕ, Option, Some, None, Result, Ok, Err, unwrap_or, slice_get}
 use Rattle.std.specs.Borrow.{Bor}
 use Rattle.std_io.specs.declared.io.kind.ErrorKind.{ErrorKind}
 use Rattle.program_io.specs.Why.{why_of}
@@ -48,12 +48,18 @@ fault_of_page name stream rules page.Bound read written = fault.Stream stream ru
 fault_of_page name stream rules page.Write read written = fault_of_device name written
 fault_of_page name stream rules (page.Rules text error) read written = fault.Rules (unwrap_or (slice_get rules text) name) error
 
--- the result of a run over the stream in a file with this name: a fault with the place if the stream ends early
-abbrev pub answer_of_ending : Bor (List ℕ) → Ending → Result (Unit {0}) Fault
-answer_of_ending name (ending.Whole records) = Ok tt
-answer_of_ending name (ending.NoRecord n) = Err (fault.Stream name (run.BadRecord n))
-answer_of_ending name (ending.Cut n) = Err (fault.Stream name (run.Truncated n))
-answer_of_ending name ending.Bound = Err (fault.Stream name run.ReadBound)
+-- the fault for a bad record: it names a text that isn't given, or it is bad for another reason
+abbrev pub fault_of_record : (name : Bor (List ℕ)) → (n : ℕ) → (missing : Option ℕ) → Fault
+fault_of_record name n (Some text) = fault.TextNotGiven name n text
+fault_of_record name n None = fault.Stream name (run.BadRecord n)
+
+-- the result of a run over the stream in a file with this name: a fault with the place, and with a text that isn't given, if the stream
+-- ends early
+abbrev pub answer_of_ending : Bor (List ℕ) → Ending → (missing : Option ℕ) → Result (Unit {0}) Fault
+answer_of_ending name (ending.Whole records) missing = Ok tt
+answer_of_ending name (ending.NoRecord n) missing = Err (fault_of_record name n missing)
+answer_of_ending name (ending.Cut n) missing = Err (fault.Stream name (run.Truncated n))
+answer_of_ending name ending.Bound missing = Err (fault.Stream name run.ReadBound)
 
 -- the fault for a refused rule text of a comparison of files with these names
 abbrev pub fault_of_comparison_text : ComparedFiles → Which → CompileError → Fault
@@ -116,14 +122,20 @@ named_fault None text error = fault.Run (run.Compile text error)
 abbrev pub fault_of_text : List (Bor (List ℕ)) → ℕ → CompileError → Fault
 fault_of_text rules text error = named_fault (slice_get rules text) text error
 
--- the result of a run from standard input to standard output, with the kinds of their errors if they are known
-abbrev pub IsAnswered : (rules : List (Bor (List ℕ))) → Result Report RunError → Option ErrorKind → Option ErrorKind → Result Report Fault → Type 0
-IsAnswered rules (Ok report) read written answer = answer ≡ Ok report
-IsAnswered rules (Err run.Memory) read written answer = answer ≡ Err fault.Memory
-IsAnswered rules (Err (run.Compile text error)) read written answer = answer ≡ Err (fault_of_text rules text error)
-IsAnswered rules (Err run.Read) (Some kind) written (Err found) = IsOfInput kind found
-IsAnswered rules (Err (run.Write sent)) read (Some kind) (Err found) = IsOfOutput kind found
-IsAnswered rules (Err error) read written answer = answer ≡ Err (fault.Run error)
+-- a record of standard input names a text that isn't given
+abbrev pub IsOfMissing : (n text : ℕ) → Fault → Type 0
+IsOfMissing n text (fault.TextNotGiven name number found) = (name.now ≡ codes "standard input") × (number ≡ n) × (found ≡ text)
+IsOfMissing n text other = ⊥
+
+-- the result of a run from standard input to standard output, with the kinds of their errors and a text that isn't given if they are known
+abbrev pub IsAnswered : (rules : List (Bor (List ℕ))) → Result Report RunError → Option ErrorKind → Option ErrorKind → (missing : Option ℕ) → Result Report Fault → Type 0
+IsAnswered rules (Ok report) read written missing answer = answer ≡ Ok report
+IsAnswered rules (Err run.Memory) read written missing answer = answer ≡ Err fault.Memory
+IsAnswered rules (Err (run.Compile text error)) read written missing answer = answer ≡ Err (fault_of_text rules text error)
+IsAnswered rules (Err run.Read) (Some kind) written missing (Err found) = IsOfInput kind found
+IsAnswered rules (Err (run.Write sent)) read (Some kind) missing (Err found) = IsOfOutput kind found
+IsAnswered rules (Err (run.BadRecord n)) read written (Some text) (Err found) = IsOfMissing n text found
+IsAnswered rules (Err error) read written missing answer = answer ≡ Err (fault.Run error)
 
 -- the result of a trial: a fault if an expectation isn't met, or, in a strict trial, if there is a warning
 abbrev pub ending_of : TrialOutcome → Bool → Result (Unit {0}) Fault

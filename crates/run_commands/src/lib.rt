@@ -7,6 +7,7 @@ mod line_error;
 mod live;
 mod report;
 mod scenario;
+mod text_noting;
 mod times;
 mod trying;
 

@@ -1,12 +1,13 @@
 //! `report SCHEDULE STREAM PAGE RULES..`
 
 ghost use Rattle.std.specs.Prelude.{◌≡◌};
-ghost use Rattle.run_commands.specs.Cause.{answer_of_ending, fault_of_device, fault_of_page};
+ghost use Rattle.run_commands.specs.Cause.{answer_of_ending, fault_of_device, fault_of_page, fault_of_record};
 
+use crate::text_noting::TextNoting;
 use crate::times::{PageTimes, part_of};
 use flight_core::RunError;
 use lc_model::Reading;
-use program_io::{Noting, Why, begin, discard, fault_of, keep, reason_for};
+use program_io::{Noting, Why, begin, check_page_place, discard, fault_of, keep, reason_for};
 use run_page::{Part, Progress, ReportError, Run, Source, write_page};
 use run_stepper::Ending;
 use schedules::Schedule;
@@ -21,6 +22,11 @@ const PARTS: u64 = 20;
 
 /// The bytes between two reports of progress, if the stream's length isn't known.
 const PART: u64 = 16_777_216;
+
+/// The first bytes of every page: a file that begins otherwise is no page, and a page doesn't replace it.
+const PAGE_FRONT: &[u8] = b"<!DOCTYPE html>\n<html lang=\"en\">\n<head>\n<meta charset=\"utf-8\">\n\
+    <meta name=\"viewport\" content=\"width=device-width, initial-scale=1\">\n\
+    <title>Run of the Limit Checker</title>\n";
 
 /// Reports the progress of a page on standard error, if `is_watched`.
 #[derive(Drop)]
@@ -111,13 +117,25 @@ fn write_to<R: Eprint, I: Read + Drop, F: Write + Drop>(
     Ok(ending)
 }
 
-/// The result of a run over the stream in a file with this name: a fault with the place if the stream ends early.
-fn answer_of<'a>(stream: &'a str, ending: Ending) -> Result<(), Fault<'a>>
-    ensures { result ≡ answer_of_ending stream.entry ending }
+/// The fault for bad record `n` of the stream in a file with this name. `missing` is the number of the rule text that the record names,
+/// if that text isn't given.
+fn bad_record<'a>(stream: &'a str, n: u64, missing: Option<usize>) -> Fault<'a>
+    ensures { result ≡ fault_of_record stream.entry n missing }
+{
+    match missing {
+        Some(text) => Fault::TextNotGiven(stream, n, text),
+        None => Fault::Stream(stream, RunError::BadRecord { n }),
+    }
+}
+
+/// The result of a run over the stream in a file with this name: a fault with the place if the stream ends early. `missing` is as for
+/// `bad_record`.
+fn answer_of<'a>(stream: &'a str, ending: Ending, missing: Option<usize>) -> Result<(), Fault<'a>>
+    ensures { result ≡ answer_of_ending stream.entry ending missing }
 {
     match ending {
         Ending::Whole { .. } => Ok(()),
-        Ending::NoRecord { n } => Err(Fault::Stream(stream, RunError::BadRecord { n })),
+        Ending::NoRecord { n } => Err(bad_record(stream, n, missing)),
         Ending::Cut { n } => Err(Fault::Stream(stream, RunError::Truncated { n })),
         Ending::Bound => Err(Fault::Stream(stream, RunError::ReadBound)),
     }
@@ -190,8 +208,8 @@ fn put_page<'a, R: Files + Eprint + AllocGlobal, I: Read + Drop>(
 }
 
 /// Runs rule texts over a stream and writes the page of the run, or of the part that the options name, which replaces the old page at
-/// the end. The stream is read in pieces. Errors: `Stream` with the place for a stream that ends early, after the page is made; with any
-/// other fault the old page stays. Progress goes to standard error if `is_watched`.
+/// the end. The stream is read in pieces. Errors: `Stream` with the place for a stream that ends early, and `TextNotGiven` for one that
+/// brings a text that isn't given, after the page is made; with any other fault the old page stays. A file that is no page is a fault. Progress goes to standard error if `is_watched`.
 pub fn make_page<'a, R: Files + Eprint + AllocGlobal>(
     rt: &R,
     schedule: &'a str,
@@ -209,6 +227,7 @@ pub fn make_page<'a, R: Files + Eprint + AllocGlobal>(
     let texts = texts_in(rt, rules)?;
     check_apart(rt, page, &[schedule, stream])?;
     check_apart(rt, page, rules)?;
+    check_page_place(rt, page, PAGE_FRONT)?;
     let sources = sources_of(rt.alloc(), rules, texts.as_slice())?;
     let run = Run {
         plan: Source {
@@ -226,6 +245,8 @@ pub fn make_page<'a, R: Files + Eprint + AllocGlobal>(
         next: 0,
     };
     told.next = told.part();
+    let missing = Cell::new(None);
+    let input = TextNoting::new(rt.alloc(), input, sources.len(), &missing)?;
     let ending = put_page(&mut told, &plan, &run, part, input, stream, page, rules)?;
-    answer_of(stream, ending)
+    answer_of(stream, ending, missing.get())
 }

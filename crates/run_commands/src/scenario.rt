@@ -2,7 +2,7 @@
 
 use crate::line_error::line_error_fault;
 use diagnostics::warnings_page_of;
-use program_io::{begin, discard, fault_of, keep};
+use program_io::{begin, check_stream_place, discard, fault_of, keep};
 use rpn_compiler::RuleText;
 use scenario_errors::read_scenario;
 use scenarios::declared_in;
@@ -47,7 +47,8 @@ fn warn<R: Eprint + AllocGlobal>(rt: &R, script: &str, text: &[u8]) -> Result<()
 }
 
 /// Reads a script and writes its stream to a draft file, which replaces the old stream at the end. Warnings go to standard error.
-/// Errors: `Lines` for a refused script, `Rules` for a refused rule text, `File`, `Memory`; the old stream then stays.
+/// Errors: `Lines` for a refused script, `Rules` for a refused rule text, `File`, also for an old file that is no stream, `Memory`; the
+/// old file then stays.
 pub fn make_stream<'a, R: Files + Eprint + AllocGlobal>(
     rt: &R,
     script: &'a str,
@@ -56,6 +57,7 @@ pub fn make_stream<'a, R: Files + Eprint + AllocGlobal>(
 ) -> Result<(), Fault<'a>> {
     let text = read(rt, script, LONGEST_WHOLE)?;
     check_apart(rt, stream, &[script])?;
+    check_stream_place(rt, stream)?;
     let bytes = match rules {
         Some(rules) => {
             check_apart(rt, stream, &[rules])?;

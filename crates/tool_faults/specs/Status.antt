@@ -3,7 +3,7 @@ use Rattle.std.specs.Prelude.{ℕ, Result, Ok, Err}
 use Rattle.flight_core.specs.declared.error.RunError.{RunError}
 use Rattle.flight_core.specs.declared.error.RunError.TheVariants as run
 use Rattle.tool_faults.specs.declared.fault.Fault.{Fault}
-use Rattle.tool_faults.specs.declared.fault.Fault.TheVariants.{Words, NoText, Value, Table, Early, Stream, TextMissing, Packets, Lines, Rules, Differs, Unmet, Refused, Judgement, Warned, NoShutdown, Run, File, Gone, Memory}
+use Rattle.tool_faults.specs.declared.fault.Fault.TheVariants.{Words, NoText, Value, Table, Early, Stream, TextMissing, TextNotGiven, Packets, Lines, Rules, Differs, Unmet, Refused, Judgement, Warned, NoShutdown, Run, File, Gone, Memory}
 
 -- the status of a stopped run: a refused rule text, a failed device, the stream, or memory
 abbrev pub stopped : RunError → ℕ
@@ -25,6 +25,7 @@ status_of Table = 1
 status_of Early = 4
 status_of (Stream name error) = stopped error
 status_of (TextMissing name n text) = 4
+status_of (TextNotGiven name n text) = 4
 status_of (Packets name number left) = 4
 status_of (Lines page) = 1
 status_of (Rules name error) = 1

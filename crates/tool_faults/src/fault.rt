@@ -29,6 +29,8 @@ pub enum Fault<'a> {
     Stream(&'a str, RunError),
     /// A stream brings a rule text that isn't given: the stream's file name, the record's number from 1, and the text's number.
     TextMissing(&'a str, u64, usize),
+    /// The same, for a command whose last words are the rule texts.
+    TextNotGiven(&'a str, u64, usize),
     /// Packets end early: their file's name, the number of whole packets, and the number of bytes after them.
     Packets(&'a str, u64, usize),
     /// A schedule or a script is refused, with the printed message.
@@ -126,6 +128,7 @@ impl Fault<'_> {
             Fault::File(..) => 3,
             Fault::Early | Fault::Packets(..) => 4,
             Fault::TextMissing(..) => 4,
+            Fault::TextNotGiven(..) => 4,
             Fault::Run(error) | Fault::Stream(_, error) => status_of_run(*error),
             Fault::Memory => 5,
         }
@@ -148,6 +151,10 @@ impl Display for Fault<'_> {
             Fault::TextMissing(name, n, text) => writeln!(
                 f,
                 "{name}: record {n} names rule text {text}, which is not given: add it with --with"
+            ),
+            Fault::TextNotGiven(name, n, text) => writeln!(
+                f,
+                "{name}: record {n} names rule text {text}, which is not given"
             ),
             Fault::Packets(name, number, left) => writeln!(
                 f,

@@ -483,6 +483,26 @@ ROWS = [
         )
         for step in ("1.", "0", "0.000015", "0.0000160", "4294967296", ".5")
     ),
+    *(
+        Row(
+            f"ticks every {tick} s",
+            [*IMPORT, "--tick", tick, "raw", "stream"],
+            {"raw": PLAIN},
+            status=2,
+            error=f"--tick {tick}: write whole seconds from 1 on, or leave it out for no ticks\n".encode(),
+        )
+        for tick in ("0", "0x0")
+    ),
+    *(
+        Row(
+            f"a step beside {option}, of times in headers",
+            [*IMPORT, "--step", "1", *words, "raw", "stream"],
+            {"raw": PLAIN},
+            status=2,
+            error=f"--step {option}: one of the two, not both\n".encode(),
+        )
+        for option, words in (("--epoch", ["--epoch", "0"]), ("--time-at", ["--time-at", "6"]), ("--time-at", ["--epoch", "5", "--time-at", "6"]))
+    ),
     Row("a stream in the place of an archive", [*IMPORT, "raw", "raw"], {"raw": PLAIN}, status=3, error=b"cannot use raw: the same call reads it, or writes it twice\n"),
     Row("no archive of that name", [*IMPORT, "raw", "stream"], {"stream": BUS_STREAM}, status=3, error=b"cannot use raw: %s\n" % NOT_THERE),
 ]

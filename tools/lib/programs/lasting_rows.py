@@ -2,7 +2,7 @@
 write that fails is said; and memory is bounded, however long a file is."""
 
 from compile_rows import ADT, WDT
-from records import beginning, filled, LOW, LOW_VOLTS, NO_ENTRIES, OF_TWO_FAILING_SAMPLES, record, said_of_unended, STARTED, TWO_FAILING_SAMPLES
+from records import beginning, filled, half, LOW, LOW_VOLTS, NO_ENTRIES, OF_TWO_FAILING_SAMPLES, OLD_PAGE, record, said_of_unended, STARTED, TWO_FAILING_SAMPLES
 from row import GONE, Begins, Holds, Link, Row, Twin
 from tool_rows import BUS_SCRIPT, BUS_STREAM, NO_TOCK
 
@@ -90,7 +90,7 @@ NO_PROCESS = 4_294_967_295
 LEFT = [DRAFT.format("page", number) for number in (NO_PROCESS, NO_PROCESS - 1)]
 
 REPORT = ["flight_tools", "report", "schedule", "stream", "page", "rules"]
-OLD = {**FILES, "stream": BUS_STREAM, "page": b"an old page"}
+OLD = {**FILES, "stream": BUS_STREAM, "page": OLD_PAGE}
 
 OLD_RESULTS = [
     Row(
@@ -147,14 +147,14 @@ OLD_RESULTS = [
     Row(
         "a script that is refused leaves the old stream",
         ["flight_tools", "scenario", "script", "stream"],
-        {"script": b"tick\ntock\n", "stream": b"an old stream"},
+        {"script": b"tick\ntock\n", "stream": BUS_STREAM},
         status=1,
         error=NO_TOCK,
     ),
     Row(
         "a stream by a name that leads to another",
         ["flight_tools", "scenario", "script", "link"],
-        {"script": BUS_SCRIPT, "stream": b"an old stream", "link": Link("stream")},
+        {"script": BUS_SCRIPT, "stream": BUS_STREAM[:11], "link": Link("stream")},
         after={"stream": BUS_STREAM},
     ),
 ]
@@ -241,6 +241,9 @@ GONE_READERS = [
     ),
 ]
 
+LATE = b"/cf/late_wdt.tbl"
+LATE_HALF = half(LATE, 1, 1)
+
 LIVE = [
     Row(
         "a run as it comes",
@@ -258,6 +261,32 @@ LIVE = [
         reads=TWO_FAILING_SAMPLES[:180],
         output=STARTED,
         error=b"the stream ends inside record 5\n",
+    ),
+    *(
+        Row(
+            f"a run as it comes, of a stream with {title}",
+            ["flight_tools", "live", "schedule", "rules"],
+            FILES,
+            status=4,
+            reads=TWO_FAILING_SAMPLES + more,
+            output=OF_TWO_FAILING_SAMPLES,
+            error=b"%s\n" % line,
+        )
+        for title, more, line in (
+            ("a half of a text that isn't given", LATE_HALF, b"standard input: record 8 names rule text 1, which is not given"),
+            ("a half of the last text that a record can name", half(LATE, 2, 65_535), b"standard input: record 8 names rule text 65535, which is not given"),
+            ("what is no half of a text", half(LATE, 3, 1), b"record 8 is none"),
+            ("a half of a text that isn't given behind what is no record", b"\x09" + bytes(10) + LATE_HALF, b"record 8 is none"),
+            ("a half of a text that isn't given, which is cut", LATE_HALF[:-1], b"the stream ends inside record 8"),
+        )
+    ),
+    Row(
+        "a run as it comes, of a stream with a half of the second text",
+        ["flight_tools", "live", "schedule", "rules", "rules"],
+        FILES,
+        reads=TWO_FAILING_SAMPLES + LATE_HALF,
+        output=OF_TWO_FAILING_SAMPLES,
+        error=b"records 8, bytes 852\n",
     ),
     Row(
         "a run as it comes, of a text that is refused",

@@ -15,7 +15,7 @@ import subprocess
 import tempfile
 
 from page_files import parts as page_parts
-from records import LOW_VOLTS, NO_ENTRIES, TICK, record
+from records import LOW_VOLTS, NO_ENTRIES, OLD_PAGE, TICK, record
 from together_rows import SECONDS, Trial, written
 
 DATA = '<script type="application/json" id="run">'
@@ -414,7 +414,7 @@ def limit_files(room):
 
 def to_a_device_that_is_full_at_its_end(programs):
     """A page that a device doesn't take to its last byte leaves the old one."""
-    files = {"rules": LOW_VOLTS, "stream": TICK, "page": b"an old page"}
+    files = {"rules": LOW_VOLTS, "stream": TICK, "page": OLD_PAGE}
     words = ["schedule", "stream", "page", "rules"]
     with tempfile.TemporaryDirectory(prefix="try-programs-") as place:
         report(place, programs["flight_tools"], files, words)
@@ -424,7 +424,7 @@ def to_a_device_that_is_full_at_its_end(programs):
         with tempfile.TemporaryDirectory(prefix="try-programs-") as place:
             ran = report(place, programs["flight_tools"], files, words, preexec_fn=lambda: limit_files(room))
             page = read_page(place)
-            found = (ran.returncode, ran.stderr, "old" if page == "an old page" else len(page.encode()), sorted(os.listdir(place)))
+            found = (ran.returncode, ran.stderr, "old" if page.encode() == OLD_PAGE else len(page.encode()), sorted(os.listdir(place)))
         is_kept = room < size
         expected = (3, b"cannot use page: the device is full\n", "old") if is_kept else (0, b"", size)
         expected = (*expected, ["page", "rules", "schedule", "stream"])

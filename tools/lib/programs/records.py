@@ -11,6 +11,13 @@ LOW_VOLTS = (
 
 NO_ENTRIES = b"slots 1\n"
 
+# What a page of a run begins with, and an old page, of which nothing else counts.
+PAGE_FRONT = (
+    b'<!DOCTYPE html>\n<html lang="en">\n<head>\n<meta charset="utf-8">\n<meta name="viewport" content="width=device-width, initial-scale=1">\n'
+    b"<title>Run of the Limit Checker</title>\n"
+)
+OLD_PAGE = PAGE_FRONT + b"an old page"
+
 
 def filled(front, byte, size):
     """So many bytes: these in front, and others of one value behind."""

@@ -180,7 +180,7 @@ def inside(size, record):
     return early(size, line, line, record - 1)
 
 
-EARLY = [inside(1, 1), inside(150, 4), inside(173, 4), early(212, b"record 6 of the stream is none", b"record 6 is none", 5)]
+EARLY = [inside(1, 1), inside(150, 4), inside(173, 4), early(212, b"record 6 of the stream is none, or names a rule text that is not given", b"record 6 is none", 5)]
 
 REFUSED = Row(
     "the second of two texts is refused and makes no page",

@@ -9,7 +9,7 @@ import subprocess
 import tempfile
 from dataclasses import dataclass
 
-from records import LOW, LOW_VOLTS, NO_ENTRIES, SAMPLE, STARTED, beginning, record, requested
+from records import LOW, LOW_VOLTS, NO_ENTRIES, OLD_PAGE, SAMPLE, STARTED, beginning, record, requested
 
 SECONDS = 20
 
@@ -238,7 +238,7 @@ def in_pieces(programs):
 def with_the_old_rights(programs):
     """A page that takes the place of another has what the system allowed of that one."""
     with tempfile.TemporaryDirectory(prefix="try-programs-") as place:
-        written(place, {"schedule": NO_ENTRIES, "rules": LOW_VOLTS, "stream": b"", "page": b"an old page"})
+        written(place, {"schedule": NO_ENTRIES, "rules": LOW_VOLTS, "stream": b"", "page": OLD_PAGE})
         page = os.path.join(place, "page")
         os.chmod(page, 0o604)
         words = [programs["flight_tools"], "report", "schedule", "stream", "page", "rules"]

@@ -4,7 +4,7 @@ import hashlib
 import os
 import re
 
-from records import HOUSEKEEPING, LOW_VOLTS, event, said_of_unended
+from records import HOUSEKEEPING, LOW_VOLTS, OLD_PAGE, PAGE_FRONT, TICK, event, half, said_of_unended
 from row import FOLDER, Begins, Holds, Link, Row
 
 CRATES = os.path.join(os.path.dirname(os.path.abspath(__file__)), "..", "..", "..", "crates")
@@ -172,7 +172,12 @@ cut behind packet 2: 1 bytes are no whole packet
 
 REPORT = ["flight_tools", "report", "schedule", "stream", "page", "rules"]
 FILES = {"schedule": b"slots 1\n0 sample 0 175 age\n", "stream": BUS_STREAM, "rules": LOW_VOLTS, "empty": b"# no rules\n"}
-PAGE = Begins(b"<!DOCTYPE html>\n")
+PAGE = Begins(PAGE_FRONT)
+NO_PAGE = b"it is no page, and the third name is the page's"
+NO_STREAM = b"it is no stream, and the last name is the stream's"
+MADE = ["flight_tools", "scenario", "script", "stream"]
+LATE = b"/cf/late_wdt.tbl"
+LATE_HALF = half(LATE, 1, 1)
 
 REPORTS = [
     Row("a page", REPORT, FILES, after={"page": PAGE}),
@@ -224,11 +229,60 @@ REPORTS = [
         error=b"stream: the stream ends inside record 24\n",
         after={"page": PAGE},
     ),
+    *(
+        Row(f"a page of a stream with {title}", REPORT, {**FILES, "stream": stream}, status=4, error=b"stream: %s\n" % line, after={"page": PAGE})
+        for title, stream, line in (
+            ("a half of a text that isn't given", LATE_HALF, b"record 1 names rule text 1, which is not given"),
+            ("a half of a text that isn't given at its end", BUS_STREAM + LATE_HALF, b"record 25 names rule text 1, which is not given"),
+            ("a half of the last text that a record can name", half(LATE, 2, 65_535), b"record 1 names rule text 65535, which is not given"),
+            ("what is no half of a text", half(LATE, 3, 1), b"record 1 is none"),
+            ("a half of a text that isn't given behind what is no record", TICK + b"\x09" + bytes(10) + LATE_HALF, b"record 2 is none"),
+            ("a half of a text that isn't given, which is cut", TICK + LATE_HALF[:-1], b"the stream ends inside record 2"),
+        )
+    ),
+    Row("a page of a stream with a half of the second text", [*REPORT, "empty"], {**FILES, "stream": LATE_HALF}, after={"page": PAGE}),
+]
+
+# What stands in the page's place or the stream's, where a name is forgotten or two are exchanged, and what may.
+REPLACED = [
+    Row(
+        "a rule text in the page's place, which is forgotten",
+        ["flight_tools", "report", "schedule", "stream", "rules", "empty"],
+        FILES,
+        status=3,
+        error=b"cannot use rules: it is no page, and the third name is the page's\n",
+    ),
+    *(
+        Row(f"what is no page in a page's place: {title}", REPORT, {**FILES, "page": old}, status=3, error=b"cannot use page: %s\n" % NO_PAGE)
+        for title, old in (
+            ("a stream", BUS_STREAM),
+            ("another page", b"<!DOCTYPE html>\n<html>\n<head>\n<title>Another</title>\n" + bytes(300)),
+            ("a page's first bytes but the last", PAGE_FRONT[:-1]),
+            ("one byte", b"<"),
+        )
+    ),
+    *(
+        Row(f"a file in a page's place: {title}", REPORT, {**FILES, "page": old}, after={"page": PAGE})
+        for title, old in (("empty", b""), ("a page", OLD_PAGE), ("a page's first bytes", PAGE_FRONT))
+    ),
+    Row("a page in a page's place that this program made", REPORT, FILES, after={"page": PAGE}, first=[REPORT]),
+    Row("a page by a name that leads to what is no page", [*REPORT[:4], "link", "rules"], {**FILES, "link": Link("empty")}, status=3, error=b"cannot use link: %s\n" % NO_PAGE),
+    *(
+        Row(f"what is no stream in a stream's place: {title}", MADE, {"script": b"tick\n", "stream": old}, status=3, error=b"cannot use stream: %s\n" % NO_STREAM)
+        for title, old in (("a rule text", LOW_VOLTS), ("a script", b"tick\n"), ("ten bytes of a record", TICK[:10]), ("an archive", bytes([0x08, 0x83, 0xC0, 0, 0, 9]) + bytes(10)))
+    ),
+    *(
+        Row(f"a file in a stream's place: {title}", MADE, {"script": BUS_SCRIPT, "stream": old}, after={"stream": BUS_STREAM})
+        for title, old in (("empty", b""), ("a tick", TICK), ("a stream that is cut", BUS_STREAM[:11]), ("what is no record behind a tick", TICK + b"\x09" * 11))
+    ),
+    Row("what is no stream in a stream's place, before a script that is refused", MADE, {"script": b"tock\n", "stream": LOW_VOLTS}, status=3, error=b"cannot use stream: %s\n" % NO_STREAM),
+    Row("a stream to a device", [*MADE[:3], "/dev/null"], {"script": b"tick\n"}),
+    Row("a page to a device", [*REPORT[:4], "/dev/null", "rules"], FILES),
 ]
 
 
 NOT_THERE = b"there is none of that name"
-OLD = {**FILES, "page": b"an old page", "folder": FOLDER}
+OLD = {**FILES, "page": OLD_PAGE, "folder": FOLDER}
 FULL = b"the device is full"
 
 
@@ -385,4 +439,4 @@ For more information, try '--help'.
 """),
 ]
 
-ROWS = [*LISTINGS, *REPORTS, *UNUSABLE, *WORDS]
+ROWS = [*LISTINGS, *REPORTS, *REPLACED, *UNUSABLE, *WORDS]

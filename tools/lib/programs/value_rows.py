@@ -189,6 +189,10 @@ ROWS = [
         status=2,
         error=b"--csv --json: one of the two, not both\n",
     ),
+    *(
+        Row(f"a script and {form[2:]} at once", ["flight_tools", "stream", *words, "file"], {"file": TICK}, status=2, error=f"--whole {form}: one of the two, not both\n".encode())
+        for form, words in (("--csv", ["--whole", "--csv"]), ("--json", ["--json", "--whole"]), ("--csv", ["--csv", "--whole", "--epoch", EPOCH]))
+    ),
     Row(
         "an epoch that is no instant",
         ["flight_tools", "packets", "--csv", "--epoch", "2000-01-01", "file"],
