@@ -2,7 +2,7 @@
 write that fails is said; and memory is bounded, however long a file is."""
 
 from compile_rows import ADT, WDT
-from records import beginning, filled, half, LOW, LOW_VOLTS, NO_ENTRIES, OF_TWO_FAILING_SAMPLES, OLD_PAGE, record, said_of_unended, STARTED, TWO_FAILING_SAMPLES
+from records import beginning, event, filled, half, LOW, LOW_VOLTS, NO_ENTRIES, OF_TWO_FAILING_SAMPLES, OLD_PAGE, record, said_of_unended, STARTED, TWO_FAILING_SAMPLES
 from row import GONE, Begins, Holds, Link, Row, Twin
 from tool_rows import BUS_SCRIPT, BUS_STREAM, NO_TOCK
 
@@ -285,8 +285,8 @@ LIVE = [
         ["flight_tools", "live", "schedule", "rules", "rules"],
         FILES,
         reads=TWO_FAILING_SAMPLES + LATE_HALF,
-        output=OF_TWO_FAILING_SAMPLES,
-        error=b"records 8, bytes 852\n",
+        output=OF_TWO_FAILING_SAMPLES + event(5, b"HOST", 2, 2, b"file stored"),
+        error=b"records 8, bytes 1020\n",
     ),
     Row(
         "a run as it comes, of a text that is refused",
