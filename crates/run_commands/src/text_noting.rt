@@ -35,7 +35,7 @@ impl<'a, I: Drop> TextNoting<'a, I> {
         })
     }
 
-    /// Reads the records of the next piece of the stream.
+    /// Reads the records of the next piece of the stream. It has at most 8,192 bytes, so all of it is taken.
     fn follow(&mut self, piece: &[u8]) {
         let _taken = self.records.feed(piece);
         for _ in 0..self.records.held() {
