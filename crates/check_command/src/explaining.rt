@@ -66,7 +66,7 @@ fn advice(alloc: Global, name: &str) -> Result<&'static str, AllocError> {
             return Ok(row.advice);
         }
     }
-    Ok("write the number of an error or the name of a warning")
+    Ok("write the number of a rule text's error or the name of a warning")
 }
 
 /// Writes what the warning of this name, or the refusal of this number, means, with its examples. Errors: `Value` for another name or

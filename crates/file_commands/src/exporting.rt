@@ -3,7 +3,7 @@
 use crate::ends::end_of_stream;
 use crate::listing::whole_records;
 use packet_archive::export_held;
-use program_io::{begin, discard, fault_of, feed_of, keep};
+use program_io::{begin, check_archive_place, discard, fault_of, feed_of, keep};
 use std::fs::Files;
 use std::io::Write;
 use stream_script::Front;
@@ -40,13 +40,14 @@ fn export_all<'a, R: Files + AllocGlobal, S: Write>(
 
 /// Writes the packets of a stream, in order, to the file `raw`, through a draft that is renamed at the end. Error:
 /// `Stream` if the stream ends early, with the place; the packets before it are written all the same. Other
-/// faults are of files and memory.
+/// faults are of files, also of an old file that is no archive, and memory.
 pub fn export<'a, R: Files + AllocGlobal>(
     rt: &R,
     stream: &'a str,
     raw: &'a str,
 ) -> Result<(), Fault<'a>> {
     check_apart(rt, raw, &[stream])?;
+    check_archive_place(rt, raw)?;
     let mut draft = begin(rt, raw).map_err(|fault| fault_at(raw, fault))?;
     match export_all(rt, stream, raw, &mut draft.file) {
         Ok((front, n)) => {

@@ -27,7 +27,7 @@ pub use feed::{Feed, feed_of, feed_over};
 pub use identity::{is_one_file, is_standard_output};
 pub use named::{check_apart, read_text, read_texts, read_whole_text, write_file};
 pub use noting::Noting;
-pub use replaced::{check_page_place, check_stream_place};
+pub use replaced::{check_archive_place, check_page_place, check_stream_place};
 pub use shell::Shell;
 pub use standard::{STANDARD_INPUT, STANDARD_OUTPUT};
 pub use whole_files::{read_all, read_front};

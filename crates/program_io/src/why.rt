@@ -30,6 +30,8 @@ pub enum Why {
     NotOwn,
     /// It would be replaced by a stream, and it is none.
     NoStream,
+    /// It would be replaced by an archive of packets, and it is none.
+    NoArchive,
     /// It would be replaced by a page, and it is no page.
     NoPage,
     /// It is longer than this greatest length for files of its kind, in bytes.
@@ -53,6 +55,7 @@ impl Display for Why {
             Why::Loop => write!(f, "it is a link that leads back to itself"),
             Why::NotOwn => write!(f, "another user owns it"),
             Why::NoStream => write!(f, "it is no stream, and the last name is the stream's"),
+            Why::NoArchive => write!(f, "it is no archive, and the last name is the archive's"),
             Why::NoPage => write!(f, "it is no page, and the third name is the page's"),
             Why::TooLong(most) => write!(f, "it has more than {most} bytes"),
             Why::Failed => write!(f, "it failed"),

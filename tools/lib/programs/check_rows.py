@@ -243,7 +243,8 @@ ROWS = [
     explained("a warning by its name", "never-fails", output=NEVER_FAILS),
     explained("a text that is too long has no place", "5", output=b"error[5]: over 65,536 bytes, whatever they are\n  65,537 blanks: the file is too long: at most 65,536 bytes are allowed\n"),
     explained("a misspelt warning", "never-fial", status=2, error=b"--explain never-fial: did you mean `never-fails`?\n"),
-    explained("no error's number", "99", status=2, error=b"--explain 99: write the number of an error or the name of a warning\n"),
+    explained("no error's number", "99", status=2, error=b"--explain 99: write the number of a rule text's error or the name of a warning\n"),
+    explained("the number of a schedule's error", "131", status=2, error=b"--explain 131: write the number of a rule text's error or the name of a warning\n"),
     Row("a rule that fails and passes", ["flight_tools", "check", "rules"], {"rules": LOW_VOLTS}, output=named([], ONE_RULE)),
     Row(
         "and with which values",

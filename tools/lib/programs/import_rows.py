@@ -1,6 +1,7 @@
 """`flight_tools import` and `export`: archives of space packets, whole and with every kind of damage, and the streams that they
 become."""
 
+from records import LOW_VOLTS
 from row import GONE, Link, Row, Twin
 from tool_rows import BUS_STREAM, FULL, NOT_THERE
 
@@ -315,6 +316,15 @@ ROWS = [
     Row("nothing behind the start of a rule text", [*IMPORT, "--start", "0", "raw", "stream"], {"raw": b""}, output=counts("raw", 0), after={"stream": b""}),
     Row("an empty archive", [*IMPORT, "raw", "stream"], {"raw": b""}, output=counts("raw", 0), after={"stream": b""}),
     Row("the packets of a stream", ["flight_tools", "export", "stream", "raw"], {"stream": tick(7) + STREAM + tick(8)}, after={"raw": PLAIN}),
+    *(
+        Row(f"what is no archive in an archive's place: {what}", ["flight_tools", "export", "stream", "raw"], {"stream": STREAM, "raw": old}, status=3,
+            error=b"cannot use raw: it is no archive, and the last name is the archive's\n")
+        for what, old in (("a rule text", LOW_VOLTS), ("a byte of version 1", b"\x20"), ("a table file", b"cFE1"))
+    ),
+    *(
+        Row(f"a file in an archive's place: {what}", ["flight_tools", "export", "stream", "raw"], {"stream": STREAM, "raw": old}, after={"raw": PLAIN})
+        for what, old in (("empty", b""), ("the last id of version 0", b"\x1F\xFF"), ("an archive with markers", MARKER + TEN[0]))
+    ),
     Row(
         "a long archive with a gap of many zeros",
         [*IMPORT, "raw", "stream"],
