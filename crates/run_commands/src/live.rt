@@ -68,7 +68,8 @@ impl<W: Write> Write for Prompt<'_, W> {
 
 /// Runs a host over a stream while it arrives: before it waits for more of the stream, the packets of all records so far are
 /// written and flushed. At the end of the stream the numbers of records and bytes go to standard error.
-/// Errors: `Run` if the stream is cut or a record is bad; `TextNotGiven` if it brings a text that isn't given; `Gone` if the output's reader closed it; and the faults of files and texts.
+/// Errors: `Run` if the stream is cut or a record is bad; `TextNotGiven` if it brings a text that isn't given; `Gone` if the output's
+/// reader closed it; and the faults of files and texts.
 pub fn run<'a, R: Files + Eprint + AllocGlobal, I: Read + Drop, W: Write>(
     rt: &R,
     schedule: &'a str,

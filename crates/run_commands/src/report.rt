@@ -209,7 +209,8 @@ fn put_page<'a, R: Files + Eprint + AllocGlobal, I: Read + Drop>(
 
 /// Runs rule texts over a stream and writes the page of the run, or of the part that the options name, which replaces the old page at
 /// the end. The stream is read in pieces. Errors: `Stream` with the place for a stream that ends early, and `TextNotGiven` for one that
-/// brings a text that isn't given, after the page is made; with any other fault the old page stays. A file that is no page is a fault. Progress goes to standard error if `is_watched`.
+/// brings a text that isn't given, after the page is made; with any other fault the old file stays. `File` also for an old file that is
+/// no page. Progress goes to standard error if `is_watched`.
 pub fn make_page<'a, R: Files + Eprint + AllocGlobal>(
     rt: &R,
     schedule: &'a str,
