@@ -37,6 +37,14 @@ def clause_of(goal):
     return goal
 
 
+def has_function(module, name, text_of):
+    """Whether a module's file has a function of this name."""
+    try:
+        return bool(re.search(rf"\bfn {re.escape(name)}\b", text_of(f"src/{module.replace('::', '/')}.rt")))
+    except OSError:
+        return False
+
+
 class Said:
     """What a check says: by function, the clauses that it could not show, in order."""
 
@@ -49,12 +57,12 @@ class Said:
         for line in text.split("\n"):
             self.read(line, text_of)
 
-    def note(self, function, goal):
+    def note(self, function, goal, text_of):
         module, _, names = function.rpartition("::")
         if "+" in names:
-            # (a function that calls itself stands alone, as `+over`; of several that call each other the goal's name begins with the one)
-            alone = [it for it in names.split("+") if it]
-            function = f"{module}::{alone[0] if len(alone) == 1 else goal.split('-')[0]}"
+            # (of functions that call each other, as `+condition`, the goal's name begins with the one; not of one that calls itself)
+            first = goal.split("-")[0]
+            function = f"{module}::{first if has_function(module, first, text_of) else names.strip('+')}"
         clauses = self.clauses.setdefault(function, [])
         if clause_of(goal) not in clauses:
             clauses.append(clause_of(goal))
@@ -74,14 +82,14 @@ class Said:
             if BY_NAME.search(found[3]):
                 self.named.add(function)
             elif found[2]:
-                self.note(function, found[2])
+                self.note(function, found[2], text_of)
             return
         found = re.match(r"(?:\./)?(proofs/[A-Z]\S*)\.antt:(\d+):\d+: error: ", line)
         if found:
             # (a law has no body to edit: what is tried is an example that would be false)
             above = text_of(f"{found[1]}.antt").split("\n")[: int(found[2])]
             names = [it[1] for it in (re.match(r"(?:pub )?([a-z]\w*) :", text) for text in above) if it]
-            self.note(found[1].replace("/", "::"), f"example {names[-1]}" if names else "example")
+            self.note(found[1].replace("/", "::"), f"example {names[-1]}" if names else "example", text_of)
             return
         found = re.match(r"(src/\S+?):(\d+):\d+: error\[[\w-]+\]", line)
         if found:
@@ -92,12 +100,12 @@ class Said:
         if found:
             function = function_at(found[1], text_of(found[1]), int(found[2]) - 1)
             if function:
-                self.note(function, found[3])
+                self.note(function, found[3], text_of)
             return
         found = re.match(r"fn [a-z0-9_]+::(\S+): no proof: .*?did not prove ([^;]*)", line)
         if found:
             for goal in re.findall(r"`([^`]+)`", found[2]):
-                self.note(plain(found[1].split("::")), goal)
+                self.note(plain(found[1].split("::")), goal, text_of)
 
 
 def path_of(function, text_of, edit):
