@@ -1,6 +1,6 @@
 //! The options of `import`.
 
-ghost use Rattle.std.specs.Prelude.{◌≡◌, ◌≤◌, is_some, nat_eq, not, IfOk, IfSome};
+ghost use Rattle.std.specs.Prelude.{◌≡◌, ◌≤◌, is_some, nat_lt, IfOk, IfSome};
 ghost use Rattle.file_commands.specs.Import.{AreAsked, is_of_headers, least_step, resync_by};
 
 use crate::rows::ONE_OF_TWO;
@@ -118,12 +118,15 @@ pub fn times_of<'a>(wanted: ImportWords<'a>) -> Result<Times, Fault<'a>>
 
 /// The seconds from tick to tick, or 0 for no ticks if the option isn't given. Error: `Value` for a word that is no number, and for 0.
 pub fn tick_of<'a>(word: Option<&'a str>) -> Result<u32, Fault<'a>>
-    ensures { IfOk result (λ seconds. is_some word.entry ≡ not (nat_eq seconds 0)) }
+    ensures { IfOk result (λ seconds. nat_lt 0 seconds ≡ is_some word.entry) }
 {
-    let seconds = number_of("--tick", word, u32::MAX, 0)?;
     match word {
-        Some(word) if seconds == 0 => Err(Fault::Value("--tick", word, NO_TICK)),
-        _ => Ok(seconds),
+        None => Ok(0),
+        Some(word) => match number_in(word, u32::MAX) {
+            Some(seconds) if seconds > 0 => Ok(seconds),
+            Some(_) => Err(Fault::Value("--tick", word, NO_TICK)),
+            None => Err(Fault::Value("--tick", word, NO_VALUE)),
+        },
     }
 }
 
