@@ -9,7 +9,7 @@ from edits import FUNCTION, Bad, Edit, function_at, head_above
 from repository import ROOT
 
 # The head of an impl or a trait, whose methods the prover names by the type and then by the trait.
-HEAD = re.compile(r"\s*(?:unsafe )?(?:impl(?:<.*?>)? (?:(?P<of>[A-Za-z]\w*)(?:<.*>)? for )?(?:&\S+ |&)?(?P<type>[A-Z]\w*)|(?:pub )?trait (?P<trait>\w+))")
+HEAD = re.compile(r"\s*(?:unsafe )?(?:impl(?:<.*?>)? (?:(?P<of>[A-Za-z]\w*)(?:<.*>)? for )?(?:&\S+ |&)?(?P<type>[A-Z]\w*)(?:<dyn (?P<dyn>[A-Z]\w*)>)?|(?:pub )?trait (?P<trait>\w+))")
 
 # What the checker says where a proof names something that an edit took away.
 BY_NAME = re.compile(r"has no field|is not in scope|has no `|was not admitted|is not a field|is no name")
@@ -131,7 +131,8 @@ def path_of(function, text_of, edit):
         if line.strip() and len(line) - len(line.lstrip()) < own:
             found = HEAD.match(line)
             if found:
-                return f"{found['trait'] or found['type'] + (found['of'] or '')}::{name}"
+                of_any = f"Dyn{found['dyn']}" if found["dyn"] else ""
+                return f"{found['trait'] or found['type'] + of_any + (found['of'] or '')}::{name}"
     return module
 
 
