@@ -1,16 +1,13 @@
 //! The command `format [--check] RULES..`.
 
 use lc_model::LONGEST_TEXT;
-use program_io::{STANDARD_INPUT, begin, discard, fault_of, feed_over, keep};
+use program_io::{STANDARD, STANDARD_INPUT, begin, discard, fault_of, feed_over, keep};
 use rpn_compiler::CompileError;
 use rule_layout::FormatError;
 use std::alloc::Global;
 use std::fs::Files;
 use std::io::{Read, Write};
 use tool_faults::{Fault, fault_at, listing_result, read_text};
-
-/// The name of standard input and output among the files.
-const STANDARD: &str = "-";
 
 /// The fault of a text in a file of this name that is not formatted.
 fn format_fault<'a>(alloc: Global, name: &'a str, error: FormatError) -> Fault<'a> {

@@ -7,16 +7,13 @@ use packet_archive::{
     ArchiveFront, Choice, Clock, ImportOptions, Met, Report, Resync, Tally, import_held,
 };
 use program_io::{
-    Feed, STANDARD_INPUT, Why, begin, check_stream_place, discard, feed_of, feed_over,
+    Feed, STANDARD, STANDARD_INPUT, Why, begin, check_stream_place, discard, feed_of, feed_over,
     is_standard_output, keep,
 };
 use std::alloc::Global;
 use std::fs::Files;
 use std::io::{Eprint, Read, Write};
 use tool_faults::{Fault, check_apart, fault_at, listing_result};
-
-/// The name of standard input among the archives, and of standard output in the stream's place.
-const STANDARD: &str = "-";
 
 /// Whether the archive may go on with more bytes: none are left, or those in front are a part of a packet.
 fn may_go_on(met: Met) -> bool {

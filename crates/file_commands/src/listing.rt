@@ -3,6 +3,7 @@
 use crate::record_line::record_lines;
 use analysis_listing::{LineChoice, list_actionpoints};
 use clap::Error;
+use lc_model::Kind;
 use packet_listing::{TextRules, list_named};
 use program_io::{Feed, Noting, feed_of};
 use scenarios::DeclaredItems;
@@ -11,15 +12,28 @@ use std::cell::Cell;
 use std::fs::Files;
 use std::io::{Read, Write};
 use stream_script::{Front, front_of, write_script};
+use table_file::{Layout, open};
 use table_listing::{ListingError, list_table};
 use tool_faults::{
     Fault, LONGEST_TABLE, judgement_fault, listing_result, output_fault, read, written_fault,
 };
 
+/// What is written where watchpoints are named beside a file of watchpoints.
+const ONLY_ACTIONPOINTS: &str =
+    "the listed file holds watchpoints itself; name it here, and list the actionpoints";
+
 /// Writes the help or the version to `out`. The error is that of the output.
 pub fn write_help<'a, W: Write>(text: &Error, out: &mut W) -> Result<(), Fault<'a>> {
     listing_result(write!(out, "{text}"))?;
     listing_result(out.flush())
+}
+
+/// Whether a sound table file holds watchpoints.
+fn holds_watchpoints(file: &[u8]) -> bool {
+    match open(file) {
+        Ok(table) => Layout::of_image(Kind::Wdt, table.image()).is_some(),
+        Err(_) => false,
+    }
 }
 
 /// Writes the warnings about a table of actionpoints; the file `watchpoints` has its watchpoints.
@@ -44,8 +58,8 @@ fn mark<'a, R: Files + AllocGlobal, W: Write>(
 }
 
 /// Lists a table file; with `watchpoints`, the name of the file with the actionpoints' watchpoints, their warnings
-/// follow. Errors: `Table` if the file has a fault, which the listing reports; others are of files, output and
-/// memory.
+/// follow. Errors: `Table` if the file has a fault, which the listing reports; `Value` if it holds watchpoints itself; others are of
+/// files, output and memory.
 pub fn table<'a, R: Files + AllocGlobal, W: Write>(
     rt: &R,
     file: &'a str,
@@ -62,6 +76,9 @@ pub fn table<'a, R: Files + AllocGlobal, W: Write>(
                 return Err(Fault::Table);
             }
             match watchpoints {
+                Some(name) if holds_watchpoints(bytes.as_slice()) => {
+                    Err(Fault::Value("--watchpoints", name, ONLY_ACTIONPOINTS))
+                }
                 Some(name) => mark(rt, name, bytes.as_slice(), &mut noted),
                 None => Ok(()),
             }

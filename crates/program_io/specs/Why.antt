@@ -4,7 +4,7 @@ use Rattle.std.specs.Fmt.{decimal}
 use Rattle.std_io.specs.declared.io.kind.ErrorKind.{ErrorKind}
 use Rattle.std_io.specs.declared.io.kind.ErrorKind.TheVariants as kind
 use Rattle.program_io.specs.declared.why.Why.{Why}
-use Rattle.program_io.specs.declared.why.Why.TheVariants.{NotThere, NotAllowed, Folder, NoFolder, Full, Itself, Nowhere, Loop, NotOwn, NoStream, NoArchive, NoPage, TooLong, Failed}
+use Rattle.program_io.specs.declared.why.Why.TheVariants.{NotThere, NotAllowed, Folder, NoFolder, Full, Itself, Nowhere, Loop, NotOwn, NoStream, NoArchive, NoPage, Dash, TooLong, Failed}
 use Rattle.program_io.specs.declared.why.FileFault.{FileFault}
 use Rattle.program_io.specs.declared.why.FileFault.TheVariants.{Memory, Unusable}
 
@@ -40,5 +40,6 @@ reason NotOwn = codes "another user owns it"
 reason NoStream = codes "it is no stream, and the last name is the stream's"
 reason NoArchive = codes "it is no archive, and the last name is the archive's"
 reason NoPage = codes "it is no page, and the third name is the page's"
+reason Dash = codes "write /dev/stdout for standard output, or ./- for a file"
 reason (TooLong most) = codes "it has more than " ++ (decimal most ++ codes " bytes")
 reason Failed = codes "it failed"

@@ -1,6 +1,7 @@
 //! Files that are written under a temporary name and renamed at the end.
 
 use crate::leftover::{draft_name, own_process, own_user, remove_leftovers};
+use crate::standard::STANDARD;
 use crate::why::{FileFault, Why, fault_of};
 use std::fs::{self, File, Files, Metadata, OpenFile};
 use std::io::{self, ErrorKind};
@@ -90,9 +91,12 @@ fn beside_none<R: Files + AllocGlobal>(
     }
 }
 
-/// Begins a file that gets this name at the end. Errors are of the system, `Folder` for a folder's name, `Nowhere` and `Loop` for a link
-/// that leads to no file, `NotOwn` for another user's file, and a lack of memory.
+/// Begins a file that gets this name at the end. Errors are of the system, `Dash` for `-`, `Folder` for a folder's name, `Nowhere` and
+/// `Loop` for a link that leads to no file, `NotOwn` for another user's file, and a lack of memory.
 pub fn begin<R: Files + AllocGlobal>(rt: &R, name: &str) -> Result<Draft<R::File>, FileFault> {
+    if name == STANDARD {
+        return Err(FileFault::Unusable(Why::Dash));
+    }
     match fs::metadata(rt, name) {
         Ok(there) if there.is_dir() => Err(FileFault::Unusable(Why::Folder)),
         Ok(there) if there.is_file() => beside_old(rt, name, &there),

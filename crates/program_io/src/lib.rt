@@ -29,7 +29,7 @@ pub use named::{check_apart, read_text, read_texts, read_whole_text, write_file}
 pub use noting::Noting;
 pub use replaced::{check_archive_place, check_page_place, check_stream_place};
 pub use shell::Shell;
-pub use standard::{STANDARD_INPUT, STANDARD_OUTPUT};
+pub use standard::{STANDARD, STANDARD_INPUT, STANDARD_OUTPUT};
 pub use whole_files::{read_all, read_front};
 pub use why::{FileFault, Why, fault_of, reason_for};
 pub use writing::write_all_to;

@@ -34,6 +34,8 @@ pub enum Why {
     NoArchive,
     /// It would be replaced by a page, and it is no page.
     NoPage,
+    /// It is `-`, which names no file that is written.
+    Dash,
     /// It is longer than this greatest length for files of its kind, in bytes.
     TooLong(u64),
     /// It failed for another reason.
@@ -57,6 +59,10 @@ impl Display for Why {
             Why::NoStream => write!(f, "it is no stream, and the last name is the stream's"),
             Why::NoArchive => write!(f, "it is no archive, and the last name is the archive's"),
             Why::NoPage => write!(f, "it is no page, and the third name is the page's"),
+            Why::Dash => write!(
+                f,
+                "write /dev/stdout for standard output, or ./- for a file"
+            ),
             Why::TooLong(most) => write!(f, "it has more than {most} bytes"),
             Why::Failed => write!(f, "it failed"),
         }

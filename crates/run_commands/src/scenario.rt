@@ -57,12 +57,12 @@ pub fn make_stream<'a, R: Files + Eprint + AllocGlobal>(
 ) -> Result<(), Fault<'a>> {
     let text = read(rt, script, LONGEST_WHOLE)?;
     check_apart(rt, stream, &[script])?;
+    if let Some(rules) = rules {
+        check_apart(rt, stream, &[rules])?;
+    }
     check_stream_place(rt, stream)?;
     let bytes = match rules {
-        Some(rules) => {
-            check_apart(rt, stream, &[rules])?;
-            stream_by_rules(rt, script, text.as_slice(), rules)?
-        }
+        Some(rules) => stream_by_rules(rt, script, text.as_slice(), rules)?,
         None => stream_of(rt.alloc(), script, text.as_slice(), &[])?,
     };
     warn(rt, script, text.as_slice())?;

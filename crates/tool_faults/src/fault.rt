@@ -11,6 +11,7 @@ use program_io::{ArgumentsError, FileError, Why};
 use rpn_compiler::CompileError;
 use std::alloc::{AllocError, AllocFailed};
 use std::fmt::{self, Display, Formatter, Write};
+use table_listing::FaultLine;
 
 /// Why a command ended early or with another status than 0.
 #[derive(Debug, Drop)]
@@ -145,6 +146,9 @@ impl Display for Fault<'_> {
             Fault::Differs | Fault::Unmet | Fault::NoShutdown => Ok(()),
             Fault::Lines(page) => write!(f, "{page}"),
             Fault::Rules(name, error) => writeln!(f, "{name}: {error}"),
+            Fault::Judgement(name, analysis_listing::ListingError::Table(fault)) => {
+                writeln!(f, "{name}: {}", FaultLine(*fault))
+            }
             Fault::Judgement(name, error) => writeln!(f, "{name}: {error}"),
             Fault::Run(error) => writeln!(f, "{error}"),
             Fault::Stream(name, error) => writeln!(f, "{name}: {error}"),

@@ -8,7 +8,7 @@ import json
 
 from records import LOW_VOLTS
 from row import Row
-from tool_rows import ADT_LISTING, COMPILED, NOT_THERE, read, unusable
+from tool_rows import ADT_LISTING, COMPILED, NOT_THERE, WDT_LISTING, read, unusable
 from warning_rows import read as read_warnings
 
 SAID = read("analysis_rows/stdout").splitlines(keepends=True)
@@ -296,5 +296,26 @@ ROWS = [
         status=1,
         output=ADT_LISTING,
         error=b"other: the tables are of two rule texts\n",
+    ),
+    Row(
+        "actionpoints in the place of the watchpoints",
+        ["flight_tools", "table", "--watchpoints", "adt", "adt"],
+        {"rules": LOW_VOLTS},
+        first=COMPILED,
+        status=1,
+        output=ADT_LISTING,
+        error=b"adt: fault 63 image: another length than the table's images have\n",
+    ),
+    *(
+        Row(
+            f"watchpoints in the place of the actionpoints, beside {title}",
+            ["flight_tools", "table", "--watchpoints", name, "wdt"],
+            {"rules": LOW_VOLTS},
+            first=COMPILED,
+            status=2,
+            output=WDT_LISTING,
+            error=b"--watchpoints %s: the listed file holds watchpoints itself; name it here, and list the actionpoints\n" % name.encode(),
+        )
+        for title, name in (("the actionpoints", "adt"), ("themselves", "wdt"), ("no file", "none"))
     ),
 ]

@@ -276,6 +276,7 @@ REPLACED = [
         for title, old in (("empty", b""), ("a tick", TICK), ("a stream that is cut", BUS_STREAM[:11]), ("what is no record behind a tick", TICK + b"\x09" * 11))
     ),
     Row("what is no stream in a stream's place, before a script that is refused", MADE, {"script": b"tock\n", "stream": LOW_VOLTS}, status=3, error=b"cannot use stream: %s\n" % NO_STREAM),
+    Row("a stream in a file whose name is a dash", [*MADE[:3], "./-"], {"script": BUS_SCRIPT}, after={"-": BUS_STREAM}),
     Row("a stream to a device", [*MADE[:3], "/dev/null"], {"script": b"tick\n"}),
     Row("a page to a device", [*REPORT[:4], "/dev/null", "rules"], FILES),
 ]
@@ -307,6 +308,10 @@ UNUSABLE = [
         "report schedule stream page rules",
         {**FILES, "other": b""},
         forbidden=["other"],
+    ),
+    *(
+        unusable(f"{what} to standard output by a word that `import` knows", b"-", b"write /dev/stdout for standard output, or ./- for a file", words, {**FILES, "script": b"tick\n"})
+        for what, words in (("a page", "report schedule stream - rules"), ("a stream", "scenario script -"), ("an archive", "export stream -"))
     ),
     unusable("a stream to a folder", b"folder", b"it is a folder", "scenario script folder", {"script": b"", "folder": FOLDER}),
     unusable("a stream in a folder that isn't there", b"none/made", NOT_THERE, "scenario script none/made", {"script": b""}),

@@ -181,8 +181,8 @@ ITSELF = b"the same call reads it, or writes it twice"
 
 PLACES = [
     unusable("a comparison over a folder", "compare schedule folder a b", b"folder", b"it is a folder", folder=FOLDER),
-    unusable("a stream over its rule text", "scenario --rules a script a", b"a", b"it is no stream, and the last name is the stream's"),
-    unusable("a stream over its rule text, which is empty", "scenario --rules a script a", b"a", ITSELF, a=b""),
+    unusable("a stream over its rule text", "scenario --rules a script a", b"a", ITSELF),
+    unusable("a stream over another text than its own", "scenario --rules a script b", b"b", b"it is no stream, and the last name is the stream's"),
     *(unusable(f"a page over {name} of three texts", f"report schedule stream {name} a b c", name.encode(), ITSELF) for name in ("schedule", "stream", "a", "b", "c")),
 ]
 
