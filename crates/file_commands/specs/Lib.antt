@@ -2,3 +2,4 @@ pub mod Asked
 pub mod Taken
 pub mod Ends
 pub mod Import
+pub mod Listed

@@ -1,5 +1,8 @@
 //! The commands that list a file as text.
 
+ghost use Rattle.std.specs.Prelude.{◌≡◌};
+ghost use Rattle.file_commands.specs.Listed.{holds_watchpoints};
+
 use crate::record_line::record_lines;
 use analysis_listing::{LineChoice, list_actionpoints};
 use clap::Error;
@@ -28,8 +31,10 @@ pub fn write_help<'a, W: Write>(text: &Error, out: &mut W) -> Result<(), Fault<'
     listing_result(out.flush())
 }
 
-/// Whether a sound table file holds watchpoints.
-fn holds_watchpoints(file: &[u8]) -> bool {
+/// Whether a file is a table file with an image as long as those of watchpoints.
+fn holds_watchpoints(file: &[u8]) -> bool
+    ensures { result ≡ holds_watchpoints file.now }
+{
     match open(file) {
         Ok(table) => Layout::of_image(Kind::Wdt, table.image()).is_some(),
         Err(_) => false,
