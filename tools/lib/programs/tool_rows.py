@@ -310,6 +310,10 @@ UNUSABLE = [
         forbidden=["other"],
     ),
     *(
+        unusable(f"{what} over a file that the system forbids to read", b"old", b"the system does not allow it", words, {**FILES, "script": b"tick\n", "old": old}, forbidden=["old"])
+        for what, words, old in (("a page", "report schedule stream old rules", OLD_PAGE), ("a stream", "scenario script old", BUS_STREAM), ("an archive", "export stream old", BUS_STREAM))
+    ),
+    *(
         unusable(f"{what} to standard output by a word that `import` knows", b"-", b"write /dev/stdout for standard output, or ./- for a file", words, {**FILES, "script": b"tick\n"})
         for what, words in (("a page", "report schedule stream - rules"), ("a stream", "scenario script -"), ("an archive", "export stream -"))
     ),
