@@ -235,6 +235,7 @@ REPORTS = [
             ("a half of a text that isn't given", LATE_HALF, b"record 1 names rule text 1, which is not given"),
             ("a half of a text that isn't given at its end", BUS_STREAM + LATE_HALF, b"record 25 names rule text 1, which is not given"),
             ("a half of the last text that a record can name", half(LATE, 2, 65_535), b"record 1 names rule text 65535, which is not given"),
+            ("halves of two texts that aren't given", half(LATE, 2, 3) + LATE_HALF, b"record 1 names rule text 3, which is not given"),
             ("what is no half of a text", half(LATE, 3, 1), b"record 1 is none"),
             ("a half of a text that isn't given behind what is no record", TICK + b"\x09" + bytes(10) + LATE_HALF, b"record 2 is none"),
             ("a half of a text that isn't given, which is cut", TICK + LATE_HALF[:-1], b"the stream ends inside record 2"),
