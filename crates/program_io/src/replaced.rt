@@ -1,7 +1,8 @@
 //! Old files that a stream, an archive or a page takes the place of.
 
-ghost use Rattle.std.specs.Prelude.{◌≡◌};
+ghost use Rattle.std.specs.Prelude.{◌≡◌, IfErr};
 ghost use Rattle.program_io.specs.Replaced.{begins_packet, begins_stream};
+ghost use Rattle.program_io.specs.Stops.{IsOfFile};
 
 use crate::error::{FileError, error_at};
 use crate::whole_files::read_front;
@@ -33,7 +34,9 @@ fn old_front<'a, R: Files + AllocGlobal>(
     rt: &R,
     name: &'a str,
     most: u64,
-) -> Result<Option<Vec<u8>>, FileError<'a>> {
+) -> Result<Option<Vec<u8>>, FileError<'a>>
+    ensures { IfErr result (IsOfFile name.entry.now) }
+{
     match fs::metadata(rt, name) {
         Ok(there) if there.is_file() && there.len() > 0 => {}
         _ => return Ok(None),
@@ -49,7 +52,9 @@ fn old_front<'a, R: Files + AllocGlobal>(
 pub fn check_stream_place<'a, R: Files + AllocGlobal>(
     rt: &R,
     name: &'a str,
-) -> Result<(), FileError<'a>> {
+) -> Result<(), FileError<'a>>
+    ensures { IfErr result (IsOfFile name.entry.now) }
+{
     match old_front(rt, name, HEADER as u64)? {
         Some(front) if !begins_stream(front.as_slice()) => {
             Err(FileError::Unusable(name, Why::NoStream))
@@ -63,7 +68,9 @@ pub fn check_stream_place<'a, R: Files + AllocGlobal>(
 pub fn check_archive_place<'a, R: Files + AllocGlobal>(
     rt: &R,
     name: &'a str,
-) -> Result<(), FileError<'a>> {
+) -> Result<(), FileError<'a>>
+    ensures { IfErr result (IsOfFile name.entry.now) }
+{
     match old_front(rt, name, VERSION_SIZE)? {
         Some(front) if !begins_packet(front.as_slice()) => {
             Err(FileError::Unusable(name, Why::NoArchive))
@@ -78,7 +85,9 @@ pub fn check_page_place<'a, R: Files + AllocGlobal>(
     rt: &R,
     name: &'a str,
     front: &[u8],
-) -> Result<(), FileError<'a>> {
+) -> Result<(), FileError<'a>>
+    ensures { IfErr result (IsOfFile name.entry.now) }
+{
     match old_front(rt, name, front.len() as u64)? {
         Some(old) if old.as_slice() != front => Err(FileError::Unusable(name, Why::NoPage)),
         _ => Ok(()),
