@@ -8,8 +8,9 @@ from archives import is_left_by_ci, kit, library_words
 from edits import FUNCTION, Bad, Edit, function_at, head_above
 from repository import ROOT
 
-# The head of an impl or a trait, whose methods the prover names by the type and then by the trait.
-HEAD = re.compile(r"\s*(?:unsafe )?(?:impl(?:<.*?>)? (?:(?P<of>[A-Za-z]\w*)(?:<.*>)? for )?(?:&\S+ |&)?(?P<type>[A-Z]\w*)(?:<dyn (?P<dyn>[A-Z]\w*)>)?|(?:pub )?trait (?P<trait>\w+))")
+# The head of an impl or a trait, whose methods the prover names by the type, then by the trait, and then by the trait's argument, where
+# that is a type and no letter: as `ErrorFromIoError` for `From<io::Error>`.
+HEAD = re.compile(r"\s*(?:unsafe )?(?:impl(?:<.*?>)? (?:(?P<of>[A-Za-z]\w*)(?:<(?P<what>[A-Za-z][\w:]*)?.*>)? for )?(?:&\S+ |&)?(?P<type>[A-Z]\w*)(?:<dyn (?P<dyn>[A-Z]\w*)>)?|(?:pub )?trait (?P<trait>\w+))")
 
 # What the checker says where a proof names something that an edit took away.
 BY_NAME = re.compile(r"has no field|is not in scope|has no `|was not admitted|is not a field|is no name")
@@ -108,6 +109,11 @@ class Said:
                 self.note(plain(found[1].split("::")), goal, text_of)
 
 
+def camel(argument):
+    """A trait's argument in the prover's name of an impl; nothing for a letter, which stands for any type."""
+    return "".join(it[:1].upper() + it[1:] for it in argument.split("::")) if len(argument) > 1 else ""
+
+
 def path_of(function, text_of, edit):
     """The end of the path by which the prover knows a function that an edit names by module and name. A method's is its type, which may
     be of another module, and its name. It is the one of its name that the edit changes, or else that its module has; where that is not
@@ -132,7 +138,7 @@ def path_of(function, text_of, edit):
             found = HEAD.match(line)
             if found:
                 of_any = f"Dyn{found['dyn']}" if found["dyn"] else ""
-                return f"{found['trait'] or found['type'] + of_any + (found['of'] or '')}::{name}"
+                return f"{found['trait'] or found['type'] + of_any + (found['of'] or '') + camel(found['what'] or '')}::{name}"
     return module
 
 
