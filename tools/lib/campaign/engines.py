@@ -39,7 +39,8 @@ class Parallel:
         needed("parallel", "parallel")
 
     def words(self):
-        jobs = ["--jobs", str(self.jobs)] if self.jobs else []
+        # (for more jobs than tasks parallel only looks for room, which takes it many seconds)
+        jobs = ["--jobs", str(min(self.jobs, -(-self.count // self.chunk)))] if self.jobs else []
         words = ["parallel", "--retries", str(TRIES), "--joblog", f"{self.round}/joblog", "--max-args", str(self.chunk), *jobs]
         return [*words, *self.places(), shlex.quote(self.task), shlex.quote(self.round)]
 
