@@ -109,7 +109,7 @@ class Said:
                 self.note(plain(found[1].split("::")), goal, text_of)
 
 
-def camel(argument):
+def argument_name(argument):
     """A trait's argument in the prover's name of an impl; nothing for a letter, which stands for any type."""
     return "".join(it[:1].upper() + it[1:] for it in argument.split("::")) if len(argument) > 1 else ""
 
@@ -138,7 +138,7 @@ def path_of(function, text_of, edit):
             found = HEAD.match(line)
             if found:
                 of_any = f"Dyn{found['dyn']}" if found["dyn"] else ""
-                return f"{found['trait'] or found['type'] + of_any + (found['of'] or '') + camel(found['what'] or '')}::{name}"
+                return f"{found['trait'] or found['type'] + of_any + (found['of'] or '') + argument_name(found['what'] or '')}::{name}"
     return module
 
 
