@@ -237,6 +237,17 @@ QUESTIONS = [
 ]
 
 
+def faults_of_ask(client, number, what, ask, said):
+    """What is wrong with the answer to a row, whose documents have this number."""
+    with Desk(client, ask, number) as desk:
+        try:
+            found, wanted = said(desk)
+        except (Refusal, KeyError, TypeError, ValueError) as error:
+            found, wanted = f"{type(error).__name__} {error}", "an answer"
+    if found != wanted:
+        yield f"{what}: {ask.title}: {found}, not {wanted}"
+
+
 def faults_of_rows(client):
     """The rows whose answers are other ones."""
     offer = {"capabilities": rows.CAPABILITIES, "serverInfo": {"name": "flight_tools", "version": version()}}
@@ -246,11 +257,5 @@ def faults_of_rows(client):
     for what, asks, said in QUESTIONS:
         for ask in (variant for ask in asks for variant in variants(ask)):
             count += 1
-            with Desk(client, ask, count) as desk:
-                try:
-                    found, wanted = said(desk)
-                except (Refusal, KeyError, TypeError, ValueError) as error:
-                    found, wanted = f"{type(error).__name__} {error}", "an answer"
-            if found != wanted:
-                yield f"{what}: {ask.title}: {found}, not {wanted}"
+            yield from faults_of_ask(client, count, what, ask, said)
     print(f"{count} questions about texts")

@@ -1,0 +1,109 @@
+"""Mutants: the functions that no clause speaks of, each with wrong bodies."""
+
+import json
+import os
+import re
+
+from archives import below, crates
+from plants import kit_tool
+from repository import ROOT
+
+PROGRAMS = ["flight_tools", "flight_run"]
+MOST_OF_A_FUNCTION = 4
+# How a body of the kit's names what it can't reach by that path.
+PATHS = [("std_alloc::vec::", "std::vec::"), ("std_alloc::string::", "std::string::"), ("std::String::", "std::string::String::")]
+PATHS += [("std::Vec::", "std::vec::Vec::"), ("std_io::Error::", "std::io::Error::")]
+
+
+def root_of(crate):
+    return "src/main.rt" if os.path.isfile(f"{ROOT}/crates/{crate}/src/main.rt") else "src/lib.rt"
+
+
+def names():
+    """The crates that the programs are built of, each after those below it."""
+    every = crates(ROOT)
+    wanted = {it for program in PROGRAMS for it in [program, *below(program, every)]}
+    return [it for it in every if it in wanted]
+
+
+def source_of(tool, clone, crate):
+    """The functions of a crate as the kit reads them, with the types of all that is below it."""
+    source = tool.bodies.Source(f"{ROOT}/crates/{crate}")
+    source.read(root_of(crate))
+    built = tool.rt.Crate(f"{clone}/crates/{crate}", clone, {})
+    for library, rlib in tool.libraries(built).items():
+        if library not in (*tool.rt.SEALED, "libc", "os"):
+            source.add_library(library, f"{rlib}/lang")
+    return source, tool.ensured_by_traits(built, source)
+
+
+def is_said_by_trait(tool, source, function, ensured):
+    """Whether the clauses of a method's trait say what it does. Those of `Display` do where the impl has an output, and what `Debug`
+    prints is nobody's."""
+    trait = tool.bodies.named(function.block.trait)[0] if function.in_trait else ""
+    start, end = function.block.span if function.block else (0, 0)
+    is_open = trait == "Display" and b"ghost output" not in source.data[function.file][start:end]
+    return trait == "Debug" or ((trait, function.name) in ensured and not is_open)
+
+
+def has_no_clause(tool, source, function, ensured):
+    """Whether no clause speaks of a function that answers or changes something."""
+    is_constant = source.data[function.file][: function.start].rstrip().endswith(b"const")
+    is_declared = not function.has_body or bool(function.block and function.block.is_trait)
+    is_left_out = is_declared or is_constant or function.name == "main" or function.ret == ["!"]
+    is_said = function.has_ensures or is_said_by_trait(tool, source, function, ensured)
+    return not is_left_out and not is_said and bool(function.ret or function.mutates)
+
+
+def is_in_scope(source, function, body):
+    """Whether a body takes memory only where the function is given some."""
+    head = source.data[function.file][function.named[0] : function.opens]
+    return not re.search(r"\balloc\b", body) or re.search(rb"\balloc\s*:", head)
+
+
+def bodies_of(tool, source, function):
+    """The wrong bodies of a function. Those that answer something go before those that only fail."""
+    found = sorted(tool.bodies.Bodies(source, function).giving_up(), key=lambda it: it.kind == "failure")
+    for it in found:
+        body = re.sub(r"(?<![:\w])io::Error", "std::io::Error", it.text)
+        for was, path in PATHS:
+            body = body.replace(was, path)
+        if "Default::default" not in body and is_in_scope(source, function, body):
+            yield body
+
+
+def kept_tokens(bodies):
+    """Lets the kit read each file once."""
+    read, kept = bodies.Source.tokens, {}
+
+    def tokens(self, file):
+        place = (self.folder, file)
+        if place not in kept:
+            kept[place] = read(self, file)
+        return kept[place]
+
+    bodies.Source.tokens = tokens
+
+
+def mutants_over(clone):
+    """All mutants, by number from 1. The libraries that `rt ci` left in a clone say what types there are."""
+    tool, found = kit_tool(), []
+    kept_tokens(tool.bodies)
+    for crate in names():
+        source, ensured = source_of(tool, clone, crate)
+        for function in source.functions:
+            if has_no_clause(tool, source, function, ensured):
+                for body in [*bodies_of(tool, source, function)][:MOST_OF_A_FUNCTION]:
+                    place = {"crate": crate, "file": function.file, "at": function.opens, "shown": f"crates/{crate}/{function.shown}"}
+                    found.append({"number": len(found) + 1, **place, "body": body, "is_refused": False})
+    return found
+
+
+def read_mutants(path):
+    with open(path, encoding="utf-8") as file:
+        return json.load(file)
+
+
+def write_mutants(path, mutants):
+    with open(path, "w", encoding="utf-8") as file:
+        json.dump(mutants, file, indent=1)
