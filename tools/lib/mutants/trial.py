@@ -125,13 +125,13 @@ def cases_of(programs):
         return [*server.faults_of_session(tools, part, Words)]
 
     for number, trial in enumerate(rows.TRIALS):
-        yield f"{number} {trial.title}", lambda trial=trial: [*trial.faults(programs)]
+        yield f"trial {number} {trial.title}", lambda trial=trial: [*trial.faults(programs)]
     for number, row in enumerate(rows.ROWS):
-        yield f"{number} {row.title}", lambda row=row: rows.faults_of(row, programs)
+        yield f"row {number} {row.title}", lambda row=row: rows.faults_of(row, programs)
     for number, talk in enumerate(talks.TALKS):
-        yield f"{number} {talk.title}", lambda talk=talk: [*talks.faults_of_talk(tools, talk)]
+        yield f"talk {number} {talk.title}", lambda talk=talk: [*talks.faults_of_talk(tools, talk)]
     for what, asks, said in language.QUESTIONS:
         for number, ask in enumerate(asks):
-            yield f"{what} {number} {ask.title}", lambda what=what, ask=ask, said=said: answer(what, ask, said)
+            yield f"question {what} {number} {ask.title}", lambda what=what, ask=ask, said=said: answer(what, ask, said)
     for part in SESSIONS:
         yield f"session {part}", lambda part=part: session(part)
