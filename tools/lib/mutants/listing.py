@@ -38,12 +38,13 @@ def source_of(tool, clone, crate):
 
 
 def is_said_by_trait(tool, source, function, ensured):
-    """Whether the clauses of a method's trait say what it does. Those of `Display` do where the impl has an output, and what `Debug`
-    prints is nobody's."""
-    trait = tool.bodies.named(function.block.trait)[0] if function.in_trait else ""
-    start, end = function.block.span if function.block else (0, 0)
-    is_open = trait == "Display" and b"ghost output" not in source.data[function.file][start:end]
-    return trait == "Debug" or ((trait, function.name) in ensured and not is_open)
+    """Whether the clauses of a method's trait say what it does, as they do where the impl has a ghost member: an output of `Display`,
+    what `From` gives. What `Debug` prints is nobody's."""
+    if not function.in_trait:
+        return False
+    trait, (start, end) = tool.bodies.named(function.block.trait)[0], function.block.span
+    has_ghost = b"ghost " in source.data[function.file][start:end]
+    return trait == "Debug" or (has_ghost and (trait, function.name) in ensured)
 
 
 def has_no_clause(tool, source, function, ensured):
