@@ -87,16 +87,18 @@ def kept_tokens(bodies):
 
 
 def mutants_over(clone):
-    """All mutants, by number from 1. The libraries that `rt ci` left in a clone say what types there are."""
+    """All mutants, by number from 1; one without a body, as if refused, for a function for which none can be written. The libraries that
+    `rt ci` left in a clone say what types there are."""
     tool, found = kit_tool(), []
     kept_tokens(tool.bodies)
     for crate in names():
         source, ensured = source_of(tool, clone, crate)
         for function in source.functions:
             if has_no_clause(tool, source, function, ensured):
-                for body in [*bodies_of(tool, source, function)][:MOST_OF_A_FUNCTION]:
+                bodies = [*bodies_of(tool, source, function)][:MOST_OF_A_FUNCTION]
+                for body in bodies or [""]:
                     place = {"crate": crate, "file": function.file, "at": function.opens, "shown": f"crates/{crate}/{function.shown}"}
-                    found.append({"number": len(found) + 1, **place, "body": body, "is_refused": False})
+                    found.append({"number": len(found) + 1, **place, "body": body, "is_refused": not bodies})
     return found
 
 

@@ -19,7 +19,7 @@ from mutants.listing import PROGRAMS
 NAME, LONGEST_NAME = b"the file that says which mutant is planted", 256
 BYTES, MARKS = 16_384, 8
 NOBODY = 0xFFFF_FFFF
-# With an address sanitizer a call takes some five times its seconds. Rows that need more than this aren't run.
+# With an address sanitizer a call takes some five times its seconds. A row that needs more than this does not pass, and is left out.
 SECONDS = 12
 SESSIONS = ["opening", "fixes", "scripts"]
 
