@@ -30,6 +30,18 @@ def processor_words(target):
     return ["--target", TARGETS[target], "--cpu", PROCESSORS[target]]
 
 
+def root_of(top, name):
+    """The file that a crate begins with."""
+    return "src/main.rt" if os.path.isfile(f"{top}/crates/{name}/src/main.rt") else "src/lib.rt"
+
+
+def makes_library(top, name):
+    """Whether a crate is built into a library for other crates, and neither a program nor an archive for C."""
+    with open(f"{top}/crates.txt", encoding="utf-8") as file:
+        is_archive = re.search(rf"^{name} +staticlib\b", file.read(), re.M) is not None
+    return not is_archive and root_of(top, name) == "src/lib.rt"
+
+
 def is_left_by_ci(top, names):
     """Whether the libraries of these crates are those that `rt ci` left: what `rt check` builds has a stamp."""
     folders = [(it, f"{top}/crates/{it}/out/rlib") for it in names]
@@ -41,10 +53,10 @@ def kit():
     return os.path.dirname(subprocess.run(["rt", "doc"], stdout=subprocess.PIPE, text=True, check=True).stdout.strip())
 
 
-def library_words(top, name, root="src/lib.rt"):
+def library_words(top, name):
     """The words of `rattle` that name a crate, its libraries (the kit's, and those that `rt ci` proved and left) and the logic."""
     at_kit, every = kit(), crates(top)
-    words = ["--crate-name", name, root]
+    words = ["--crate-name", name, root_of(top, name)]
     for it in ["std", *(it for it in every[name] if it not in every)]:
         words += ["--extern", f"{it}={at_kit}/rlibs/{it}.rlib"]
     words += ["-L", f"dependency={at_kit}/rlibs"]

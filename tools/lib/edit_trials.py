@@ -306,8 +306,7 @@ class TrialOverLibraries(Trial):
 
     def words(self, edits, looked_at):
         # (what the first check keeps of definitions and proofs, the others take over)
-        root = "src/lib.rt" if os.path.isfile(f"{self.folder}/src/lib.rt") else "src/main.rt"
-        words = [f"{kit()}/bin/rattle", "check", *library_words(self.clone, self.crate, root), "--incremental", f"{self.folder}/kept", "--jobs", "1", "--allow-holes"]
+        words = [f"{kit()}/bin/rattle", "check", *library_words(self.clone, self.crate), "--incremental", f"{self.folder}/kept", "--jobs", "1", "--allow-holes"]
         paths = [self.looked_at(it) for it in looked_at]
         named = dict.fromkeys(path for its in paths for path in its) if all(paths) else []
         return [*words, *(word for it in named for word in ("--only", it))]

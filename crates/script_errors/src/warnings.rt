@@ -18,6 +18,9 @@ const NO_APPLICATION: &str = "unknown-application";
 /// The name of the warning about a table that this profile doesn't have.
 const NO_TABLE: &str = "unknown-table";
 
+/// The name of the warning about a block that is repeated 0 times.
+const LEFT_OUT: &str = "left-out";
+
 /// The applications of this profile.
 const APPLICATIONS: &[&[u8]] = &[b"LC", b"SCH", b"COUNTER"];
 
@@ -140,16 +143,35 @@ fn id_warning(alloc: Global, line: &[u8], begin: usize) -> Result<Option<Message
     Ok(Some(Message::warning(alloc, NAME, head, mark)))
 }
 
+/// The warning about a line that begins a block of a valid script, if it is repeated 0 times. `begin` is the line's place in the text.
+fn block_warning(alloc: Global, line: &[u8], begin: usize) -> Result<Option<Message>, AllocError> {
+    let (verb, number) = (nth_word(line, 0), nth_word(line, 1));
+    let is_zero = number.text.iter().all(|byte| matches!(*byte, b'0' | b'x'));
+    if !matches!(verb.text, b"repeat") || !is_zero {
+        return Ok(None);
+    }
+    let head = "the lines of this block are left out, and so are their expectations";
+    let mark = Mark {
+        at: begin.saturating_add(number.at),
+        size: number.text.len(),
+        label: String::from_str(alloc, "repeated 0 times")?,
+    };
+    Ok(Some(Message::warning(alloc, LEFT_OUT, String::from_str(alloc, head)?, mark)))
+}
+
 /// The warning about a line, if there is one. `begin` is the line's place in the text.
 fn line_warning(alloc: Global, line: &[u8], begin: usize) -> Result<Option<Message>, AllocError> {
-    match name_warning(alloc, line, begin)? {
-        Some(warning) => Ok(Some(warning)),
-        None => id_warning(alloc, line, begin),
+    if let Some(warning) = name_warning(alloc, line, begin)? {
+        return Ok(Some(warning));
     }
+    if let Some(warning) = id_warning(alloc, line, begin)? {
+        return Ok(Some(warning));
+    }
+    block_warning(alloc, line, begin)
 }
 
 /// The warnings about a valid script, at most one for each line: telemetry whose message id isn't one of telemetry, commands whose id isn't
-/// one of a command, and unknown applications and tables. After a hundred warnings the rest is left out.
+/// one of a command, unknown applications and tables, and blocks that are repeated 0 times. After a hundred warnings the rest is left out.
 ///
 /// Error: out of memory.
 pub fn script_warnings(alloc: Global, text: &[u8]) -> Result<Vec<Message>, AllocError> {

@@ -1,10 +1,10 @@
-"""Mutants: the functions that no clause speaks of, each with wrong bodies."""
+"""Mutants: functions that no clause speaks of, or whose contract lets wrong bodies through, with such bodies."""
 
+import collections
 import json
-import os
 import re
 
-from archives import below, crates
+from archives import below, crates, root_of
 from plants import kit_tool
 from repository import ROOT
 
@@ -14,9 +14,8 @@ MOST_OF_A_FUNCTION = 4
 PATHS = [("std_alloc::vec::", "std::vec::"), ("std_alloc::string::", "std::string::"), ("std::String::", "std::string::String::")]
 PATHS += [("std::Vec::", "std::vec::Vec::"), ("std_io::Error::", "std::io::Error::")]
 
-
-def root_of(crate):
-    return "src/main.rt" if os.path.isfile(f"{ROOT}/crates/{crate}/src/main.rt") else "src/lib.rt"
+# A line on a body that a contract let through, and the one that ends a crate.
+LET_THROUGH = re.compile(r"(?m)^proves +(.+?): \{ (.*) \}$|^plants crate=(\w+) ")
 
 
 def names():
@@ -29,7 +28,7 @@ def names():
 def source_of(tool, clone, crate):
     """The functions of a crate as the kit reads them, with the types of all that is below it."""
     source = tool.bodies.Source(f"{ROOT}/crates/{crate}")
-    source.read(root_of(crate))
+    source.read(root_of(ROOT, crate))
     built = tool.rt.Crate(f"{clone}/crates/{crate}", clone, {})
     for library, rlib in tool.libraries(built).items():
         if library not in (*tool.rt.SEALED, "libc", "os"):
@@ -62,15 +61,33 @@ def is_in_scope(source, function, body):
     return not re.search(r"\balloc\b", body) or re.search(rb"\balloc\s*:", head)
 
 
-def bodies_of(tool, source, function):
-    """The wrong bodies of a function. Those that answer something go before those that only fail."""
+def in_program(source, function, body):
+    """A body with the paths by which a program reaches what it names, or None where it can't stand there."""
+    body = re.sub(r"(?<![:\w])io::Error", "std::io::Error", body)
+    for was, path in PATHS:
+        body = body.replace(was, path)
+    return body if "Default::default" not in body and is_in_scope(source, function, body) else None
+
+
+def without_clause(tool, crate, source, function, ensured):
+    """The wrong bodies of a function of which no clause speaks; None of another one. Those that answer something go before those that
+    only fail."""
+    if not has_no_clause(tool, source, function, ensured):
+        return None
     found = sorted(tool.bodies.Bodies(source, function).giving_up(), key=lambda it: it.kind == "failure")
-    for it in found:
-        body = re.sub(r"(?<![:\w])io::Error", "std::io::Error", it.text)
-        for was, path in PATHS:
-            body = body.replace(was, path)
-        if "Default::default" not in body and is_in_scope(source, function, body):
-            yield body
+    return [it.text for it in found]
+
+
+def let_through(said):
+    """What gives the bodies of a function that its contract let through, as `try_plants --all` printed them; None of another function. A
+    body that calls the function itself is left out: it would call the mutant."""
+    found, here = {}, collections.defaultdict(list)
+    for shown, body, crate in LET_THROUGH.findall(said):
+        if crate:
+            found[crate], here = here, collections.defaultdict(list)
+        elif not re.search(rf"\b[Ss]elf::{re.escape(shown.rpartition(':')[2])}\b", body):
+            here[shown].append(body)
+    return lambda tool, crate, source, function, ensured: found.get(crate, {}).get(function.shown)
 
 
 def kept_tokens(bodies):
@@ -86,7 +103,7 @@ def kept_tokens(bodies):
     bodies.Source.tokens = tokens
 
 
-def mutants_over(clone):
+def mutants_over(clone, wrong_bodies=without_clause):
     """All mutants, by number from 1; one without a body, as if refused, for a function for which none can be written. The libraries that
     `rt ci` left in a clone say what types there are."""
     tool, found = kit_tool(), []
@@ -94,8 +111,9 @@ def mutants_over(clone):
     for crate in names():
         source, ensured = source_of(tool, clone, crate)
         for function in source.functions:
-            if has_no_clause(tool, source, function, ensured):
-                bodies = [*bodies_of(tool, source, function)][:MOST_OF_A_FUNCTION]
+            wrong = wrong_bodies(tool, crate, source, function, ensured)
+            if wrong is not None:
+                bodies = [it for it in (in_program(source, function, it) for it in wrong) if it is not None][:MOST_OF_A_FUNCTION]
                 for body in bodies or [""]:
                     place = {"crate": crate, "file": function.file, "at": function.opens, "shown": f"crates/{crate}/{function.shown}"}
                     found.append({"number": len(found) + 1, **place, "body": body, "is_refused": not bodies})

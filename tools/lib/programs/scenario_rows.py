@@ -31,9 +31,16 @@ def command(second, mid, code, payload):
     return recorded(second, commanded(mid, code, payload))
 
 
-def says(title, lines, stream, rules=RULES):
-    return Row(title, SCENARIO, {"rules": rules, "script": lines}, after={"stream": stream})
+def says(title, lines, stream, rules=RULES, error=b""):
+    return Row(title, SCENARIO, {"rules": rules, "script": lines}, error=error, after={"stream": stream})
 
+
+# What is said of the block in line 8 that is repeated 0 times.
+LEFT_OUT = b"""script:8:8: warning[left-out]: the lines of this block are left out, and so are their expectations
+  8 | repeat 0 {
+    |        ^ repeated 0 times
+
+"""
 
 
 # Commands that lines of a script say, rule 0 being LOW and rule 1 HOT.
@@ -146,7 +153,7 @@ repeat 2 {
 repeat 0 {
   tick
 }
-""", bus(0, 0, 1) + tick(1) + tick(2) + bus(2, 1, 1) + tick(3) + tick(4)),
+""", bus(0, 0, 1) + tick(1) + tick(2) + bus(2, 1, 1) + tick(3) + tick(4), error=LEFT_OUT),
     says("commands in words", b"""\
 mode passive
 state HOT disabled

@@ -52,7 +52,28 @@ def no_table(word, advice=b"there are `LC.LC_WDT` and `LC.LC_ADT`"):
     return b"unknown-table", word, b"no table has the name `%s`", advice
 
 
+def left_out(word):
+    return b"left-out", word, b"the lines of this block are left out, and so are their expectations%.0s", b"repeated 0 times"
+
+
 WARNINGS = [
+    warned(
+        "blocks that are repeated and blocks that are left out",
+        [
+            (b"command 1800 1 -", None),
+            (b"repeat 1 {", None),
+            (b"repeat 0x0 {", left_out(b"0x0")),
+            (b"repeat 0x10 {", None),
+            (b"command 0FFF 1 -", no_command(b"0FFF")),
+            (b"}", None),
+            (b"}", None),
+            (b"  repeat 00  { # nothing", left_out(b"00")),
+            (b"}", None),
+            (b"repeat 10 {", None),
+            (b"}", None),
+            (b"}", None),
+        ],
+    ),
     warned(
         "message ids at the ends of their ranges",
         [

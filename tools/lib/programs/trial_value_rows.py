@@ -144,11 +144,20 @@ OF_UNFIT = b"""script:4:8: warning[message-id]: the message id `18A4` is not one
 
 """
 MET = b"script: 1 expectation, 0 not met\n"
+# A block that is repeated 0 times, with an expectation that isn't met: nobody asks.
+EMPTY = BEGIN + b"expect no sequence\nrepeat 0 {\n  expect sequence\n}\n"
+OF_EMPTY = b"""script:5:8: warning[left-out]: the lines of this block are left out, and so are their expectations
+  5 | repeat 0 {
+    |        ^ repeated 0 times
+
+"""
 
 WARNINGS = [
     tried("a trial of a script with a warning", UNFIT, MET, OF_UNFIT),
     tried("a trial of a script with a warning, strictly", UNFIT, MET, OF_UNFIT, status=1, words=["--strict"]),
     tried("a trial of a script without a warning, strictly", UNFIT.replace(b"18A4", b"0884"), MET, words=["--strict"]),
+    tried("a trial of a script with an expectation that is left out", EMPTY, MET, OF_EMPTY),
+    tried("a trial of a script with an expectation that is left out, strictly", EMPTY, MET, OF_EMPTY, status=1, words=["--strict"]),
 ]
 
 # ---- names of the second text
