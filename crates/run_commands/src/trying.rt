@@ -138,6 +138,10 @@ fn warning_head(
             force,
             rule,
         } => other_text_head(alloc, texts, text, force, rule),
+        TrialWarning::NoRecord { n: _ } => String::from_str(
+            alloc,
+            "the run has no record in these seconds: nothing could come, whatever the rules are",
+        ),
         TrialWarning::NothingRan { n: _ } => String::from_str(
             alloc,
             "nothing came of the Limit Checker, of which this expects something",
@@ -158,6 +162,7 @@ fn name_and_line(warning: TrialWarning) -> (&'static str, usize) {
             force: _,
             rule: _,
         } => ("rule-text", n),
+        TrialWarning::NoRecord { n } => ("no-record", n),
         TrialWarning::NothingRan { n } => ("nothing-ran", n),
         TrialWarning::NothingTried => ("nothing-tried", 1),
     }

@@ -1,6 +1,6 @@
 -- The packets that each record of a stream leads to, by the definitions. This project's own.
-use Rattle.std.specs.Prelude.{◌≡◌, ℕ, zero, suc, ◌+◌, ◌&&◌, List, [], ◌∷◌, ◌++◌, drop, length, map, min, nat_le, nat_lt, slice_get, take, Option, Some, None, if◌then◌else◌}
-use Rattle.std.specs.List.{AllByRecursion, concat}
+use Rattle.std.specs.Prelude.{◌≡◌, ℕ, zero, suc, ◌+◌, ◌&&◌, Bool, List, [], ◌∷◌, ◌++◌, drop, length, map, min, nat_le, nat_lt, slice_get, take, Option, Some, None, if◌then◌else◌}
+use Rattle.std.specs.List.{AllByRecursion, concat, list_any}
 use Rattle.std.specs.Option.{option_or}
 use Rattle.lc_model.specs.declared.record.Moment.{Moment}
 use Rattle.lc_model.specs.Bytes.{u16_at}
@@ -45,6 +45,10 @@ pub record Part : Type 0 where
 pub record Traced : Type 0 where
   pub parts : List Part
   pub ending : Ending
+
+-- some record was in one of these seconds
+abbrev pub has_record : (first last : ℕ) → List Part → Bool
+has_record first last parts = list_any (λ (part : Part). nat_le first part.moment.seconds && nat_le part.moment.seconds last) parts
 
 -- the packets that each of these records calls for, by the host in numbers
 unfoldable pub parts_from : FileMeanings (List ℕ) → Executive (List ℕ) → List StreamEntry → List Part

@@ -1,7 +1,7 @@
 //! The packets that each record of a stream led to.
 
 ghost use Rattle.std.specs.Prelude.{◌≡◌, ◌++◌, IfOk};
-ghost use Rattle.run_stepper.specs.Trace.{arrived_by, arrived_from};
+ghost use Rattle.run_stepper.specs.Trace.{arrived_by, arrived_from, has_record};
 
 use crate::ending::Ending;
 use lc_model::Moment;
@@ -92,6 +92,13 @@ impl Trace {
         ensures { result ≡ self.now.ending }
     {
         self.ending
+    }
+
+    /// Whether some record was in one of these seconds, both ends included.
+    pub fn has_record(&self, first: u32, last: u32) -> bool
+        ensures { result ≡ has_record first last self.now.parts }
+    {
+        self.parts.iter().any(|led| first <= led.moment.seconds && led.moment.seconds <= last)
     }
 
     /// All packets of the run, each with its record, in order. The only error is out of memory.

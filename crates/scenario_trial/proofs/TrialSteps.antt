@@ -16,7 +16,7 @@ use Rattle.scenario_trial.specs.declared.trial.Tried.{Tried}
 use Rattle.scenario_trial.specs.Outcomes.{IsPlainTried, IsTried}
 use Rattle.scenario_trial.specs.Warned.{IsWarnedBefore, state_warnings, warnings_of}
 use Rattle.stream_script.specs.Script.{script_in}
-use Rattle.run_stepper.specs.Trace.{IsTraced, Traced, arrived_from}
+use Rattle.run_stepper.specs.Trace.{IsTraced, Traced}
 use Rattle.scenario_trial.specs.declared.expectation_lines.Placed.{Placed}
 use Rattle.scenario_trial.specs.declared.verdict.Judged.{Judged}
 use Rattle.scenario_trial.specs.Arrivals.{IsFound, arrivals_of, has_no_rule, is_whole, placed_in}
@@ -34,7 +34,7 @@ pub tried_by : (sources : List (List ℕ)) (schedule : Schedule) (texts : List R
     expectations_in plain.script ≡ Ok (map placed_of expectations) → find (has_no_rule declared) (map placed_of expectations) ≡ None → script_in (silenced_in plain.script) ≡ Ok stream →
     IsTraced sources schedule stream trace → is_whole trace.ending ≡ true → map placed_in judged ≡ expectations → AllByRecursion (IsFound sources schedule declared (silenced_in plain.script)) judged →
     outcome.tried ≡ record { expected = length judged; unmet = length (unmet_of (arrivals_of trace) judged) } →
-    outcome.warnings.items ≡ warnings_of texts declared plain.lines judged (map placed_of expectations) (arrived_from 0 trace.parts) → IsPlainTried sources schedule texts declared plain outcome
+    outcome.warnings.items ≡ warnings_of texts declared plain.lines judged (map placed_of expectations) trace.parts → IsPlainTried sources schedule texts declared plain outcome
 tried_by sources schedule texts declared plain stream expectations judged trace outcome expects known says traced whole each found counts warned = record {
   expectations = map placed_of expectations;
   expects = expects;
@@ -96,7 +96,7 @@ pub outcome_so : (sources : List (List ℕ)) (schedule : Schedule) (texts : List
     expectations_in plain.script ≡ Ok (map placed_of ps) → find (has_no_rule declared) (map placed_of asked) ≡ None → script_in quiet ≡ Ok stream → IsTraced sources schedule stream' trace →
     is_whole trace.ending ≡ true → map placed_in judged ≡ run_with → AllByRecursion (IsFound sources schedule declared quiet') judged →
     IfOk result (λ (outcome : TrialOutcome). outcome.tried ≡ record { expected = length counted_of; unmet = length (unmet_of (arrivals_of trace) counted_of) }) →
-    IfOk result (λ (outcome : TrialOutcome). outcome.warnings.items ≡ warnings_of texts declared plain.lines counted_of (map placed_of warned_of) (arrived_from 0 trace.parts)) →
+    IfOk result (λ (outcome : TrialOutcome). outcome.warnings.items ≡ warnings_of texts declared plain.lines counted_of (map placed_of warned_of) trace.parts) →
     IfOk result (IsPlainTried sources schedule texts declared plain)
 outcome_so sources schedule texts declared plain quiet quiet' stream stream' ps asked run_with warned_of judged counted_of trace (Err error) q q' s a r w j expects known says traced whole each found counts warned = counts
 outcome_so sources schedule texts declared plain quiet quiet' stream stream' ps asked run_with warned_of judged counted_of trace (Ok outcome) q q' s a r w j expects known says traced whole each found counts warned =
@@ -109,5 +109,5 @@ outcome_so sources schedule texts declared plain quiet quiet' stream stream' ps 
     (subst (λ (it : List ℕ). AllByRecursion (IsFound sources schedule declared it) judged) q' found)
     (counts ∙ ap (λ them. record { expected = length them; unmet = length (unmet_of (arrivals_of trace) them) }) j)
     (warned
-    ∙ ap (λ them. warnings_of texts declared plain.lines them (map placed_of warned_of) (arrived_from 0 trace.parts)) j
-    ∙ ap (λ them. warnings_of texts declared plain.lines judged (map placed_of them) (arrived_from 0 trace.parts)) w)
+    ∙ ap (λ them. warnings_of texts declared plain.lines them (map placed_of warned_of) trace.parts) j
+    ∙ ap (λ them. warnings_of texts declared plain.lines judged (map placed_of them) trace.parts) w)

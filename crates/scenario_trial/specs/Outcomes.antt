@@ -7,7 +7,7 @@ use Rattle.scenarios.specs.Declarations.{Declarations, AreDeclared, nothing_decl
 use Rattle.scenarios.specs.Plain.{PlainScript}
 use Rattle.scenarios.specs.declared.force.ForceChange.{ForceChange}
 use Rattle.stream_script.specs.Script.{script_in}
-use Rattle.run_stepper.specs.Trace.{IsTraced, Traced, arrived_from}
+use Rattle.run_stepper.specs.Trace.{IsTraced, Traced}
 use Rattle.scenario_trial.specs.declared.trial.TrialOutcome.{TrialOutcome}
 use Rattle.scenario_trial.specs.Arrivals.{IsJudged, arrivals_of, is_whole}
 use Rattle.scenario_trial.specs.Reading.{PlacedExpected, expectations_in, silenced_in}
@@ -25,7 +25,7 @@ pub record IsPlainTried (sources : List (List ℕ)) (schedule : Schedule) (texts
   pub traced : IsTraced sources schedule stream trace
   pub whole : is_whole trace.ending ≡ true
   pub judged : IsJudged sources schedule declared (silenced_in plain.script) expectations (arrivals_of trace) outcome.tried
-  pub warned : outcome.warnings.items ≡ warnings_of texts declared plain.lines judged.judged expectations (arrived_from 0 trace.parts)
+  pub warned : outcome.warnings.items ≡ warnings_of texts declared plain.lines judged.judged expectations trace.parts
 
 -- A scenario was tried: the plain script that it is short for, in the words that the rule texts declare, and in which each command that
 -- sets the state of a rule has that rule's number in the text in force at its line. The warnings of such lines come first.

@@ -8,13 +8,13 @@ use Rattle.scenarios.specs.Orders.{is_all}
 use Rattle.scenarios.specs.Plain.{line_of}
 use Rattle.scenarios.specs.Rules.{numbers_differ, rule_numbered}
 use Rattle.scenarios.specs.declared.force.ForceChange.{ForceChange}
-use Rattle.run_stepper.specs.Trace.{Arrived}
+use Rattle.run_stepper.specs.Trace.{Arrived, Part, arrived_from, has_record}
 use Rattle.scenario_trial.specs.declared.expectation.Arrival.{Arrival}
 use Rattle.scenario_trial.specs.declared.expectation.ArrivalKind.{ArrivalKind}
 use Rattle.scenario_trial.specs.declared.trial.TrialOutcome.{TrialOutcome}
 use Rattle.scenario_trial.specs.declared.verdict.Judged.{Judged}
 use Rattle.scenario_trial.specs.declared.warning.TrialWarning.{TrialWarning}
-use Rattle.scenario_trial.specs.declared.warning.TrialWarning.TheVariants.{ManyNumbers, NothingRan, NothingTried, OtherText}
+use Rattle.scenario_trial.specs.declared.warning.TrialWarning.TheVariants.{ManyNumbers, NoRecord, NothingRan, NothingTried, OtherText}
 use Rattle.scenario_trial.specs.Arrivals.{arrival_of, rule_in}
 use Rattle.scenario_trial.specs.Expected.{Absent, Comes, Expected, LastResult, State, expected_of}
 use Rattle.scenario_trial.specs.Judged.{kind_number}
@@ -48,6 +48,17 @@ abbrev pub warned_before : Option TrialWarning → List TrialWarning → List Tr
 warned_before None warnings = warnings
 warned_before (Some warning) warnings = warning ∷ warnings
 
+-- nothing is to come in seconds in which some record of the run is, or none
+abbrev pub tried_in : (n : ℕ) → Bool → Option TrialWarning
+tried_in n true = None
+tried_in n false = Some (NoRecord n)
+
+abbrev pub span_warning : (n : ℕ) → List Part → Expected → Option TrialWarning
+span_warning n parts (Comes coming) = None
+span_warning n parts (Absent coming) = tried_in n (has_record coming.span.first coming.span.last parts)
+span_warning n parts (State rule state) = None
+span_warning n parts (LastResult rule last) = None
+
 module _ (texts : List RuleText) (declared : Declarations) where
   -- a line names a rule by this word, which is of another text than the one in force there
   abbrev pub other_text : (n : ℕ) → (force : Option ℕ) → (word : List ℕ) → Option TrialWarning
@@ -56,16 +67,20 @@ module _ (texts : List RuleText) (declared : Declarations) where
 
   -- ---- expectations
 
-  -- the warning of an expectation about a rule, at the scenario's line that says it
+  -- the warning of an expectation about a rule
   abbrev pub named_warning : (n : ℕ) → (force : Option ℕ) → (name : Option (List ℕ)) → Option TrialWarning
   named_warning n force None = None
   named_warning n force (Some name) = or_many declared n name (other_text n force name)
 
-  abbrev pub expectation_warning : (lines : List ℕ) → Judged → Option TrialWarning
-  expectation_warning lines judged = named_warning (line_of lines judged.placed.n) judged.force (rule_in (expected_of judged.placed.expectation))
+  -- that of an expectation over such a run, at the scenario's line that says it
+  abbrev pub expectation_warning : (lines : List ℕ) → List Part → Judged → Option TrialWarning
+  expectation_warning lines parts judged =
+      let n = line_of lines judged.placed.n in
+      let expected = expected_of judged.placed.expectation in
+      or_later (named_warning n judged.force (rule_in expected)) (span_warning n parts expected)
 
-  abbrev pub expectation_warnings : (lines : List ℕ) → List Judged → List TrialWarning
-  expectation_warnings lines judged = filter_map (expectation_warning lines) judged
+  abbrev pub expectation_warnings : (lines : List ℕ) → List Part → List Judged → List TrialWarning
+  expectation_warnings lines parts judged = filter_map (expectation_warning lines parts) judged
 
   -- ---- lines of a scenario that set the state of a rule, where these lines of it say the plain script, and these texts are in force
 
@@ -137,9 +152,10 @@ abbrev pub with_idle : List TrialWarning → Option TrialWarning → List TrialW
 with_idle warnings None = warnings
 with_idle warnings (Some warning) = warnings ++ warning ∷ []
 
--- of the expectations about rules, in order, and then whether something was tried
-abbrev pub warnings_of : List RuleText → Declarations → (lines : List ℕ) → List Judged → List PlacedExpected → List Arrived → List TrialWarning
-warnings_of texts declared lines judged expectations came = with_idle (expectation_warnings texts declared lines judged) (idle_warning lines expectations came)
+-- of the expectations, in order, and then whether something was tried
+abbrev pub warnings_of : List RuleText → Declarations → (lines : List ℕ) → List Judged → List PlacedExpected → List Part → List TrialWarning
+warnings_of texts declared lines judged expectations parts =
+    with_idle (expectation_warnings texts declared lines parts judged) (idle_warning lines expectations (arrived_from 0 parts))
 
 -- An outcome is that of a run, with these warnings before its own.
 pub record IsWarnedBefore (first : List TrialWarning) (run outcome : TrialOutcome) : Type 0 where

@@ -3,7 +3,7 @@
 ghost use Rattle.std.specs.Prelude.{◌≡◌, filter_map, find, length, map, None, Ok, IfErr, IfOk};
 ghost use Rattle.std.specs.List.{AllByRecursion};
 ghost use Rattle.flight_core.specs.Compiled.{AreAllCompiled, sources_of};
-ghost use Rattle.run_stepper.specs.Trace.{IsTraced, arrived_from};
+ghost use Rattle.run_stepper.specs.Trace.{IsTraced};
 ghost use Rattle.scenario_trial.specs.Arrivals.{AreAhead, IsFound, arrival_of, arrivals_of, event_kind, has_no_rule, placed_in};
 ghost use Rattle.scenario_trial.specs.Judged.{unmet_of};
 ghost use Rattle.scenario_trial.specs.Outcomes.{IsPlainTried, IsTried};
@@ -296,14 +296,21 @@ fn judge<W: Write>(
     }) }
     ensures warned { IfOk result (λ outcome. outcome.warnings.items ≡ warnings_of texts.now
         trial.now.declared.now script.entry.1.now.lines.items judged.now
-        (map placed_of expectations.now) (arrived_from 0 trace.now.parts)) }
+        (map placed_of expectations.now) trace.now.parts) }
     ensures own { IfErr result IsOwn }
 {
     let came = trace.came(trial.alloc)?;
     let arrivals = arrivals_of(trial.alloc, came.as_slice())?;
-    let about_rules = expectation_warnings(trial.alloc, texts, trial.declared, script.1, judged)?;
+    let about_lines = expectation_warnings(
+        trial.alloc,
+        texts,
+        trial.declared,
+        script.1,
+        trace,
+        judged,
+    )?;
     let idle = idle_warning(script.1, expectations, came.as_slice(), arrivals.as_slice());
-    let warnings = with_idle(about_rules, idle)?;
+    let warnings = with_idle(about_lines, idle)?;
     if judged.is_empty() {
         list_all(came.as_slice(), out)?;
         let tried = Tried {

@@ -5,9 +5,10 @@ ghost use Rattle.std.specs.List.{list_any};
 ghost use Rattle.run_stepper.specs.Trace.{Arrived};
 ghost use Rattle.lc_model.specs.Host.ScheduleText.{lines_of, words_of};
 ghost use Rattle.text_lines.specs.Lines.{texts_of};
-ghost use Rattle.scenario_trial.specs.Arrivals.{arrival_of};
+ghost use Rattle.scenario_trial.specs.Arrivals.{arrival_of, rule_in};
+ghost use Rattle.scenario_trial.specs.Expected.{expected_of};
 ghost use Rattle.scenario_trial.specs.Reading.{placed_of};
-ghost use Rattle.scenario_trial.specs.Warned.{asked_by, asks_checker, command_warning, expectation_warning, expectation_warnings, first_command, idle_warning, is_kind_of_checker, is_of_checker, or_many, other_text, state_rule, state_warning, state_warnings, with_idle};
+ghost use Rattle.scenario_trial.specs.Warned.{asked_by, asks_checker, command_warning, expectation_warning, expectation_warnings, span_warning, named_warning, first_command, idle_warning, is_kind_of_checker, is_of_checker, or_many, other_text, state_rule, state_warning, state_warnings, with_idle};
 
 use crate::expectation::{Arrival, ArrivalKind, Expectation};
 use crate::expectation_lines::Placed;
@@ -16,7 +17,7 @@ use crate::in_force::SettledScript;
 use crate::origin::text_named;
 use crate::verdict::Judged;
 use rpn_compiler::RuleText;
-use run_stepper::Came;
+use run_stepper::{Came, Trace};
 use scenarios::{DeclaredItems, ForceChange, Plain};
 use std::alloc::{AllocError, Global};
 use text_lines::{first_line, words};
@@ -34,6 +35,10 @@ pub enum TrialWarning {
         text: usize,
         force: usize,
         rule: u16,
+    },
+    /// This line expects that nothing comes, in seconds in which the run has no record.
+    NoRecord {
+        n: usize,
     },
     /// This line has the first expectation about the Limit Checker, and nothing came of the Limit Checker.
     NothingRan {
@@ -86,19 +91,18 @@ fn or_many(
     }
 }
 
-/// The warning about the rule of an expectation, if there is one.
-fn expectation_warning(
+/// The warning of line `n` about the rule of an expectation, if it has one.
+fn named_warning(
     texts: &[RuleText<'_>],
     declared: &DeclaredItems<'_>,
-    plain: &Plain,
+    n: usize,
     judged: &Judged<'_>,
 ) -> Option<TrialWarning>
-    ensures { result ≡ expectation_warning texts.now declared.now plain.now.lines.items
-        judged.now }
+    ensures { result ≡ named_warning texts.now declared.now n judged.now.force
+        (rule_in (expected_of judged.now.placed.expectation)) }
 {
     match judged.placed.expectation.rule() {
         Some(name) => {
-            let n = plain.line(judged.placed.n);
             let found = other_text(texts, declared, n, judged.force, name);
             or_many(declared, n, name, found)
         }
@@ -106,20 +110,54 @@ fn expectation_warning(
     }
 }
 
-/// The warnings about the rules of expectations, in order. Out of memory is the only error.
+/// The warning of line `n` about the seconds of an expectation that nothing comes, if no record of the run is in them.
+fn span_warning(n: usize, trace: &Trace, expectation: &Expectation<'_>) -> Option<TrialWarning>
+    ensures { result ≡ span_warning n trace.now.parts (expected_of expectation.now) }
+{
+    match expectation {
+        Expectation::Absent(coming) => {
+            if trace.has_record(coming.span.first, coming.span.last) {
+                return None;
+            }
+            Some(TrialWarning::NoRecord { n })
+        }
+        Expectation::Comes(_) | Expectation::State(_, _) | Expectation::Result(_, _) => None,
+    }
+}
+
+/// The warning about an expectation of a run, if there is one.
+fn expectation_warning(
+    texts: &[RuleText<'_>],
+    declared: &DeclaredItems<'_>,
+    plain: &Plain,
+    trace: &Trace,
+    judged: &Judged<'_>,
+) -> Option<TrialWarning>
+    ensures { result ≡ expectation_warning texts.now declared.now plain.now.lines.items
+        trace.now.parts judged.now }
+{
+    let n = plain.line(judged.placed.n);
+    match named_warning(texts, declared, n, judged) {
+        Some(warning) => Some(warning),
+        None => span_warning(n, trace, &judged.placed.expectation),
+    }
+}
+
+/// The warnings about the expectations of a run, in order. Out of memory is the only error.
 pub fn expectation_warnings(
     alloc: Global,
     texts: &[RuleText<'_>],
     declared: &DeclaredItems<'_>,
     plain: &Plain,
+    trace: &Trace,
     judged: &[Judged<'_>],
 ) -> Result<Vec<TrialWarning>, AllocError>
     ensures { IfOk result (λ found. found.items ≡ expectation_warnings texts.now declared.now
-        plain.now.lines.items judged.now) }
+        plain.now.lines.items trace.now.parts judged.now) }
 {
     let mut found = Vec::new(alloc);
     for one in judged {
-        if let Some(warning) = expectation_warning(texts, declared, plain, one) {
+        if let Some(warning) = expectation_warning(texts, declared, plain, trace, one) {
             found.push(warning)?;
         }
     }

@@ -5,4 +5,4 @@ use Rattle.scenario_trial.proofs.warning.expectation_warnings.Given as goal
 
 abbrev pub invariant-loop-one : goal.invariant-loop-one
 invariant-loop-one l =
-    l.found.items ++ expectation_warnings l.texts l.declared l.plain.lines.items (drop l.one-index l.judged) ≡ expectation_warnings l.texts l.declared l.plain.lines.items l.judged
+    l.found.items ++ expectation_warnings l.texts l.declared l.plain.lines.items l.trace.parts (drop l.one-index l.judged) ≡ expectation_warnings l.texts l.declared l.plain.lines.items l.trace.parts l.judged
