@@ -15,14 +15,20 @@ def tried(title, script, output=b"", error=b"", status=0, rules=RULES, others=No
     return Row(title, [*TRY[:2], *words, *TRY[2:], *(others or {})], files, status=status, output=output, error=error, **more)
 
 
-def unmet(title, before, expectations):
+def unmet(title, before, expectations, **more):
     """Expectations after these lines, each with why it isn't met: a message has the words of its line."""
     first = before.count(b"\n") + 1
     lines = b"".join(line + b"\n" for line, _ in expectations)
     said = b"".join(b"script:%d:1: error[unmet]: %s: %s\n" % (first + n, b" ".join(line.split(b"#")[0].split()), why) for n, (line, why) in enumerate(expectations) if why)
     missed = sum(bool(why) for _, why in expectations)
     last = b"script: %d expectations, %d not met\n" % (len(expectations), missed)
-    return tried(title, before + lines, said + last, status=1 if missed else 0)
+    return tried(title, before + lines, said + last, status=1 if missed else 0, **more)
+
+
+def without_record(*lines):
+    """The warnings about these lines of a script, each with its number, that expect nothing in seconds without a record."""
+    why = b"the run has no record in these seconds: nothing could come, whatever the rules are"
+    return b"".join(b"script:%d:1: warning[no-record]: %s\n%3d | %s\n    | %s \n\n" % (n, why, n, line, b"^" * len(line)) for n, line in lines)
 
 
 def on_line(script, n, code, why):
@@ -69,7 +75,23 @@ ARRIVALS = unmet(
         (b"expect no sequence 65535", b""),
         (b"expect no sequence 0 at 4294967295", b""),
     ],
+    error=without_record((31, b"expect no event HOST from 101"), (34, b"expect no sequence 0 at 4294967295")),
 )
+
+# Seconds with a record, and without: before the first one, between two, and after the last.
+SPANS = COMMANDED.replace(b"wdt", b"at 10 0\nwdt", 1) + b"""\
+expect no sequence until 10
+expect no sequence by 10
+expect no sequence at 14
+expect no sequence from 15 until 100
+expect no sequence from 15 by 100
+expect no sequence from 14 until 100
+expect no event HOST 9 from 101
+expect no event HOST 9 from 100
+expect no sequence by 4294967295
+"""
+OUTSIDE = without_record((15, b"expect no sequence until 10"), (18, b"expect no sequence from 15 until 100"), (21, b"expect no event HOST 9 from 101"))
+ALL_MET = b"script: 9 expectations, 0 not met\n"
 
 BLANKS = unmet(
     "expectations between blanks",
@@ -156,6 +178,14 @@ WARNINGS = [
     tried("a trial of a script with a warning", UNFIT, MET, OF_UNFIT),
     tried("a trial of a script with a warning, strictly", UNFIT, MET, OF_UNFIT, status=1, words=["--strict"]),
     tried("a trial of a script without a warning, strictly", UNFIT.replace(b"18A4", b"0884"), MET, words=["--strict"]),
+    tried("expectations that nothing comes in seconds with and without a record", SPANS, ALL_MET, OUTSIDE),
+    tried("expectations that nothing comes in seconds with and without a record, strictly", SPANS, ALL_MET, OUTSIDE, status=1, words=["--strict"]),
+    tried(
+        "an expectation that nothing comes over no record at all",
+        b"expect no event HOST\n",
+        MET,
+        without_record((1, b"expect no event HOST")),
+    ),
     tried("a trial of a script with an expectation that is left out", EMPTY, MET, OF_EMPTY),
     tried("a trial of a script with an expectation that is left out, strictly", EMPTY, MET, OF_EMPTY, status=1, words=["--strict"]),
 ]
