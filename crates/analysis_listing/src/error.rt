@@ -1,5 +1,8 @@
 //! The errors of listing the analysis of a rule text or of a pair of tables.
 
+ghost use Rattle.std.specs.Prelude.{◌≡◌};
+ghost use Rattle.analysis_listing.specs.declared.error.ListingError.TheVariants.{File, Memory, Table, Write};
+
 use std::alloc::{AllocError, AllocFailed};
 use std::io;
 use table_file::FileError;
@@ -27,30 +30,40 @@ pub enum ListingError {
 }
 
 impl From<AllocError> for ListingError {
+    ghost from_gives = { λ _ e. e ≡ Memory };
+
     fn from(_refused: AllocError) -> ListingError {
         ListingError::Memory
     }
 }
 
 impl<T: Drop> From<AllocFailed<T>> for ListingError {
+    ghost from_gives = { λ _ e. e ≡ Memory };
+
     fn from(_refused: AllocFailed<T>) -> ListingError {
         ListingError::Memory
     }
 }
 
 impl From<FileError> for ListingError {
+    ghost from_gives = { λ error e. e ≡ File error };
+
     fn from(error: FileError) -> ListingError {
         ListingError::File(error)
     }
 }
 
 impl From<TableFault> for ListingError {
+    ghost from_gives = { λ fault e. e ≡ Table fault };
+
     fn from(fault: TableFault) -> ListingError {
         ListingError::Table(fault)
     }
 }
 
 impl From<io::Error> for ListingError {
+    ghost from_gives = { λ _ e. e ≡ Write };
+
     fn from(_refused: io::Error) -> ListingError {
         ListingError::Write
     }

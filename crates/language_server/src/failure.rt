@@ -1,5 +1,8 @@
 //! Why a request gets an error.
 
+ghost use Rattle.std.specs.Prelude.{◌≡◌};
+ghost use Rattle.language_server.specs.declared.failure.Failure.TheVariants.{Memory};
+
 use std::alloc::{AllocError, AllocFailed};
 
 /// The kind of an error (JSON-RPC 2.0, "Error object"; Language Server Protocol 3.17, "ErrorCodes").
@@ -43,12 +46,16 @@ pub enum Failure {
 }
 
 impl From<AllocError> for Failure {
+    ghost from_gives = { λ _ e. e ≡ Memory };
+
     fn from(_error: AllocError) -> Failure {
         Failure::Memory
     }
 }
 
 impl<T: Drop> From<AllocFailed<T>> for Failure {
+    ghost from_gives = { λ _ e. e ≡ Memory };
+
     fn from(_failed: AllocFailed<T>) -> Failure {
         Failure::Memory
     }

@@ -1,5 +1,8 @@
 //! The errors of writing a row.
 
+ghost use Rattle.std.specs.Prelude.{◌≡◌};
+ghost use Rattle.packet_rows.specs.declared.error.RowError.TheVariants.{Memory};
+
 use std::alloc::{AllocError, AllocFailed};
 use std::io::{self, ErrorKind};
 use thiserror::Error;
@@ -16,12 +19,16 @@ pub enum RowError {
 }
 
 impl From<AllocError> for RowError {
+    ghost from_gives = { λ _ e. e ≡ Memory };
+
     fn from(_error: AllocError) -> RowError {
         RowError::Memory
     }
 }
 
 impl<T: Drop> From<AllocFailed<T>> for RowError {
+    ghost from_gives = { λ _ e. e ≡ Memory };
+
     fn from(_error: AllocFailed<T>) -> RowError {
         RowError::Memory
     }

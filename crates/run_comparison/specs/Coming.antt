@@ -1,11 +1,19 @@
 -- A stream that comes in pieces to two hosts: what is read of it, and what becomes of its next record. This project's own.
-use Rattle.std.specs.Prelude.{◌≡◌, ℕ, Bool, true, List, [], ◌++◌, Option}
+use Rattle.std.specs.Prelude.{◌≡◌, ℕ, Bool, true, List, [], ◌++◌, Option, ⊤}
 use Rattle.std.specs.Io.KnownBytes.{Consumes, IsAtEnd}
 use Rattle.flight_core.specs.Feeding.{Feeding}
 use Rattle.run_stepper.specs.Stepping.{GoesOn, HandlesAlone, host_in, written_by}
 use Rattle.run_stepper.specs.declared.handled.Handled.{Handled}
 use Rattle.run_stepper.specs.declared.handled.Handled.TheVariants.{Part}
 use Rattle.run_stepper.specs.declared.stepping.Stepping.{Stepping}
+use Rattle.run_comparison.specs.declared.error.ComparisonError.{ComparisonError}
+use Rattle.run_comparison.specs.declared.error.ComparisonError.TheVariants as comparison
+
+-- want of memory, or a writer that fails
+abbrev pub IsOwn : ComparisonError → Type 0
+IsOwn comparison.Memory = ⊤
+IsOwn comparison.Write = ⊤
+IsOwn other = ⊥
 
 -- these bytes were taken of a source, and none are taken behind its end, which was met before (`was`) or is now (`is`)
 pub record Took (before now : Option (List ℕ)) (was is : Bool) (taken : List ℕ) : Type 0 where

@@ -1,5 +1,9 @@
 //! Why there is no comparison.
 
+ghost use Rattle.std.specs.Prelude.{◌≡◌};
+ghost use Rattle.run_comparison.specs.Coming.{IsOwn};
+ghost use Rattle.run_comparison.specs.declared.error.ComparisonError.TheVariants.{Memory};
+
 use rpn_compiler::CompileError;
 use run_stepper::CourseError;
 use std::alloc::{AllocError, AllocFailed};
@@ -84,18 +88,24 @@ impl ComparisonError {
 }
 
 impl From<AllocError> for ComparisonError {
+    ghost from_gives = { λ _ e. e ≡ Memory };
+
     fn from(_error: AllocError) -> ComparisonError {
         ComparisonError::Memory
     }
 }
 
 impl<T: Drop> From<AllocFailed<T>> for ComparisonError {
+    ghost from_gives = { λ _ e. e ≡ Memory };
+
     fn from(_error: AllocFailed<T>) -> ComparisonError {
         ComparisonError::Memory
     }
 }
 
 impl From<io::Error> for ComparisonError {
+    ghost from_gives = { λ _ e. IsOwn e };
+
     fn from(error: io::Error) -> ComparisonError {
         if error.kind() == ErrorKind::OutOfMemory {
             ComparisonError::Memory

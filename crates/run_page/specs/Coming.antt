@@ -1,12 +1,31 @@
 -- A stream that comes in pieces: what is read of it, and what becomes of its next record. This project's own.
-use Rattle.std.specs.Prelude.{◌≡◌, ℕ, ◌+◌, ◌-◌, ◌^◌, true, List, [], ◌++◌, length, min, Option}
+use Rattle.std.specs.Prelude.{◌≡◌, ℕ, ◌+◌, ◌-◌, ◌^◌, true, List, [], ◌++◌, length, min, Option, ⊤}
 use Rattle.std.specs.Io.KnownBytes.{Consumes, IsAtEnd}
 use Rattle.sha2.specs.Hashers.{Holds256}
 use Rattle.flight_core.specs.Feeding.{Feeding}
 use Rattle.run_stepper.specs.Stepping.{HandlesAlone}
 use Rattle.run_stepper.specs.declared.handled.Handled.{Handled}
 use Rattle.run_stepper.specs.declared.handled.Handled.TheVariants.{Part}
+use Rattle.run_stepper.specs.declared.error.CourseError.{CourseError}
+use Rattle.run_stepper.specs.declared.error.CourseError.TheVariants as course
+use Rattle.run_page.specs.declared.error.ReportError.{ReportError}
+use Rattle.run_page.specs.declared.error.ReportError.TheVariants as report
 use Rattle.run_page.specs.declared.intake.Intake.{Intake}
+
+-- ---- errors
+
+-- texts that have no course
+abbrev pub of_course : CourseError → ReportError
+of_course course.Memory = report.Memory
+of_course (course.Rules text why) = report.Rules text why
+
+-- want of memory, or a writer that fails
+abbrev pub IsOwn : ReportError → Type 0
+IsOwn report.Memory = ⊤
+IsOwn report.Write = ⊤
+IsOwn other = ⊥
+
+-- ---- pieces
 
 -- these bytes were read from a source: they are counted and hashed after those before, and none are read after its end
 pub record Took (before now : Option (List ℕ)) (old new : Intake) (taken : List ℕ) : Type 0 where

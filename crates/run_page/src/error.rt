@@ -1,5 +1,9 @@
 //! The errors of writing a page.
 
+ghost use Rattle.std.specs.Prelude.{◌≡◌};
+ghost use Rattle.run_page.specs.Coming.{IsOwn, of_course};
+ghost use Rattle.run_page.specs.declared.error.ReportError.TheVariants.{Memory};
+
 use rpn_compiler::CompileError;
 use run_stepper::CourseError;
 use std::alloc::{AllocError, AllocFailed};
@@ -27,6 +31,8 @@ pub enum ReportError {
 }
 
 impl From<CourseError> for ReportError {
+    ghost from_gives = { λ error e. e ≡ of_course error };
+
     fn from(error: CourseError) -> ReportError {
         match error {
             CourseError::Rules { text, error } => ReportError::Rules { text, error },
@@ -36,18 +42,24 @@ impl From<CourseError> for ReportError {
 }
 
 impl From<AllocError> for ReportError {
+    ghost from_gives = { λ _ e. e ≡ Memory };
+
     fn from(_error: AllocError) -> ReportError {
         ReportError::Memory
     }
 }
 
 impl<T: Drop> From<AllocFailed<T>> for ReportError {
+    ghost from_gives = { λ _ e. e ≡ Memory };
+
     fn from(_error: AllocFailed<T>) -> ReportError {
         ReportError::Memory
     }
 }
 
 impl From<io::Error> for ReportError {
+    ghost from_gives = { λ _ e. IsOwn e };
+
     fn from(error: io::Error) -> ReportError {
         if error.kind() == ErrorKind::OutOfMemory {
             ReportError::Memory
