@@ -15,7 +15,7 @@ PATHS = [("std_alloc::vec::", "std::vec::"), ("std_alloc::string::", "std::strin
 PATHS += [("std::Vec::", "std::vec::Vec::"), ("std_io::Error::", "std::io::Error::")]
 
 # A line on a body that a contract let through, and the one that ends a crate.
-LET_THROUGH = re.compile(r"(?m)^proves +(.+?): \{ (.*) \}$|^plants crate=(\w+) ")
+LET_THROUGH = re.compile(r"(?m)^proves +(.+?): \{ (.*?) ?\}$|^plants crate=(\w+) ")
 
 
 def names():
