@@ -61,14 +61,17 @@ class Bench:
         os.chmod(at, 0o666)
         with open(at, "r+b") as file:
             self.page = mmap.mmap(file.fileno(), BYTES)
+        # Whether a program asks which mutant is planted; one without mutants does not.
+        self.asks = False
         programs = {name: self.copied(folder, name, at.encode()) for name in PROGRAMS}
+        if not self.asks:
+            sys.exit(f"try_mutants: no program of {folder} asks for a mutant")
         self.cases = dict(cases_of(programs))
 
     def copied(self, folder, name, page):
         with open(f"{folder}/{name}", "rb") as file:
             data = file.read()
-        if NAME not in data:
-            sys.exit(f"try_mutants: {folder}/{name} asks for no mutant")
+        self.asks |= NAME in data
         copy = f"{self.folder}/{name}"
         with open(copy, "wb") as file:
             file.write(data.replace(NAME.ljust(LONGEST_NAME, b"\0"), page.ljust(LONGEST_NAME, b"\0")))
