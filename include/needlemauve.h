@@ -24,7 +24,7 @@
  * for a handle that already holds a host, or holds none, NEEDLEMAUVE_HAS_HOST or NEEDLEMAUVE_NO_HOST. Then only `told` is
  * written, unless it is NULL; needlemauve_host_rule and needlemauve_host_figures write nothing, and needlemauve_host_close, which
  * returns nothing, does nothing. No call can test that as many bytes are there as the length says, nor that NEEDLEMAUVE_WDT and
- * NEEDLEMAUVE_ADT bytes are at `wdt` and `adt`: the caller has to see to it.
+ * NEEDLEMAUVE_ADT bytes are at `wdt` and `adt`: the caller must ensure it.
  *
  * What a call promises is its contract, proved, in crates/needlemauve/src and crates/needlemauve_board/src; docs/LIBRARY.md
  * says it in plain words. No contract says what a call takes and gives back of memory, which is tested, nor that applications
@@ -92,13 +92,13 @@ struct needlemauve_refusal {
   uint64_t text;
 };
 
-/* The same for people: a text of `length` bytes with a 0 behind it, empty where nothing is refused. */
+/* The same for people: a text of `length` bytes, followed by a zero byte; empty if nothing is refused. */
 struct needlemauve_sentence {
   uint32_t length;
   char bytes[252];
 };
 
-/* What came of a compilation: how many of the 176 entries of each table are used, or the refusal. */
+/* The result of a compilation: the number of used entries in each table (of 176), or the refusal. */
 struct needlemauve_compiled {
   struct needlemauve_refusal refusal;
   uint32_t watchpoints;
@@ -106,7 +106,7 @@ struct needlemauve_compiled {
   struct needlemauve_sentence sentence;
 };
 
-/* What came of a run: how it ended, and how many bytes of the output were written. */
+/* The result of a run: how it ended, and how many bytes of the output were written. */
 struct needlemauve_outcome {
   struct needlemauve_refusal ending;
   uint64_t written;

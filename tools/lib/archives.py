@@ -1,8 +1,11 @@
-"""What `rt ci` left: its libraries, and how an archive of the library for C is built over them."""
+"""What `rt ci` left: its libraries, how a crate is checked over them, and how an archive of the library for C is built over them."""
 
+import functools
 import os
 import re
 import subprocess
+
+from repository import ROOT
 
 # What an archive is built for, and the lowest processor of it that is promised: plain x86-64, with SSE2 and nothing after it.
 TARGETS = {"x86_64": "x86_64-unknown-linux-gnu", "aarch64": "aarch64-unknown-linux-gnu"}
@@ -48,15 +51,33 @@ def is_left_by_ci(top, names):
     return all(os.path.isfile(f"{at}/{it}.rlib/format") and not os.path.exists(f"{at}/stamp") for it, at in folders)
 
 
+def texts_below(folder):
+    """The bytes of each source, definition and proof of a crate, by its path."""
+    found = {}
+    for part in ("src", "specs", "proofs"):
+        for at, _, names in os.walk(f"{folder}/{part}"):
+            for name in names:
+                with open(f"{at}/{name}", "rb") as it:
+                    found[os.path.relpath(f"{at}/{name}", folder)] = it.read()
+    return found
+
+
+def is_proved_there(clone, name):
+    """Whether `rt ci` proved this very text of a crate in a clone."""
+    own = f"crates/{name}"
+    return is_left_by_ci(clone, [name]) and texts_below(f"{clone}/{own}") == texts_below(f"{ROOT}/{own}")
+
+
+@functools.cache
 def kit():
     """The folder of the kit, as `rt doc` names its first page."""
     return os.path.dirname(subprocess.run(["rt", "doc"], stdout=subprocess.PIPE, text=True, check=True).stdout.strip())
 
 
 def library_words(top, name):
-    """The words of `rattle` that name a crate, its libraries (the kit's, and those that `rt ci` proved and left) and the logic."""
-    at_kit, every = kit(), crates(top)
-    words = ["--crate-name", name, root_of(top, name)]
+    """The words of `rattle` that name a crate, its libraries (the kit's, and those that `rt ci` proved and left in a clone) and the logic."""
+    at_kit, every = kit(), crates(ROOT)
+    words = ["--crate-name", name, root_of(ROOT, name)]
     for it in ["std", *(it for it in every[name] if it not in every)]:
         words += ["--extern", f"{it}={at_kit}/rlibs/{it}.rlib"]
     words += ["-L", f"dependency={at_kit}/rlibs"]

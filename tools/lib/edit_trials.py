@@ -4,8 +4,8 @@ import re
 import shutil
 import subprocess
 
-from archives import is_left_by_ci, kit, library_words
-from edits import FUNCTION, Bad, Edit, function_at, head_above
+from archives import kit, library_words
+from edits import FUNCTION, Bad, function_at, head_above
 from repository import ROOT
 
 # The head of an impl or a trait, whose methods the prover names by the type, then by the trait, and then by the trait's argument, where
@@ -114,6 +114,22 @@ def argument_name(argument):
     return "".join(it[:1].upper() + it[1:] for it in argument.split("::")) if len(argument) > 1 else ""
 
 
+def path_at(lines, head, function):
+    """The end of the path by which the prover knows the function with its head in this line (from 0), which an edit names by module and
+    name: a method's is its type and its name. None where what stands around it cannot be read."""
+    own = len(lines[head]) - len(lines[head].lstrip())
+    if own == 0:
+        return function
+    for line in reversed(lines[:head]):
+        if line.strip() and len(line) - len(line.lstrip()) < own:
+            found = HEAD.match(line)
+            if found:
+                of_any = f"Dyn{found['dyn']}" if found["dyn"] else ""
+                of_type = found["trait"] or found["type"] + of_any + (found["of"] or "") + argument_name(found["what"] or "")
+                return f"{of_type}::{function.split('::')[-1]}"
+    return None
+
+
 def path_of(function, text_of, edit):
     """The end of the path by which the prover knows a function that an edit names by module and name. A method's is its type, which may
     be of another module, and its name. It is the one of its name that the edit changes, or else that its module has; where that is not
@@ -129,17 +145,7 @@ def path_of(function, text_of, edit):
     if len(heads) != 1:
         return module
     path, head = heads.pop()
-    lines = text_of(path).split("\n")
-    own = len(lines[head]) - len(lines[head].lstrip())
-    if own == 0:
-        return function
-    for line in reversed(lines[:head]):
-        if line.strip() and len(line) - len(line.lstrip()) < own:
-            found = HEAD.match(line)
-            if found:
-                of_any = f"Dyn{found['dyn']}" if found["dyn"] else ""
-                return f"{found['trait'] or found['type'] + of_any + (found['of'] or '') + argument_name(found['what'] or '')}::{name}"
-    return module
+    return path_at(text_of(path).split("\n"), head, function) or module
 
 
 class Trial:
@@ -242,21 +248,20 @@ class Trial:
             return False, function, "no contract was tried: the borrow checker does not cover the edited body"
         return False, function, "not judged: " + " / ".join(said.text.strip().split("\n")[-3:])[:300]
 
-    def rows(self, paths, has_control=True):
+    def rows(self, edits, has_control=True):
         """A row of each of these edits, in their order: its name, whether it is refused as it says, the function, and by what."""
-        edits, rows = [], {}
-        for path in paths:
+        applying, rows = [], {}
+        for edit in edits:
             try:
-                edit = Edit(self.crate, path)
                 edit.applied(self.text_of)
-                edits.append(edit)
-            except Bad as error:
-                rows[path] = (os.path.basename(path).removesuffix(".edit"), False, "", str(error))
-        if edits and has_control and not self.check([], edits).is_proved:
-            rows.update({it.path: (it.name, False, "", "it is not proved without an edit") for it in edits})
+                applying.append(edit)
+            except (Bad, OSError) as error:
+                rows[edit] = (edit.name, False, "", str(error))
+        if applying and has_control and not self.check([], applying).is_proved:
+            rows.update({it: (it.name, False, "", "it is not proved without an edit") for it in applying})
         else:
-            rows.update({edit.path: (edit.name, *row) for group in self.groups(edits) for edit, row in self.judged(group)})
-        return [rows[path] for path in paths]
+            rows.update({edit: (edit.name, *row) for group in self.groups(applying) for edit, row in self.judged(group)})
+        return [rows[it] for it in edits]
 
     def judged(self, group):
         """The row of each edit of a group. Those whose functions do not compile are told so, and the others are checked without them."""
@@ -272,17 +277,6 @@ class Trial:
             yield edit, self.judge(edit, said, group) or self.judge(edit, self.check([edit], [edit]), [edit])
 
 
-def texts_below(folder):
-    """The bytes of each source, definition and proof of a crate, by its path."""
-    found = {}
-    for part in ("src", "specs", "proofs"):
-        for at, _, names in os.walk(f"{folder}/{part}"):
-            for name in names:
-                with open(f"{at}/{name}", "rb") as it:
-                    found[os.path.relpath(f"{at}/{name}", folder)] = it.read()
-    return found
-
-
 class TrialOverLibraries(Trial):
     """A copy of a crate, of which only the functions are checked that must be refused, over the libraries that `rt ci` left in a clone."""
 
@@ -293,11 +287,6 @@ class TrialOverLibraries(Trial):
             if os.path.isdir(f"{ROOT}/crates/{crate}/{part}"):
                 shutil.copytree(f"{ROOT}/crates/{crate}/{part}", f"{self.folder}/{part}")
         os.mkdir(f"{self.folder}/kept")
-
-    def is_proved_there(self):
-        """Whether `rt ci` proved the crate's very text in the clone."""
-        own = f"crates/{self.crate}"
-        return is_left_by_ci(self.clone, [self.crate]) and texts_below(f"{self.clone}/{own}") == texts_below(f"{ROOT}/{own}")
 
     def looked_at(self, edit):
         """The functions of an edit, by the prover's paths; none where an example must be refused: then all is checked."""

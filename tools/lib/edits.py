@@ -1,9 +1,14 @@
-"""What an edit is: a file of `edits/` or `edits/gate/` of a crate, which puts a wrong body in the place of a right one. The gate
-tries those of `edits/gate/`.
+"""What an edit is: a wrong body in the place of a right one, which the check of its crate must refuse. `crates/NAME/edits.txt` has those of a
+crate, one after the other with an empty line between them, and lines of comment that begin with `#`:
 
-Its lines: `file: src/NAME.rt`, then pairs of `old: TEXT` and `new: TEXT`, where the old text stands in that file once; and
-`refused-by: FUNCTION CLAUSE`, the function that the check must refuse and the clause that must refuse it. FUNCTION is the
-module and the name, as `scanner::take`. CLAUSE is one of
+    edit: NAME                       what the wrong body does, as `a_count_too_large`
+    tried-by: gate                   only where the gate tries it, too
+    file: src/FILE.rt
+    old: TEXT                        a part of one line, which stands in that file once
+    new: TEXT                        what stands there instead; further pairs of `old:` and `new:` may follow, and another `file:`
+    refused-by: FUNCTION CLAUSE      the function that the check must refuse, and the clause that must refuse it
+
+FUNCTION is the module and the name, as `scanner::take`. CLAUSE is one of
 
     ensures LABEL     a labelled clause of the function (`ensures` alone where the function has no other)
     requires CALL     what a function that it calls asks for
@@ -19,8 +24,8 @@ import re
 from repository import ROOT
 
 FUNCTION = re.compile(r'\s*(?:pub(?:\([a-z]+\))?\s+)?(?:const\s+)?(?:unsafe\s+)?(?:extern\s+"C"\s+)?fn\s+([a-z_0-9]+)')
-IN_GATE = "edits/gate"
-FOLDERS = (IN_GATE, "edits")
+NAME = re.compile(r"[a-z0-9_]+")
+BY_GATE = "gate"
 
 
 class Bad(Exception):
@@ -52,36 +57,42 @@ def function_at(path, text, line):
 
 
 class Edit:
-    """One edit, read from its file."""
+    """One edit of a crate. It is read line by line; `line` is the one with its name."""
 
-    def __init__(self, crate, path):
-        self.crate, self.path = crate, path
-        self.name = os.path.basename(path).removesuffix(".edit")
-        self.is_kept_in_gate = os.path.dirname(path).endswith(IN_GATE)
-        self.pairs, self.refused_by = [], None
-        file = old = None
-        with open(path, encoding="utf-8") as it:
-            for line in it.read().split("\n"):
-                if line.startswith("file: "):
-                    file = line[len("file: ") :].strip()
-                elif line.startswith("old: "):
-                    old = line[len("old: ") :]
-                elif line.startswith("new:"):
-                    if file is None or old is None:
-                        raise Bad("a 'new:' line stands before any 'file:' or 'old:' line")
-                    self.pairs.append((file, old, line[len("new:") :].removeprefix(" ")))
-                    old = None
-                elif line.startswith("refused-by: "):
-                    if self.refused_by:
-                        raise Bad("it has two 'refused-by:' lines")
-                    function, _, clause = line[len("refused-by: ") :].strip().partition(" ")
-                    self.refused_by = (function, clause)
-                elif line.strip():
-                    raise Bad(f"a line is none of an edit's: {line.strip()}")
-        if any(old == new for _, old, new in self.pairs):
-            raise Bad("a 'new:' text is the old one")
-        if not self.pairs:
-            raise Bad("it has no 'old:' and 'new:' pair")
+    def __init__(self, crate, name, line):
+        self.crate, self.name, self.line = crate, name, line
+        self.is_tried_by_gate, self.pairs, self.refused_by = False, [], None
+        self.file = self.old = None
+
+    def take(self, word, text):
+        """Takes a line: its word and what stands after it."""
+        if word == "tried-by" and text.strip() == BY_GATE:
+            self.is_tried_by_gate = True
+        elif word == "file":
+            self.file = text.strip()
+        elif word == "old":
+            self.old = text
+        elif word == "new":
+            self.take_new(text)
+        elif word == "refused-by":
+            if self.refused_by:
+                raise Bad("it has two lines 'refused-by:'")
+            function, _, clause = text.strip().partition(" ")
+            self.refused_by = (function, clause)
+        else:
+            raise Bad("an edit has no such line")
+
+    def take_new(self, text):
+        if self.file is None or self.old is None:
+            raise Bad("no 'file:' and 'old:' stand before this 'new:'")
+        if text == self.old:
+            raise Bad("this 'new:' text is the old one")
+        self.pairs.append((self.file, self.old, text))
+        self.old = None
+
+    def place(self):
+        """Where it stands, for a message."""
+        return f"crates/{self.crate}/edits.txt:{self.line}: {self.name}"
 
     def applied(self, texts):
         """The texts of the files that it changes, changed, over those given (by path, or else read from the crate's folder)."""
@@ -104,11 +115,38 @@ class Edit:
         return {function_at(*place) for place in self.places(texts)}
 
 
-def edits_of(crate, root=ROOT, folders=FOLDERS):
-    """The files of a crate's edits."""
-    found = []
-    for folder in folders:
-        at = f"{root}/crates/{crate}/{folder}"
-        if os.path.isdir(at):
-            found += [f"{at}/{it}" for it in sorted(os.listdir(at)) if it.endswith(".edit")]
-    return found
+def read_edits(crate, path, shown):
+    """The edits in a file, and a sentence for each line that is wrong, which names the file as `shown`."""
+    edits, faults, names = [], [], set()
+    with open(path, encoding="utf-8") as file:
+        lines = file.read().split("\n")
+    for number, line in enumerate(lines, 1):
+        word, colon, text = line.partition(":")
+        text = text.removeprefix(" ")
+        try:
+            if not line.strip() or line.startswith("#"):
+                continue
+            if colon and word == "edit":
+                edits.append(Edit(crate, text.strip(), number))
+                if not NAME.fullmatch(text.strip()) or text.strip() in names:
+                    raise Bad(f"an edit's name is of small letters, digits and _, and stands once, unlike '{text.strip()}'")
+                names.add(text.strip())
+            elif not edits or not colon:
+                raise Bad("this is no line of an edit")
+            else:
+                edits[-1].take(word, text)
+        except Bad as fault:
+            faults.append(f"{shown}:{number}: {fault}: {line.strip()}")
+    faults += [f"{shown}:{it.line}: {it.name} has no pair of 'old:' and 'new:'" for it in edits if not it.pairs]
+    return edits, faults
+
+
+def edits_of(crate, root=ROOT):
+    """The edits of a crate; none if it has no file of them. A wrong line raises Bad."""
+    path = f"crates/{crate}/edits.txt"
+    if not os.path.isfile(f"{root}/{path}"):
+        return []
+    edits, faults = read_edits(crate, f"{root}/{path}", path)
+    if faults:
+        raise Bad("\n".join(faults))
+    return edits

@@ -18,10 +18,7 @@ use schedules::parse_schedule;
 use std::{env, fs};
 
 /// The texts, in the order in which they are judged.
-const TEXTS: [&str; 6] = [
-    "power_bus.rules",
-    "thermal_loop.rules",
-    "reaction_wheels.rules",
+const TEXTS: [&str; 3] = [
     "dead_rules.rules",
     "double_rules.rules",
     "shared_bits.rules",

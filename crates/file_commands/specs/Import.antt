@@ -18,7 +18,7 @@ resync_by true false = AtEnd
 
 -- whether an option is given that is about times in headers
 abbrev pub is_of_headers : ImportWords → Bool
-is_of_headers how = is_some how.time_at || is_some how.epoch
+is_of_headers how = is_some how.time_at || is_some how.subtract
 
 -- packets come by steps exactly where a step is given, and then nothing is about times in headers
 abbrev pub AreAsked : ImportWords → Times → Type 0

@@ -1,4 +1,4 @@
-//! The command `export STREAM RAW`.
+//! The command `export --stream STREAM --out RAW`.
 
 use crate::ends::end_of_stream;
 use crate::listing::whole_records;

@@ -22,14 +22,24 @@ const MILLIONTHS: u64 = 1_000_000;
 /// The shortest step in millionths of a second: the first that is no shorter than the resolution of a stream, 1/65,536 s.
 const LEAST_STEP: u64 = 16;
 
-/// What is written for a step that is refused.
-const NO_STEP: &str = "write seconds from 0.000016 on, with at most six digits after the point";
+/// What to write for a refused `--time-at`.
+const TIME_AT_ADVICE: &str = "write an offset in bytes, from 0 to 65535";
 
-/// What is written for ticks that are refused.
-const NO_TICK: &str = "write whole seconds from 1 on, or leave it out for no ticks";
+/// What to write for a refused `--subtract`.
+const SUBTRACT_ADVICE: &str = "write whole seconds, from 0 to 4294967295";
 
-/// What is written for the word of a numeric option that is refused.
-const NO_VALUE: &str = "no such value";
+/// What to write for a refused `--step`.
+const STEP_ADVICE: &str =
+    "write seconds, 0.000016 or more, with at most six digits after the point";
+
+/// What to write for a refused `--tick`.
+const TICK_ADVICE: &str = "write whole seconds, 1 or more; leave --tick out for no ticks";
+
+/// What to write for a refused `--only`.
+const ONLY_ADVICE: &str = "write message ids separated by commas, for example 0x0883,0x0884";
+
+/// What to write for a refused `--start`.
+const START_ADVICE: &str = "write the number of a rule text, from 0 to 65535";
 
 /// A decimal number, or a hexadecimal one after `0x`, of at most `most`.
 fn number_in(word: &str, most: u32) -> Option<u32>
@@ -51,6 +61,7 @@ fn number_of<'a>(
     word: Option<&'a str>,
     most: u32,
     default: u32,
+    advice: &'static str,
 ) -> Result<u32, Fault<'a>>
     requires { default ≤ most }
     ensures { IfOk result (λ number. number ≤ most) }
@@ -59,7 +70,7 @@ fn number_of<'a>(
         None => Ok(default),
         Some(word) => match number_in(word, most) {
             Some(number) => Ok(number),
-            None => Err(Fault::Value(option, word, NO_VALUE)),
+            None => Err(Fault::Value(option, word, advice)),
         },
     }
 }
@@ -91,9 +102,9 @@ fn step_in(word: &str) -> Option<u64>
 fn header_option(wanted: ImportWords<'_>) -> Option<&'static str>
     ensures { is_some result ≡ is_of_headers wanted.entry }
 {
-    match (wanted.time_at, wanted.epoch) {
+    match (wanted.time_at, wanted.subtract) {
         (Some(_), _) => Some("--time-at"),
-        (None, Some(_)) => Some("--epoch"),
+        (None, Some(_)) => Some("--subtract"),
         (None, None) => None,
     }
 }
@@ -107,11 +118,17 @@ pub fn times_of<'a>(wanted: ImportWords<'a>) -> Result<Times, Fault<'a>>
         (Some(_), Some(option)) => Err(Fault::Value("--step", option, ONE_OF_TWO)),
         (Some(word), None) => match step_in(word) {
             Some(step) => Ok(Times::Steps { step }),
-            None => Err(Fault::Value("--step", word, NO_STEP)),
+            None => Err(Fault::Value("--step", word, STEP_ADVICE)),
         },
         (None, _) => Ok(Times::Header {
-            at: number_of("--time-at", wanted.time_at, 65_535, OWN_TIME)? as u16,
-            epoch: number_of("--epoch", wanted.epoch, u32::MAX, 0)?,
+            at: number_of(
+                "--time-at",
+                wanted.time_at,
+                65_535,
+                OWN_TIME,
+                TIME_AT_ADVICE,
+            )? as u16,
+            epoch: number_of("--subtract", wanted.subtract, u32::MAX, 0, SUBTRACT_ADVICE)?,
         }),
     }
 }
@@ -124,8 +141,7 @@ pub fn tick_of<'a>(word: Option<&'a str>) -> Result<u32, Fault<'a>>
         None => Ok(0),
         Some(word) => match number_in(word, u32::MAX) {
             Some(seconds) if seconds > 0 => Ok(seconds),
-            Some(_) => Err(Fault::Value("--tick", word, NO_TICK)),
-            None => Err(Fault::Value("--tick", word, NO_VALUE)),
+            _ => Err(Fault::Value("--tick", word, TICK_ADVICE)),
         },
     }
 }
@@ -137,9 +153,7 @@ pub fn ids_of<'a>(alloc: Global, word: Option<&'a str>) -> Result<Vec<u16>, Faul
         for id in word.split(',') {
             match number_in(id, 65_535) {
                 Some(id) => ids.push(id as u16)?,
-                None => {
-                    return Err(Fault::Value("--only", word, "write message ids, as 0x0883,0x0884"));
-                }
+                None => return Err(Fault::Value("--only", word, ONLY_ADVICE)),
             }
         }
     }
@@ -152,7 +166,7 @@ pub fn start_number<'a>(word: Option<&'a str>) -> Result<Option<u16>, Fault<'a>>
         None => Ok(None),
         Some(word) => match number_in(word, 65_535) {
             Some(number) => Ok(Some(number as u16)),
-            None => Err(Fault::Value("--start", word, NO_VALUE)),
+            None => Err(Fault::Value("--start", word, START_ADVICE)),
         },
     }
 }

@@ -1,4 +1,4 @@
-//! The command `import RAW.. STREAM`.
+//! The command `import --out STREAM RAW..`.
 
 use crate::import_options::{ids_of, resync_by, start_number, tick_of, times_of};
 use crate::import_stream::Stream;
@@ -195,20 +195,18 @@ fn import_to_file<'a, R: Files + Eprint + AllocGlobal, I: Read + Drop, W: Write>
     told
 }
 
-/// Imports archives of space packets, in order, into the stream that `files` names last, through a draft that is renamed at the end;
-/// `-` is standard input and standard output. Reports go to `out`, or to standard error if the stream goes to standard output. Errors:
+/// Imports archives of space packets, in order, into a stream, through a draft that is renamed at the end; `-` is standard input for an
+/// archive and standard output for the stream. Reports go to `out`, or to standard error if the stream goes to standard output. Errors:
 /// `Value` for an option; `Early` if an archive ends early, and then the stream is written all the same; others are of files and
 /// memory, and an old stream stays.
 pub fn import<'a, R: Files + Eprint + AllocGlobal, I: Read + Drop, W: Write>(
     rt: &R,
-    files: &[&'a str],
+    archives: &[&'a str],
+    stream: &'a str,
     wanted: ImportWords<'a>,
     mut input: I,
     out: &mut W,
 ) -> Result<(), Fault<'a>> {
-    let Some((stream, archives)) = files.split_last() else {
-        return Err(Fault::NoText);
-    };
     let only = ids_of(rt.alloc(), wanted.only)?;
     let mut how = ArchiveImport {
         options: ImportOptions {
@@ -230,7 +228,7 @@ pub fn import<'a, R: Files + Eprint + AllocGlobal, I: Read + Drop, W: Write>(
     };
     let start = start_number(wanted.start)?;
     check_names(rt, stream, archives)?;
-    if *stream == STANDARD {
+    if stream == STANDARD {
         import_to_output(rt, archives, &mut how, start, &mut input, out)?;
     } else {
         import_to_file(rt, archives, stream, &mut how, start, &mut input, out)?;

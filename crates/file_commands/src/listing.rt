@@ -199,7 +199,7 @@ fn end_of_packets<'a, F: Read + Drop, W: Write>(
     if left > 0 {
         listing_result(writeln!(
             out,
-            "cut behind packet {number}: {left} bytes are no whole packet"
+            "ends early: bytes after packet {number} that are not a whole packet: {left}"
         ))?;
     }
     listing_result(out.flush())?;

@@ -20,7 +20,10 @@ use stream_script::{Front, front_of};
 use tool_faults::{Fault, epoch_of, listing_result, output_fault};
 
 /// What is written for two options of which each leaves no room for the other.
-pub const ONE_OF_TWO: &str = "one of the two, not both";
+pub const ONE_OF_TWO: &str = "write one of the two, not both";
+
+/// What to write for an epoch of text.
+const ONLY_ROWS: &str = "write --csv or --json too: text shows no UTC times";
 
 /// How rows are written: as values or as objects, and from which epoch their times count.
 #[derive(Clone, Copy)]
@@ -36,7 +39,7 @@ fn text_form<'a>(epoch: Option<&'a str>) -> Result<Option<Rows>, Fault<'a>>
 {
     match epoch {
         None => Ok(None),
-        Some(word) => Err(Fault::Value("--epoch", word, "only with --csv or --json")),
+        Some(word) => Err(Fault::Value("--epoch", word, ONLY_ROWS)),
     }
 }
 

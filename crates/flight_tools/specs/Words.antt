@@ -7,3 +7,4 @@ use Rattle.tool_faults.specs.declared.fault.Fault.TheVariants as fault
 abbrev pub fault_of_words : WordsError → Fault
 fault_of_words words.Memory = fault.Memory
 fault_of_words (words.Refused error) = fault.Words error
+fault_of_words (words.Replaced option advice) = fault.Replaced option advice

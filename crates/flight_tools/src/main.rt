@@ -42,6 +42,7 @@ fn words_fault(error: WordsError) -> Fault<'static>
 {
     match error {
         WordsError::Refused(error) => Fault::Words(error),
+        WordsError::Replaced(option, advice) => Fault::Replaced(option, advice),
         WordsError::Memory => Fault::Memory,
     }
 }
@@ -64,23 +65,25 @@ fn obey<'a, R: Files + Eprint + AllocGlobal, I: Read + Drop, W: Write>(
             out,
         ),
         CommandPlan::Stream {
-            file,
+            stream,
             rules,
             whole,
             rows,
-        } => file_commands::stream(rt, file, rules.as_slice(), whole, rows, out),
-        CommandPlan::Packets { file, rules, rows } => {
-            file_commands::packets(rt, file, rules.as_slice(), rows, out)
-        }
+        } => file_commands::stream(rt, stream, rules.as_slice(), whole, rows, out),
+        CommandPlan::Packets {
+            packets,
+            rules,
+            rows,
+        } => file_commands::packets(rt, packets, rules.as_slice(), rows, out),
         CommandPlan::Scenario {
             script,
-            stream,
+            out: stream,
             rules,
         } => run_commands::make_stream(rt, script, stream, rules),
         CommandPlan::Report {
             schedule,
             stream,
-            page,
+            out: page,
             rules,
             how,
         } => {
@@ -107,14 +110,16 @@ fn obey<'a, R: Files + Eprint + AllocGlobal, I: Read + Drop, W: Write>(
             check(rt, schedule, rules.as_slice(), asked, out)
         }
         CommandPlan::Explain { name } => explain(rt.alloc(), name, out),
-        CommandPlan::Import { files, how } => {
-            file_commands::import(rt, files.as_slice(), how, input, out)
-        }
+        CommandPlan::Import {
+            raw,
+            out: stream,
+            how,
+        } => file_commands::import(rt, raw.as_slice(), stream, how, input, out),
         CommandPlan::Format { rules, check } => {
             file_commands::format(rt, rules.as_slice(), check, input, out)
         }
         CommandPlan::LanguageServer => serving::serve(rt.alloc(), input, out),
-        CommandPlan::Export { stream, raw } => file_commands::export(rt, stream, raw),
+        CommandPlan::Export { stream, out: raw } => file_commands::export(rt, stream, raw),
         CommandPlan::Compare {
             schedule,
             stream,
@@ -126,11 +131,14 @@ fn obey<'a, R: Files + Eprint + AllocGlobal, I: Read + Drop, W: Write>(
             run_commands::compare(rt, schedule, stream, old, new, further, out)
         }
         CommandPlan::Try {
-            script,
+            scripts,
             schedule,
             rules,
             strict,
-        } => run_commands::try_out(rt, script, schedule, rules.as_slice(), strict, out),
+        } => {
+            let scripts = scripts.as_slice();
+            run_commands::try_out(rt, scripts, schedule, rules.as_slice(), strict, out)
+        }
         CommandPlan::Live { schedule, rules } => run_commands::run(
             rt,
             schedule,

@@ -11,6 +11,8 @@ use std::alloc::{AllocError, AllocFailed};
 pub enum WordsError {
     /// The words aren't a command; the message is `clap`'s.
     Refused(Error),
+    /// The command doesn't have this option; what to write in its place.
+    Replaced(&'static str, &'static str),
     /// There is no memory.
     Memory,
 }

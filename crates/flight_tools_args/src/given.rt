@@ -1,9 +1,10 @@
 //! The plan of a command that was found.
 
-ghost use Rattle.std.specs.Prelude.{◌≡◌, codes, map, option_map, IfOk, IfSome, IsSomeAnd, None, Some};
-ghost use Rattle.clap.specs.Words.{all_of, first_of, found_of, rows_of, subcommand_rows_of};
-ghost use Rattle.flight_tools_args.specs.Words.{HoldsForm, HoldsImport, HoldsPage, HoldsRows, HoldsWords, IsFlag, word_of};
+ghost use Rattle.std.specs.Prelude.{◌≡◌, codes, option_map, IfOk, IfSome, IsSomeAnd, None, Some};
+ghost use Rattle.clap.specs.Words.{first_of, found_of, rows_of, subcommand_rows_of};
+ghost use Rattle.flight_tools_args.specs.Words.{HasWords, HoldsForm, HoldsImport, HoldsPage, HoldsRows, HoldsWords, word_of};
 
+use crate::found::{file_of, flag, option_value, option_values, words_of};
 use crate::kind::{CommandKind, kind_of};
 use crate::plan::{CommandPlan, ImportWords, PageWords, RowWords};
 use clap::ArgMatches;
@@ -52,41 +53,6 @@ fn plan_by<'a>(
     }
 }
 
-/// The file of a name.
-fn file_of<'a>(found: &ArgMatches<'a>, name: &str) -> Option<&'a str>
-    ensures { IfSome result
-        (λ word. first_of name.now (rows_of (found_of found.now)) ≡ Some word.now) }
-{
-    found.get_str(name)
-}
-
-/// The value of an option, if it is given.
-fn option_value<'a>(found: &ArgMatches<'a>, name: &str) -> Option<&'a str>
-    ensures { first_of name.now (rows_of (found_of found.now)) ≡
-        option_map (λ word. word.now) result }
-{
-    found.get_str(name)
-}
-
-/// Whether a flag is given.
-fn flag(found: &ArgMatches<'_>, name: &str) -> bool
-    ensures { IsFlag name.now (rows_of (found_of found.now)) result }
-{
-    found.get_flag(name)
-}
-
-/// The rule texts.
-fn rules_of<'a>(alloc: Global, found: &ArgMatches<'a>) -> Result<Option<Vec<&'a str>>, AllocError>
-    ensures { IfOk result (λ rules. IfSome rules
-        (λ words. all_of (codes "RULES") (rows_of (found_of found.now)) ≡
-        Some (map (λ word. word.now) words.items))) }
-{
-    match found.get_strs("RULES") {
-        Some(rules) => Ok(Some(Vec::from_slice(alloc, rules)?)),
-        None => Ok(None),
-    }
-}
-
 fn table_plan<'a>(found: &ArgMatches<'a>) -> Option<CommandPlan<'a>>
     ensures { IfSome result (HoldsRows (codes "table", rows_of (found_of found.now))) }
 {
@@ -107,27 +73,13 @@ fn row_words<'a>(found: &ArgMatches<'a>) -> RowWords<'a>
     }
 }
 
-/// All words of an option that may be given several times; none where it isn't given.
-fn option_values<'a>(
-    alloc: Global,
-    found: &ArgMatches<'a>,
-    name: &str,
-) -> Result<Vec<&'a str>, AllocError>
-    ensures { IfOk result (λ words. HoldsWords name.now (rows_of (found_of found.now)) words.items) }
-{
-    match found.get_strs(name) {
-        Some(words) => Ok(Vec::from_slice(alloc, words)?),
-        None => Ok(Vec::new(alloc)),
-    }
-}
-
 /// The plan of a stream that is listed with the names of these rule texts.
 fn stream_of<'a>(found: &ArgMatches<'a>, rules: Vec<&'a str>) -> Option<CommandPlan<'a>>
-    requires { HoldsWords (codes "rules") (rows_of (found_of found.now)) rules.items }
+    requires { HoldsWords (codes "RULES") (rows_of (found_of found.now)) rules.items }
     ensures { IfSome result (HoldsRows (codes "stream", rows_of (found_of found.now))) }
 {
     Some(CommandPlan::Stream {
-        file: file_of(found, "FILE")?,
+        stream: file_of(found, "stream")?,
         rules,
         whole: flag(found, "whole"),
         rows: row_words(found),
@@ -141,17 +93,17 @@ fn stream_plan<'a>(
     ensures { IfOk result (λ plan. IfSome plan
         (HoldsRows (codes "stream", rows_of (found_of found.now)))) }
 {
-    let rules = option_values(alloc, found, "rules")?;
+    let rules = option_values(alloc, found, "RULES")?;
     Ok(stream_of(found, rules))
 }
 
 /// The plan of packets that are listed with the names of these rule texts.
 fn packets_of<'a>(found: &ArgMatches<'a>, rules: Vec<&'a str>) -> Option<CommandPlan<'a>>
-    requires { HoldsWords (codes "rules") (rows_of (found_of found.now)) rules.items }
+    requires { HoldsWords (codes "RULES") (rows_of (found_of found.now)) rules.items }
     ensures { IfSome result (HoldsRows (codes "packets", rows_of (found_of found.now))) }
 {
     Some(CommandPlan::Packets {
-        file: file_of(found, "FILE")?,
+        packets: file_of(found, "PACKETS")?,
         rules,
         rows: row_words(found),
     })
@@ -164,7 +116,7 @@ fn packets_plan<'a>(
     ensures { IfOk result (λ plan. IfSome plan
         (HoldsRows (codes "packets", rows_of (found_of found.now)))) }
 {
-    let rules = option_values(alloc, found, "rules")?;
+    let rules = option_values(alloc, found, "RULES")?;
     Ok(packets_of(found, rules))
 }
 
@@ -172,9 +124,9 @@ fn scenario_plan<'a>(found: &ArgMatches<'a>) -> Option<CommandPlan<'a>>
     ensures { IfSome result (HoldsRows (codes "scenario", rows_of (found_of found.now))) }
 {
     Some(CommandPlan::Scenario {
-        script: file_of(found, "SCRIPT")?,
-        stream: file_of(found, "STREAM")?,
-        rules: option_value(found, "rules"),
+        script: file_of(found, "script")?,
+        out: file_of(found, "out")?,
+        rules: option_value(found, "RULES"),
     })
 }
 
@@ -189,23 +141,23 @@ fn import_words<'a>(found: &ArgMatches<'a>) -> ImportWords<'a>
         keep_faulty: flag(found, "keep-faulty"),
         only: option_value(found, "only"),
         time_at: option_value(found, "time-at"),
-        epoch: option_value(found, "epoch"),
+        subtract: option_value(found, "subtract"),
         step: option_value(found, "step"),
         tick: option_value(found, "tick"),
         start: option_value(found, "start"),
     }
 }
 
-/// The archives and the stream.
-fn files_of<'a>(alloc: Global, found: &ArgMatches<'a>) -> Result<Option<Vec<&'a str>>, AllocError>
-    ensures { IfOk result (λ files. IfSome files
-        (λ words. all_of (codes "FILES") (rows_of (found_of found.now)) ≡
-        Some (map (λ word. word.now) words.items))) }
+/// The plan of an import of these archives.
+fn import_of<'a>(found: &ArgMatches<'a>, raw: Vec<&'a str>) -> Option<CommandPlan<'a>>
+    requires { HasWords (codes "RAW") (rows_of (found_of found.now)) raw.items }
+    ensures { IfSome result (HoldsRows (codes "import", rows_of (found_of found.now))) }
 {
-    match found.get_strs("FILES") {
-        Some(files) => Ok(Some(Vec::from_slice(alloc, files)?)),
-        None => Ok(None),
-    }
+    Some(CommandPlan::Import {
+        raw,
+        out: file_of(found, "out")?,
+        how: import_words(found),
+    })
 }
 
 fn import_plan<'a>(
@@ -215,11 +167,8 @@ fn import_plan<'a>(
     ensures { IfOk result (λ plan. IfSome plan
         (HoldsRows (codes "import", rows_of (found_of found.now)))) }
 {
-    match files_of(alloc, found)? {
-        Some(files) => Ok(Some(CommandPlan::Import {
-            files,
-            how: import_words(found),
-        })),
+    match words_of(alloc, found, "RAW")? {
+        Some(raw) => Ok(import_of(found, raw)),
         None => Ok(None),
     }
 }
@@ -228,8 +177,8 @@ fn export_plan<'a>(found: &ArgMatches<'a>) -> Option<CommandPlan<'a>>
     ensures { IfSome result (HoldsRows (codes "export", rows_of (found_of found.now))) }
 {
     Some(CommandPlan::Export {
-        stream: file_of(found, "STREAM")?,
-        raw: file_of(found, "RAW")?,
+        stream: file_of(found, "stream")?,
+        out: file_of(found, "out")?,
     })
 }
 
@@ -246,14 +195,14 @@ fn page_words<'a>(found: &ArgMatches<'a>) -> PageWords<'a>
 
 /// The plan of a report of these rule texts.
 fn report_of<'a>(found: &ArgMatches<'a>, rules: Vec<&'a str>) -> Option<CommandPlan<'a>>
-    requires { all_of (codes "RULES") (rows_of (found_of found.now)) ≡
-        Some (map (λ word. word.now) rules.items) }
+    requires { HasWords (codes "RULES") (rows_of (found_of found.now)) rules.items }
     ensures { IfSome result (HoldsRows (codes "report", rows_of (found_of found.now))) }
 {
+    let page = file_of(found, "out")?;
     Some(CommandPlan::Report {
-        schedule: file_of(found, "SCHEDULE")?,
-        stream: file_of(found, "STREAM")?,
-        page: file_of(found, "PAGE")?,
+        schedule: file_of(found, "schedule")?,
+        stream: file_of(found, "stream")?,
+        out: page,
         rules,
         how: page_words(found),
     })
@@ -266,7 +215,7 @@ fn report_plan<'a>(
     ensures { IfOk result (λ plan. IfSome plan
         (HoldsRows (codes "report", rows_of (found_of found.now)))) }
 {
-    match rules_of(alloc, found)? {
+    match words_of(alloc, found, "RULES")? {
         Some(rules) => Ok(report_of(found, rules)),
         None => Ok(None),
     }
@@ -274,8 +223,7 @@ fn report_plan<'a>(
 
 /// The plan of a check of these rule texts.
 fn check_of<'a>(found: &ArgMatches<'a>, rules: Vec<&'a str>) -> CommandPlan<'a>
-    requires rules { all_of (codes "RULES") (rows_of (found_of found.now)) ≡
-        Some (map (λ word. word.now) rules.items) }
+    requires rules { HasWords (codes "RULES") (rows_of (found_of found.now)) rules.items }
     requires explain { first_of (codes "explain") (rows_of (found_of found.now)) ≡ None }
     ensures { HoldsRows (codes "check", rows_of (found_of found.now)) result }
 {
@@ -298,7 +246,7 @@ fn check_plan<'a>(
     if let Some(name) = option_value(found, "explain") {
         return Ok(Some(CommandPlan::Explain { name }));
     }
-    match rules_of(alloc, found)? {
+    match words_of(alloc, found, "RULES")? {
         Some(rules) => Ok(Some(check_of(found, rules))),
         None => Ok(None),
     }
@@ -310,8 +258,8 @@ fn compare_of<'a>(found: &ArgMatches<'a>, further: Vec<&'a str>) -> Option<Comma
     ensures { IfSome result (HoldsRows (codes "compare", rows_of (found_of found.now))) }
 {
     Some(CommandPlan::Compare {
-        schedule: file_of(found, "SCHEDULE")?,
-        stream: file_of(found, "STREAM")?,
+        schedule: file_of(found, "schedule")?,
+        stream: file_of(found, "stream")?,
         old: file_of(found, "OLD")?,
         new: file_of(found, "NEW")?,
         further,
@@ -329,19 +277,39 @@ fn compare_plan<'a>(
     Ok(compare_of(found, further))
 }
 
-/// The plan of trying a script with these rule texts.
-fn try_of<'a>(found: &ArgMatches<'a>, rules: Vec<&'a str>) -> Option<CommandPlan<'a>>
-    requires { all_of (codes "RULES") (rows_of (found_of found.now)) ≡
-        Some (map (λ word. word.now) rules.items) }
+/// The plan of trying these scripts with these rule texts.
+fn try_of<'a>(
+    found: &ArgMatches<'a>,
+    scripts: Vec<&'a str>,
+    rules: Vec<&'a str>,
+) -> Option<CommandPlan<'a>>
+    requires scripts { HasWords (codes "script") (rows_of (found_of found.now)) scripts.items }
+    requires rules { HasWords (codes "RULES") (rows_of (found_of found.now)) rules.items }
     ensures { IfSome result (HoldsRows (codes "try", rows_of (found_of found.now))) }
 {
     let strict = flag(found, "strict");
     Some(CommandPlan::Try {
-        script: file_of(found, "SCRIPT")?,
-        schedule: file_of(found, "SCHEDULE")?,
+        scripts,
+        schedule: file_of(found, "schedule")?,
         rules,
         strict,
     })
+}
+
+/// The plan of trying these scripts.
+fn try_scripts<'a>(
+    alloc: Global,
+    found: &ArgMatches<'a>,
+    scripts: Vec<&'a str>,
+) -> Result<Option<CommandPlan<'a>>, AllocError>
+    requires { HasWords (codes "script") (rows_of (found_of found.now)) scripts.items }
+    ensures { IfOk result (λ plan. IfSome plan
+        (HoldsRows (codes "try", rows_of (found_of found.now)))) }
+{
+    match words_of(alloc, found, "RULES")? {
+        Some(rules) => Ok(try_of(found, scripts, rules)),
+        None => Ok(None),
+    }
 }
 
 fn try_plan<'a>(
@@ -351,20 +319,19 @@ fn try_plan<'a>(
     ensures { IfOk result (λ plan. IfSome plan
         (HoldsRows (codes "try", rows_of (found_of found.now)))) }
 {
-    match rules_of(alloc, found)? {
-        Some(rules) => Ok(try_of(found, rules)),
+    match words_of(alloc, found, "script")? {
+        Some(scripts) => try_scripts(alloc, found, scripts),
         None => Ok(None),
     }
 }
 
 /// The plan of a live run of these rule texts.
 fn live_of<'a>(found: &ArgMatches<'a>, rules: Vec<&'a str>) -> Option<CommandPlan<'a>>
-    requires { all_of (codes "RULES") (rows_of (found_of found.now)) ≡
-        Some (map (λ word. word.now) rules.items) }
+    requires { HasWords (codes "RULES") (rows_of (found_of found.now)) rules.items }
     ensures { IfSome result (HoldsRows (codes "live", rows_of (found_of found.now))) }
 {
     Some(CommandPlan::Live {
-        schedule: file_of(found, "SCHEDULE")?,
+        schedule: file_of(found, "schedule")?,
         rules,
     })
 }
@@ -376,7 +343,7 @@ fn live_plan<'a>(
     ensures { IfOk result (λ plan. IfSome plan
         (HoldsRows (codes "live", rows_of (found_of found.now)))) }
 {
-    match rules_of(alloc, found)? {
+    match words_of(alloc, found, "RULES")? {
         Some(rules) => Ok(live_of(found, rules)),
         None => Ok(None),
     }
@@ -389,7 +356,7 @@ fn format_plan<'a>(
     ensures { IfOk result (λ plan. IfSome plan
         (HoldsRows (codes "format", rows_of (found_of found.now)))) }
 {
-    match rules_of(alloc, found)? {
+    match words_of(alloc, found, "RULES")? {
         Some(rules) => Ok(Some(CommandPlan::Format {
             rules,
             check: flag(found, "check"),

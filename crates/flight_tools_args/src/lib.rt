@@ -3,18 +3,22 @@
 
 ghost use Rattle.std.specs.Prelude.{◌≡◌};
 ghost use Rattle.clap.specs.Words.{kind_of};
-ghost use Rattle.flight_tools_args.specs.Words.{answer_by};
+ghost use Rattle.flight_tools_args.specs.Words.{answer_by, answer_with};
 
+mod command_words;
 mod commands;
 mod error;
+mod found;
 mod given;
 mod kind;
 mod plan;
+mod replaced;
 
 use crate::commands::all_words;
 pub use crate::error::WordsError;
 use crate::given::given_plan;
 pub use crate::plan::{CommandPlan, ImportWords, PageWords, RowWords};
+use crate::replaced::replaced_option;
 use clap::error::ErrorKind;
 use clap::{ArgMatches, Error};
 use std::alloc::{AllocError, Global};
@@ -43,6 +47,21 @@ fn plan_of<'a>(alloc: Global, found: &ArgMatches<'a>) -> Result<CommandPlan<'a>,
     }
 }
 
+/// The answer for refused words: the name of an option that has another name or place, if there is one.
+fn with_replaced<'a>(
+    answer: Result<CommandPlan<'a>, WordsError>,
+    replaced: Option<(&'static str, &'static str)>,
+) -> Result<CommandPlan<'a>, WordsError>
+    ensures { result ≡ answer_with replaced.entry answer.entry }
+{
+    match (answer, replaced) {
+        (Err(WordsError::Refused(_)), Some((option, advice))) => {
+            Err(WordsError::Replaced(option, advice))
+        }
+        (answer, _) => answer,
+    }
+}
+
 /// The command that `clap` finds in the words, or its error.
 fn found_in<'a>(
     alloc: Global,
@@ -53,10 +72,11 @@ fn found_in<'a>(
 
 /// Reads the words of a command line, the program's name first. An option stands anywhere among the files; `--` ends them.
 ///
-/// Errors: `Refused` with the message of `clap` for words that aren't a command; `Memory`.
+/// Errors: `Refused` with the message of `clap` for words that aren't a command; `Replaced` if they have an option that the command has
+/// under another name or at another place; `Memory`.
 pub fn read_words<'a>(alloc: Global, words: &'a [&'a str]) -> Result<CommandPlan<'a>, WordsError> {
     match found_in(alloc, words)? {
         Ok(found) => plan_of(alloc, &found),
-        Err(error) => without_command(error),
+        Err(error) => with_replaced(without_command(error), replaced_option(words)),
     }
 }

@@ -12,45 +12,47 @@ pub enum CommandPlan<'a> {
         file: &'a str,
         watchpoints: Option<&'a str>,
     },
-    /// `stream [--rules RULES].. [--whole] [ROWS] FILE`: lists the records of a stream as text, as a whole script, or as rows, with the
-    /// names of these rule texts.
+    /// `stream [--whole] [ROWS] --stream STREAM [RULES]..`: lists the records of a stream as text, as a whole script, or as rows, with
+    /// the names of these rule texts.
     Stream {
-        file: &'a str,
+        stream: &'a str,
         rules: Vec<&'a str>,
         whole: bool,
         rows: RowWords<'a>,
     },
-    /// `packets [--rules RULES].. [ROWS] FILE`: lists the packets that a run wrote, as text or as rows, with the names of these rule texts.
+    /// `packets [ROWS] PACKETS [RULES]..`: lists the packets that a run wrote, as text or as rows, with the names of these rule texts.
     Packets {
-        file: &'a str,
+        packets: &'a str,
         rules: Vec<&'a str>,
         rows: RowWords<'a>,
     },
-    /// `scenario [--rules RULES] SCRIPT STREAM`: writes the stream of a script.
+    /// `scenario --script SCRIPT --out STREAM [RULES]`: writes the stream of a script.
     Scenario {
         script: &'a str,
-        stream: &'a str,
+        out: &'a str,
         rules: Option<&'a str>,
     },
-    /// `import [OPTIONS] RAW.. STREAM`: imports archives of space packets to a stream.
+    /// `import [OPTIONS] --out STREAM RAW..`: imports archives of space packets to a stream.
     Import {
-        files: Vec<&'a str>,
+        raw: Vec<&'a str>,
+        out: &'a str,
         how: ImportWords<'a>,
     },
-    /// `export STREAM RAW`: writes the packets of a stream, one after the other.
+    /// `export --stream STREAM --out RAW`: writes the packets of a stream, one after the other.
     Export {
         stream: &'a str,
-        raw: &'a str,
+        out: &'a str,
     },
-    /// `report [--epoch INSTANT] [--from S] [--until S] SCHEDULE STREAM PAGE RULES..`: writes a run, or a part of it, as a page.
+    /// `report [--epoch TIME] [--from SECONDS] [--until SECONDS] --schedule SCHEDULE --stream STREAM --out PAGE RULES..`: writes a run, or
+    /// a part of it, as a page.
     Report {
         schedule: &'a str,
         stream: &'a str,
-        page: &'a str,
+        out: &'a str,
         rules: Vec<&'a str>,
         how: PageWords<'a>,
     },
-    /// `check [--schedule S] [--all] [--strict] [--json] RULES..`: reports the faults and warnings of rule texts.
+    /// `check [--schedule SCHEDULE] [--all] [--strict] [--json] RULES..`: reports the errors and warnings of rule texts.
     Check {
         schedule: Option<&'a str>,
         rules: Vec<&'a str>,
@@ -58,12 +60,12 @@ pub enum CommandPlan<'a> {
         strict: bool,
         json: bool,
     },
-    /// `check --explain NAME`: prints what the warning of this name or the refusal of this number means.
+    /// `check --explain [NAME]`: explains the warning of this name or the error of this number; lists them all if the name is empty.
     Explain {
         name: &'a str,
     },
-    /// `compare SCHEDULE STREAM OLD NEW [--with TEXTS..]`: lists what only one of two rule texts leads to, over a stream that may bring
-    /// further texts.
+    /// `compare --schedule SCHEDULE --stream STREAM [--with RULES].. OLD NEW`: lists what only one of two rule texts leads to, over a
+    /// stream that may bring further texts.
     Compare {
         schedule: &'a str,
         stream: &'a str,
@@ -76,23 +78,24 @@ pub enum CommandPlan<'a> {
         rules: Vec<&'a str>,
         check: bool,
     },
-    /// `try [--strict] SCRIPT SCHEDULE RULES..`: runs a script, and reports whether its expectations are met.
+    /// `try [--strict] --script SCRIPT [--script SCRIPT].. --schedule SCHEDULE RULES..`: runs each script, and reports whether its
+    /// expectations are met.
     Try {
-        script: &'a str,
+        scripts: Vec<&'a str>,
         schedule: &'a str,
         rules: Vec<&'a str>,
         strict: bool,
     },
     /// `lsp [--stdio]`: serves an editor over standard input and output.
     LanguageServer,
-    /// `live SCHEDULE RULES..`: runs a stream as it comes, from standard input to standard output.
+    /// `live --schedule SCHEDULE RULES..`: runs a stream as it comes, from standard input to standard output.
     Live {
         schedule: &'a str,
         rules: Vec<&'a str>,
     },
 }
 
-/// The form of rows: `--csv` or `--json`, and `--epoch INSTANT`. Neither form means text.
+/// The form of rows: `--csv` or `--json`, and `--epoch TIME`. Neither form means text.
 #[derive(Clone, Copy)]
 pub struct RowWords<'a> {
     /// `--csv`: comma-separated values.
@@ -130,7 +133,7 @@ pub struct ImportWords<'a> {
     /// The byte at which a packet's time begins, counted from 0.
     pub time_at: Option<&'a str>,
     /// The seconds that are subtracted from each time.
-    pub epoch: Option<&'a str>,
+    pub subtract: Option<&'a str>,
     /// The seconds from packet to packet, if packets have no times.
     pub step: Option<&'a str>,
     /// The seconds from tick to tick.

@@ -1,6 +1,5 @@
 //! Files and command lines, for both programs: reads files up to a bound or in pieces, compares, creates and writes them under temporary
-//! names. No contract covers the contents of files; the rows of `tools/lib/programs` test it. Contracts see the calls over a `Disk` in
-//! order.
+//! names. No contract covers the contents of files; the rows in `rows/` test it. Contracts see the calls over a `Disk` in order.
 #![tactic(auto)]
 
 mod arguments;

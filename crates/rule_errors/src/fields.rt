@@ -136,7 +136,7 @@ fn outside_head(
     let behind = if is_before {
         " begins before its packet"
     } else {
-        " ends behind its packet"
+        " extends past the end of its packet"
     };
     match field {
         Some(field) => around(alloc, "the field ", field.text, behind),

@@ -227,7 +227,7 @@ fn overlapping_fields(
         subject.text_at(warning.about),
         "",
     )?;
-    let label = "move one of them, or mask them apart";
+    let label = "move one of them, or give them masks that share no bit";
     let mut words = plain(head, String::from_str(alloc, label)?);
     words.other = Some(subject.name_mark(alloc, warning.about, "the other one")?);
     Ok(words)
@@ -583,7 +583,7 @@ fn fails_wherever(
         " does",
     )?;
     let label =
-        "both request one sequence: it may go, if the other is as active and counts as few failures";
+        "both request the same sequence: you can remove it if the other is as active and needs no more failures";
     let mut words = plain(head, String::from_str(alloc, label)?);
     words.other = subject.rule_mark(alloc, warning.about, "fails there, too")?;
     Ok(words)
@@ -605,7 +605,7 @@ fn spare_head(
         alloc,
         "while its fields are known, ",
         subject.rule_name(spare.rule),
-        " says the same with ",
+        " has the same result with ",
     )?;
     head.push_str(term.as_str())?;
     Ok(head)
@@ -621,10 +621,7 @@ fn spare_comparison(
         return Err(AllocError);
     };
     let head = spare_head(alloc, subject, spare)?;
-    let label = String::from_str(
-        alloc,
-        "leave it out, unless it matters which fields are stale",
-    )?;
+    let label = String::from_str(alloc, "remove it, unless it has to make the rule stale")?;
     let mut words = plain(head, label);
     words.other = subject.term_mark(alloc, spare.rule, &spare.term)?;
     Ok(words)
@@ -683,9 +680,9 @@ fn unused_quiet(
     }
     of_name(
         alloc,
-        "no ",
+        "the next line has no warning ",
         name,
-        " is to be kept quiet in the next line",
+        " to silence",
         "leave the name out",
     )
 }

@@ -1,4 +1,4 @@
-//! `compare SCHEDULE STREAM OLD NEW [--with TEXTS..]`
+//! `compare --schedule SCHEDULE --stream STREAM [--with RULES].. OLD NEW`
 
 ghost use Rattle.std.specs.Prelude.{◌≡◌};
 ghost use Rattle.run_commands.specs.Cause.{answer_of_comparison, fault_of_comparison_text, IsOfComparison};

@@ -10,6 +10,7 @@ mod scenario;
 mod text_noting;
 mod times;
 mod trying;
+mod worst;
 
 pub use crate::comparing::compare;
 pub use crate::live::run;

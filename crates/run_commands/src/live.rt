@@ -1,4 +1,4 @@
-//! `live SCHEDULE RULES..`
+//! `live --schedule SCHEDULE RULES..`
 
 ghost use Rattle.std.specs.Prelude.{◌≡◌};
 ghost use Rattle.run_commands.specs.Cause.{IsAnswered, fault_of_text};

@@ -1,4 +1,4 @@
-//! `report SCHEDULE STREAM PAGE RULES..`
+//! `report --schedule SCHEDULE --stream STREAM --out PAGE RULES..`
 
 ghost use Rattle.std.specs.Prelude.{◌≡◌};
 ghost use Rattle.run_commands.specs.Cause.{answer_of_ending, fault_of_device, fault_of_page, fault_of_record};

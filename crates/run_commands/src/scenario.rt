@@ -1,4 +1,4 @@
-//! `scenario [--rules RULES] SCRIPT STREAM`
+//! `scenario --script SCRIPT --out STREAM [RULES]`
 
 use crate::line_error::line_error_fault;
 use diagnostics::warnings_page_of;

@@ -70,7 +70,7 @@ fn time_of<'a>(option: &'static str, word: Option<&'a str>) -> Result<Option<u64
         None => Ok(None),
         Some(word) => match ticks_of(word.as_bytes()) {
             Some(ticks) => Ok(Some(ticks)),
-            None => Err(Fault::Value(option, word, "write seconds, as 104 or 104.00000")),
+            None => Err(Fault::Value(option, word, "write seconds, for example 104 or 104.00000")),
         },
     }
 }
@@ -88,7 +88,7 @@ pub fn part_of<'a>(times: PageTimes<'a>) -> Result<Part, Fault<'a>>
     match (from, until) {
         (Some(begin), Some(end)) if end <= begin => {
             let word = times.until.unwrap_or("");
-            Err(Fault::Value("--until", word, "write seconds after those of --from"))
+            Err(Fault::Value("--until", word, "write a later second than that of --from"))
         }
         _ => Ok(Part { from, until }),
     }

@@ -1,9 +1,10 @@
-//! `try SCRIPT SCHEDULE RULES..`
+//! `try [--strict] --script SCRIPT .. --schedule SCHEDULE RULES..`
 
 ghost use Rattle.std.specs.Prelude.{◌≡◌};
 ghost use Rattle.run_commands.specs.Cause.{IsOfLine, IsOfTrial, ending_of};
 
 use crate::line_error::line_error_fault;
+use crate::worst::{reported, worse_status};
 use diagnostics::{Message, around, warnings_page_of};
 use program_io::Noting;
 use rpn_compiler::RuleText;
@@ -16,8 +17,8 @@ use std::cell::Cell;
 use std::fs::Files;
 use std::io::{Eprint, ErrorKind, Write};
 use tool_faults::{
-    Fault, LONGEST_WHOLE, line_fault, line_mark, listing_result, read, schedule_in, texts_in,
-    written_fault,
+    Fault, LONGEST_WHOLE, line_fault, line_mark, listing_result, read, rule_texts_of, schedule_in,
+    texts_in, written_fault,
 };
 
 /// The number of the message about a line whose record stops the run, or at which the text in force can't be settled.
@@ -229,34 +230,24 @@ fn ending_of(outcome: &TrialOutcome, strict: bool) -> Result<(), Fault<'static>>
 }
 
 /// Runs rule texts over the stream of a script, and lists its unmet expectations, or all packets of the run if it has no expectations.
-/// Warnings go to standard error. Errors: `Unmet`; `Warned` if the trial is strict and there are warnings; `Lines` for a refused script or
-/// a stopped run; and the faults of files and texts.
-pub fn try_out<'a, R: Files + Eprint + AllocGlobal, W: Write>(
+/// Warnings go to standard error. `rules` are the names of the texts' files. Errors: `Unmet`; `Warned` if the trial is strict and there
+/// are warnings; `Lines` for a refused script or a stopped run; and the faults of the script's file, of texts and of the output.
+fn try_script<'a, R: Files + Eprint + AllocGlobal, W: Write>(
     rt: &R,
     script: &'a str,
-    schedule: &'a str,
     rules: &[&'a str],
+    plan: RunInputs<'_>,
     strict: bool,
     out: &mut W,
 ) -> Result<(), Fault<'a>> {
     let text = read(rt, script, LONGEST_WHOLE)?;
-    let schedule = schedule_in(rt, schedule)?;
-    let texts = texts_in(rt, rules)?;
-    let mut slices = Vec::new(rt.alloc());
-    for text in &texts {
-        slices.push(text.as_slice())?;
-    }
-    let plan = RunInputs {
-        texts: slices.as_slice(),
-        schedule: &schedule,
-    };
     let kind = Cell::new(None);
     let mut noted = Noting::new(out, &kind);
     match try_scenario(rt.alloc(), script, text.as_slice(), plan, &mut noted) {
         Ok(outcome) => {
             listing_result(noted.flush())?;
             let warnings = outcome.warnings.as_slice();
-            let has_own = warn(rt, (script, text.as_slice()), slices.as_slice(), warnings)?;
+            let has_own = warn(rt, (script, text.as_slice()), plan.texts, warnings)?;
             ending_of(&outcome, strict)?;
             if strict && has_own {
                 return Err(Fault::Warned);
@@ -267,9 +258,57 @@ pub fn try_out<'a, R: Files + Eprint + AllocGlobal, W: Write>(
             rt.alloc(),
             (script, text.as_slice()),
             rules,
-            slices.as_slice(),
+            plan.texts,
             error,
             kind.get(),
         )),
     }
+}
+
+/// Runs each script as `try_script` does, in order, and writes each one's fault to standard error. Returns the worst status; ends early
+/// only if the reader of the output closed it.
+fn try_each<'a, R: Files + Eprint + AllocGlobal, W: Write>(
+    rt: &R,
+    scripts: &[&'a str],
+    rules: &[&'a str],
+    plan: RunInputs<'_>,
+    strict: bool,
+    out: &mut W,
+) -> u8 {
+    let mut worst = 0u8;
+    for script in scripts {
+        if let Err(fault) = try_script(rt, script, rules, plan, strict, out) {
+            let _said = eprint!(rt; "{fault}");
+            worst = worse_status(worst, fault.status());
+            if matches!(fault, Fault::Gone) {
+                break;
+            }
+        }
+    }
+    worst
+}
+
+/// Tries scripts with the rule texts in these files: each script alone, in the order given. Errors: `Reported` with the worst status of
+/// the trials if one of them has another than 0, after each fault is written to standard error; and the faults of the schedule and of
+/// rule texts, before any script is read.
+pub fn try_out<'a, R: Files + Eprint + AllocGlobal, W: Write>(
+    rt: &R,
+    scripts: &[&'a str],
+    schedule: &'a str,
+    rules: &[&'a str],
+    strict: bool,
+    out: &mut W,
+) -> Result<(), Fault<'a>> {
+    let schedule = schedule_in(rt, schedule)?;
+    let texts = texts_in(rt, rules)?;
+    let _valid = rule_texts_of(rt.alloc(), rules, texts.as_slice())?;
+    let mut slices = Vec::new(rt.alloc());
+    for text in &texts {
+        slices.push(text.as_slice())?;
+    }
+    let plan = RunInputs {
+        texts: slices.as_slice(),
+        schedule: &schedule,
+    };
+    reported(try_each(rt, scripts, rules, plan, strict, out))
 }

@@ -27,7 +27,7 @@ function commandFor(from, to) {
   const names = role => run.files.filter(file => file.role === role).map(file => quoted(file.name));
   const [low, high] = [Math.floor((run.start + from.time) / TICKS), Math.floor((run.start + to.time) / TICKS) + 1];
   return ['flight_tools report', ...(run.epoch === null ? [] : ['--epoch', run.epoch]), '--from', low, '--until', high,
-    ...names('schedule'), ...names('stream'), 'PART.html', ...names('rules')].join(' ');
+    '--schedule', ...names('schedule'), '--stream', ...names('stream'), '--out', 'PART.html', ...names('rules')].join(' ');
 }
 
 // Where more is to be read of what lies between two places, as elements.

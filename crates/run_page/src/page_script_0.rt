@@ -138,7 +138,7 @@ function commandFor(from, to) {
 const names = role => run.files.filter(file => file.role === role).map(file => quoted(file.name));
 const [low, high] = [Math.floor((run.start + from.time) / TICKS), Math.floor((run.start + to.time) / TICKS) + 1];
 return ['flight_tools report', ...(run.epoch === null ? [] : ['--epoch', run.epoch]), '--from', low, '--until', high,
-...names('schedule'), ...names('stream'), 'PART.html', ...names('rules')].join(' ');
+'--schedule', ...names('schedule'), '--stream', ...names('stream'), '--out', 'PART.html', ...names('rules')].join(' ');
 }
 function moreAbout(from, to) {
 if (!run.ordered) return [make('p', 'soft', 'Times go back in this stream, so no page of a part can be made.')];

@@ -37,7 +37,6 @@ use crate::outcome::outcome;
 use crate::row::Row;
 use crate::text_speed::{measure_checker, measure_compiler, measure_lexer};
 use std::{env, fs};
-use stream_script::read_script;
 
 /// What a row's run gives, in the form of what is expected.
 fn play(rt: &HostRuntime, name: &str) -> anyhow::Result<Vec<u8>> {
@@ -60,19 +59,6 @@ fn show(rt: &HostRuntime, name: &str) -> anyhow::Result<()> {
     Ok(())
 }
 
-/// Prints whether the scenario of `bus.stream` says that stream.
-fn show_bus(rt: &HostRuntime) -> anyhow::Result<()> {
-    let scenario = read(rt, ".", "bus.scenario")?;
-    let said = read_script(rt.alloc(), scenario.as_slice())?;
-    let stream = read(rt, ".", "bus.stream")?;
-    let answer = match judge(said.as_slice(), stream.as_slice()) {
-        TextVerdict::AsExpected => "its scenario says it",
-        TextVerdict::Differs(_) => "its scenario says another stream",
-    };
-    println!(rt; "bus.stream: {answer}")?;
-    Ok(())
-}
-
 /// Plays all rows.
 fn show_all(rt: &HostRuntime) -> anyhow::Result<()> {
     for name in &row_names(rt)? {
@@ -80,7 +66,7 @@ fn show_all(rt: &HostRuntime) -> anyhow::Result<()> {
             println!(rt; "{name}: {error}")?;
         }
     }
-    show_bus(rt)
+    Ok(())
 }
 
 /// Measures the call that the word names; for another word, prints the usage.

@@ -27,7 +27,7 @@ const SPANS: &[&[u8]] = &[b"from", b"at", b"by", b"until"];
 
 /// The advice for the seconds of an expectation.
 const SPAN_ADVICE: &str =
-    "seconds are told by `from`, `at`, `by` or `until`, or by `from` and one of the last two";
+    "give seconds by `from`, `at`, `by` or `until`; `from` may be combined with `by` or `until`";
 
 const SPAN: Wanted = Wanted {
     what: "`from`, `at`, `by` or `until`",
@@ -37,7 +37,7 @@ const SPAN: Wanted = Wanted {
 
 const SECOND: Wanted = Wanted {
     what: "a second",
-    advice: "write 0 to 4,294,967,295, and behind `until` 1 at least",
+    advice: "write 0 to 4,294,967,295; after `until` at least 1",
     shape: WordShape::Number(0, 4_294_967_295),
 };
 
@@ -81,7 +81,7 @@ fn together_said(alloc: Global, line: &[u8], first: usize) -> Result<LineMessage
     let word = nth_word(line, first);
     if !go_together(word, other) {
         let shown = other.quote(alloc)?;
-        let head = format!(in alloc; "{shown} doesn't go with what stands before it")?;
+        let head = format!(in alloc; "{shown} cannot be combined with the seconds before it")?;
         return advise(alloc, other, head, SPAN_ADVICE);
     }
     let last = nth_word(line, first.saturating_add(3));
@@ -89,7 +89,7 @@ fn together_said(alloc: Global, line: &[u8], first: usize) -> Result<LineMessage
         alloc,
         "these seconds end before they begin: nothing can come in them",
     )?;
-    advise(alloc, last, head, "`from` has the lesser second")
+    advise(alloc, last, head, "write the lesser second after `from`")
 }
 
 /// The message about invalid seconds, from the word with this number on.
@@ -134,8 +134,8 @@ fn standing_said(alloc: Global, line: &[u8], wanted: &[Wanted]) -> Result<LineMe
     match wanted_said(alloc, line, 2, wanted)? {
         Some(said) => Ok(said),
         None => {
-            let head = String::from_str(alloc, "this says no expectation")?;
-            advise(alloc, nth_word(line, 0), head, "see what stands behind it")
+            let head = String::from_str(alloc, "this is not an expectation")?;
+            advise(alloc, nth_word(line, 0), head, "see the words after it")
         }
     }
 }

@@ -101,7 +101,7 @@ fn outside_said(
     let head = if place.is_some_and(|place| place < HEADERS) {
         "the field begins in the headers of its packet"
     } else {
-        "the field ends behind its packet"
+        "the field extends past the end of its packet"
     };
     let head = String::from_str(alloc, head)?;
     let label = inside_advice(alloc, width, size)?;

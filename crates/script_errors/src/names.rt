@@ -9,7 +9,7 @@ use std::alloc::{AllocError, Global};
 const LONGEST_FIELD: i64 = 4;
 
 /// The advice for a name where none is declared.
-pub const NAMES_ADVICE: &str = "names come from rule texts: `--rules` gives them";
+pub const NAMES_ADVICE: &str = "names come from rule texts, and none is given";
 
 /// A field that a rule text declares.
 #[derive(Clone, Copy)]

@@ -15,7 +15,11 @@ pub fn epoch_of<'a>(word: Option<&'a str>) -> Result<Option<Epoch>, Fault<'a>>
         None => Ok(None),
         Some(word) => match Epoch::read(word) {
             Some(epoch) => Ok(Some(epoch)),
-            None => Err(Fault::Value("--epoch", word, "write an instant, as 2000-01-01T12:00:00Z")),
+            None => Err(Fault::Value(
+                "--epoch",
+                word,
+                "write a UTC time, for example 2000-01-01T12:00:00Z",
+            )),
         },
     }
 }

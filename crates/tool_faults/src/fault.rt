@@ -18,6 +18,8 @@ use table_listing::FaultLine;
 pub enum Fault<'a> {
     /// The words are not a command, with `clap`'s error.
     Words(Error),
+    /// An option that the command has under another name or at another place; and what to write instead.
+    Replaced(&'a str, &'a str),
     /// A word of the command line is not UTF-8.
     NoText,
     /// An option; its word, or the option that it does not go with; and what to write instead.
@@ -48,6 +50,8 @@ pub enum Fault<'a> {
     Judgement(&'a str, analysis_listing::ListingError),
     /// There are warnings, and the command is strict. They are already reported.
     Warned,
+    /// Trials failed, and the worst one has this status. Their faults are already reported.
+    Reported(u8),
     /// The client of a language server left without a request to shut down.
     NoShutdown,
     /// A run was stopped.
@@ -115,7 +119,7 @@ impl Fault<'_> {
     /// The exit status: 0 the reader of the output closed it; 1 a table file has a fault, a script, a schedule or a rule text is
     /// refused, rules or tables can't be judged, a strict command has warnings, runs differ, expectations aren't met, or a client
     /// left without a request to shut down; 2 the words are not a command; 3 a file or a device; 4 a stream or packets end early, or a stream brings a text that isn't given;
-    /// 5 out of memory.
+    /// 5 out of memory. That of several trials is the worst one's.
     pub fn status(&self) -> u8
         ensures { result ≡ status_of self.now }
     {
@@ -125,12 +129,14 @@ impl Fault<'_> {
             Fault::Refused | Fault::Judgement(..) | Fault::Warned => 1,
             Fault::NoShutdown => 1,
             Fault::Rules(..) | Fault::Differs | Fault::Unmet => 1,
-            Fault::Words(_) | Fault::NoText | Fault::Value(..) => 2,
+            Fault::Words(_) | Fault::NoText => 2,
+            Fault::Value(..) | Fault::Replaced(..) => 2,
             Fault::File(..) => 3,
             Fault::Early | Fault::Packets(..) => 4,
             Fault::TextMissing(..) => 4,
             Fault::TextNotGiven(..) => 4,
             Fault::Run(error) | Fault::Stream(_, error) => status_of_run(*error),
+            Fault::Reported(status) => *status,
             Fault::Memory => 5,
         }
     }
@@ -140,10 +146,11 @@ impl Display for Fault<'_> {
     fn fmt<W: Write>(&self, f: &mut Formatter<W>) -> fmt::Result {
         match self {
             Fault::Words(error) => write!(f, "{error}"),
-            Fault::NoText => writeln!(f, "a word of the command line is no text (UTF-8)"),
+            Fault::NoText => writeln!(f, "an argument is not valid UTF-8"),
+            Fault::Replaced(option, advice) => writeln!(f, "{option}: {advice}"),
             Fault::Value(option, word, advice) => writeln!(f, "{option} {word}: {advice}"),
             Fault::Table | Fault::Early | Fault::Gone | Fault::Refused | Fault::Warned => Ok(()),
-            Fault::Differs | Fault::Unmet | Fault::NoShutdown => Ok(()),
+            Fault::Differs | Fault::Unmet | Fault::NoShutdown | Fault::Reported(_) => Ok(()),
             Fault::Lines(page) => write!(f, "{page}"),
             Fault::Rules(name, error) => writeln!(f, "{name}: {error}"),
             Fault::Judgement(name, analysis_listing::ListingError::Table(fault)) => {
@@ -162,7 +169,7 @@ impl Display for Fault<'_> {
             ),
             Fault::Packets(name, number, left) => writeln!(
                 f,
-                "{name}: cut behind packet {number}: {left} bytes are no whole packet"
+                "{name}: ends early: bytes after packet {number} that are not a whole packet: {left}"
             ),
             Fault::File(name, why) => writeln!(f, "cannot use {name}: {why}"),
             Fault::Memory => writeln!(f, "no memory"),

@@ -1,6 +1,6 @@
 //! The tests of the tools' libraries by public calls alone, where no command prints what they return: pages whose reader, writer or
 //! memory fails, their progress, and lines, sentences and errors of the libraries' own. The rows of the commands stand in
-//! `tools/lib/programs/`.
+//! `rows/`.
 #![tactic(auto)]
 
 #[cfg(test)]

@@ -58,7 +58,7 @@ class Inputs:
         if is_import_tried:
             with tempfile.TemporaryDirectory(prefix="campaign-") as place:
                 open(f"{place}/archive", "wb").close()
-                self.call([tools, "import", *self.options, "archive", "recording"], place)
+                self.call([tools, "import", *self.options, "--out", "recording", "archive"], place)
 
     def call(self, words, place=None):
         try:

@@ -135,7 +135,7 @@ class Recording:
         self.found = {"records": None, "imported": None, "old_alone": None, "new_alone": None, "both": None}
 
     def import_archive(self):
-        words = ["import", *self.inputs["import"], "archive", "recording"]
+        words = ["import", *self.inputs["import"], "--out", "recording", "archive"]
         said = text_of(b"".join(self.calls.lines("import", "flight_tools", *words)))
         self.found["imported"] = said
         if early := self.calls.early.get("import"):
@@ -148,9 +148,8 @@ class Recording:
         if len(records) != 1 and run not in self.calls.early:
             raise Failure("check", f"flight_run told {len(records)} times how many records there are")
         self.found["records"] = records[-1] if records else None
-        rules = [word for text in (run, *self.texts) for word in ("--rules", text)]
         waiting, last = [], None
-        for line in self.calls.lines(run, "flight_tools", "packets", "--json", *rules, "packets", may_end_early=False):
+        for line in self.calls.lines(run, "flight_tools", "packets", "--json", "packets", run, *self.texts, may_end_early=False):
             if HOUSEKEEPING in line and not waiting:
                 last = line
                 continue
@@ -181,8 +180,8 @@ class Recording:
 
     def compare(self):
         """Writes a row for each request and each event that only one of the texts leads to."""
-        further = ["--with", *self.texts] if self.texts else []
-        words = ["compare", "schedule", "recording", "old", "new", *further]
+        further = [f"--with={text}" for text in self.texts]
+        words = ["compare", "--schedule", "schedule", "--stream", "recording", *further, "old", "new"]
         alone, totals = dict.fromkeys(RUNS, 0), None
         for line in map(text_of, self.calls.lines("compare", "flight_tools", *words, fine=(0, 1))):
             if found := DIFFERENCE.fullmatch(line):

@@ -1,79 +1,143 @@
-"""What `flight_tools check --explain` prints: the rows of the tables of warnings and refusals in docs/RULES.md, as constants of
-crates/check_command. Beside it, what an editor shows of the language's words (documents/keywords.py)."""
+"""What `flight_tools check --explain` prints: the entries of crates/check_command/explanations.txt, as constants of that crate. Beside it,
+what an editor shows of the language's words (documents/keywords.py)."""
+
 import os
-import re
+from dataclasses import dataclass
 
 from documents import keywords
 
+DATA = "crates/check_command/explanations.txt"
 SOURCE = "crates/check_command/src/explanations.rt"
-EXAMPLE = re.compile(r": \d+ at \d+$")
-HEAD = """//! The warnings and refusals that docs/RULES.md explains. Written by tools/dev/write_explanations.
+DOCUMENT = "docs/RULES.md"
+KINDS = ("error", "warning")
+NEEDED = ("of", "meaning")
+ALLOWED = (*NEEDED, "at", "more")
+HEAD = """//! The errors and warnings that `check --explain` explains. Written by tools/dev/write_explanations from explanations.txt.
 
-/// A row of the tables of warnings and refusals. What a row leaves out is empty.
+/// An error or a warning.
 pub struct Explanation {
-    /// The name of a warning, or the number of a refusal.
+    /// The number of an error, or the name of an error or a warning.
     pub name: &'static str,
-    /// Where the message stands.
-    pub at: &'static str,
-    /// What it means.
-    pub meaning: &'static str,
-    /// A text, or what stands for one, that gets this refusal.
-    pub example: &'static str,
-    /// The sentence about the example.
-    pub said: &'static str,
-    /// What is said to someone who wrote a name that is near this one.
+    /// What it is, where it comes from, and what it means: one line, without its end.
+    pub head: &'static str,
+    /// Further sentences, what the message marks, and examples with the sentence of the message: lines, each with its end.
+    pub rest: &'static str,
+    /// What to say to someone who wrote a name near this one; empty for a number.
     pub advice: &'static str,
 }
 
 """
+# The most bytes of a part's source.
+MOST_BYTES = 3_000
 
 
-def cells_of(table):
-    """The cells of each row of the first table in a text, but for its head; further lines are left out."""
-    lines = table[table.index("\n|---") + 1 :].splitlines()[1:]
-    for line in lines:
-        if not line.startswith("|"):
-            return
-        yield [cell.strip() for cell in re.split(r"(?<!\\)\|", line.strip().strip("|"))]
+@dataclass(frozen=True)
+class Example:
+    """A text in backticks, or words for one; the message's sentence; and the place of the error, in bytes before it, if it is stated."""
+
+    text: str
+    prints: str
+    place: int | None
 
 
-def warnings_of(text):
-    """Name, place, meaning, and no example and no sentence of each warning."""
-    for name, at, meaning in cells_of(text.split("\n## Warnings\n", 1)[1]):
-        yield name.strip("`"), at, meaning, "", ""
+@dataclass(frozen=True)
+class Entry:
+    """An error or a warning, by the lines of its entry."""
+
+    kind: str
+    name: str
+    of: str
+    at: str
+    meaning: str
+    more: str
+    examples: tuple
 
 
-def refusals_of(text):
-    """Number, place, meaning, example and sentence of each row of a refusal."""
-    for number, at, meaning, example, said in cells_of(text.split("\n## Refusals\n", 1)[1]):
-        if number:
-            yield number, at, meaning, EXAMPLE.sub("", example), said
+def example_of(lines):
+    """The example of the lines `example`, `place` and `prints`."""
+    keys = dict(lines)
+    if len(keys) != len(lines) or not {"example", "prints"} <= keys.keys() <= {"example", "place", "prints"}:
+        raise ValueError(f"an example has `example` and `prints`, once each, and may have `place`: {lines}")
+    return Example(keys["example"], keys["prints"], int(keys["place"]) if "place" in keys else None)
+
+
+def entry_of(block):
+    """The entry of a block of lines."""
+    head, *rest = block.splitlines()
+    kind, _, name = head.partition(" ")
+    lines = [(key, value.strip()) for key, _, value in (line.partition(":") for line in rest)]
+    begins = [place for place, (key, _) in enumerate(lines) if key == "example"] + [len(lines)]
+    fields = dict(lines[: begins[0]])
+    if kind not in KINDS or not name or len(fields) != begins[0]:
+        raise ValueError(f"not the begin of an entry: {head}")
+    if not set(NEEDED) <= fields.keys() <= set(ALLOWED) or not all(fields.values()):
+        raise ValueError(f"{head}: its lines are {', '.join(fields)}")
+    examples = tuple(example_of(lines[begin:end]) for begin, end in zip(begins, begins[1:]))
+    return Entry(kind, name, fields["of"], fields.get("at", ""), fields["meaning"], fields.get("more", ""), examples)
+
+
+def entries_of(root):
+    """All entries of the data, in their order."""
+    with open(f"{root}/{DATA}", encoding="utf-8") as file:
+        text = "".join(line for line in file if not line.startswith("#"))
+    entries = [entry_of(block) for block in text.strip().split("\n\n")]
+    names = [it.name for it in entries]
+    if twice := sorted({it for it in names if names.count(it) > 1}):
+        raise ValueError(f"explained twice: {', '.join(twice)}")
+    return entries
 
 
 def quoted(text):
-    return '"' + text.replace("\\", "\\\\").replace('"', '\\"') + '"'
+    return '"' + text.replace("\\", "\\\\").replace('"', '\\"').replace("\n", "\\n") + '"'
 
 
-def constant_of(name, rows):
-    """The rows of a table as a constant of this name."""
-    out = [f"pub const {name}: [Explanation; {len(rows)}] = [\n"]
-    for name, at, meaning, example, said in rows:
-        members = {"name": name, "at": at, "meaning": meaning, "example": example, "said": said, "advice": f"did you mean `{name}`?"}
-        out += ["    Explanation {\n", *(f"        {key}: {quoted(value)},\n" for key, value in members.items()), "    },\n"]
-    return "".join([*out, "];\n"])
+def rest_of(entry):
+    """The lines that explain an entry further."""
+    lines = [entry.more] if entry.more else []
+    lines += [f"at: {entry.at}"] if entry.at else []
+    lines += [f"for example {it.text}: {it.prints}" for it in entry.examples]
+    return "".join(f"  {line}\n" for line in lines)
 
 
-def source_of(text):
-    """The source file for the text of docs/RULES.md."""
-    warnings, refusals = constant_of("WARNINGS", list(warnings_of(text))), constant_of("REFUSALS", list(refusals_of(text)))
-    return f"{HEAD}/// The warnings.\n{warnings}\n/// The refusals. One that has several examples has as many rows.\n{refusals}"
+def constant_of(entry):
+    """An entry as a value of a constant."""
+    members = {
+        "name": entry.name,
+        "head": f"{entry.kind}[{entry.name}] of {entry.of}: {entry.meaning}",
+        "rest": rest_of(entry),
+        "advice": "" if entry.name.isdigit() else f"did you mean `{entry.name}`?",
+    }
+    return "".join(["    Explanation {\n", *(f"        {key}: {quoted(value)},\n" for key, value in members.items()), "    },\n"])
+
+
+def parts_of(entries):
+    """The entries as values of constants, in parts that a proof reads in seconds: it grows with the square of a constant's bytes."""
+    parts = [[]]
+    for value in map(constant_of, entries):
+        if len("".join([*parts[-1], value])) > MOST_BYTES:
+            parts.append([])
+        parts[-1].append(value)
+    return parts
+
+
+def source_of(entries):
+    """The source file of these entries."""
+    parts = parts_of(entries)
+    text = [HEAD, f"/// The number of parts.\npub const PARTS: usize = {len(parts)};\n\n"]
+    text += ["/// The errors and warnings of a part, counted from 0; none beyond the last.\n", "pub fn part(number: usize) -> &'static [Explanation] {\n    match number {\n"]
+    text += [f"        {number} => part_{number}(),\n" for number in range(len(parts))]
+    text += ["        _ => &[],\n    }\n}\n"]
+    for number, values in enumerate(parts):
+        text += [f"\nfn part_{number}() -> &'static [Explanation] {{\n    &PART_{number}\n}}\n"]
+        text += [f"\nconst PART_{number}: [Explanation; {len(values)}] = [\n", *values, "];\n"]
+    return "".join(text)
 
 
 def sources_of(root):
-    """What stands in each source file that docs/RULES.md makes, by its path."""
-    with open(f"{root}/docs/RULES.md", encoding="utf-8") as file:
-        text = file.read()
-    return {SOURCE: source_of(text), keywords.SOURCE: keywords.source_of(text)}
+    """What stands in each source file that is made of texts, by its path."""
+    with open(f"{root}/{DOCUMENT}", encoding="utf-8") as file:
+        words = keywords.source_of(file.read())
+    return {SOURCE: source_of(entries_of(root)), keywords.SOURCE: words}
 
 
 def is_written(path, wanted):
@@ -85,6 +149,7 @@ def is_written(path, wanted):
 
 
 def faults_of(root):
-    """The source files that aren't what docs/RULES.md makes."""
+    """The source files that aren't what the texts make."""
+    made_of = {SOURCE: DATA, keywords.SOURCE: DOCUMENT}
     wrong = [it for it, wanted in sources_of(root).items() if not is_written(f"{root}/{it}", wanted)]
-    return [f"{it} isn't what docs/RULES.md makes: run tools/dev/write_explanations" for it in wrong]
+    return [f"{it} isn't what {made_of[it]} makes: run tools/dev/write_explanations" for it in wrong]

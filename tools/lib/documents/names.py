@@ -15,7 +15,7 @@ import os
 import re
 
 SKIPPED = {"out", ".git", "bin", "__pycache__"}
-CODE = (".rt", ".antt", ".rs", ".py", ".sh", ".c", ".h", ".js", ".css", ".html", ".toml")
+CODE = (".rt", ".antt", ".rs", ".py", ".sh", ".c", ".h", ".js", ".css", ".html", ".toml", ".rows")
 WORD = re.compile(r"[A-Za-z_][A-Za-z0-9_]*")
 PATHLIKE = re.compile(r"^[\w.*{}<>-]*(/[\w.*{},<>-]*)+$")
 NAME = re.compile(r"^[A-Za-z_]\w*$")

@@ -3,13 +3,17 @@
 from help_texts import Command, Option
 
 FLIGHT_RUN = [
-    Command("compile", "Compiles a rule text into its two table files", "", (), ()),
+    Command("compile", "Compile a rule text to its two table files", "", (), ()),
     Command(
         "run",
-        "Runs rule texts over a stream of records",
+        "Run rule texts over a stream, and write the packets",
         "",
         (),
-        (Option("schedule", "", "S", "The schedule"), Option("stream", "", "IN", "A stream of records"), Option("out", "", "OUT", "The packets, which are written")),
+        (
+            Option("schedule", "", "SCHEDULE", "The schedule"),
+            Option("stream", "", "STREAM", "The stream to read"),
+            Option("out", "", "PACKETS", "The file to write the packets to"),
+        ),
     ),
 ]
 

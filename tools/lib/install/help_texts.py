@@ -1,4 +1,4 @@
-"""What `flight_tools` says of its commands: the help is read, and nothing is said twice."""
+"""The commands of `flight_tools`, read from its help."""
 
 import re
 import subprocess
@@ -40,8 +40,8 @@ def entries(text, heading):
 
 
 def option_of(front, help):
-    short, long, value = re.fullmatch(r"(?:-(\w), )?--([\w-]+)(?: <(\w[\w-]*)>(?:\.\.\.)?)?", front).groups(default="")
-    return Option(long, short, value.upper(), help)
+    short, long, value = re.fullmatch(r"(?:-(\w), )?--([\w-]+)(?: \[?<([^>]+)>\]?)?", front).groups(default="")
+    return Option(long, short, value, help)
 
 
 def command_of(program, word):

@@ -48,7 +48,7 @@ def built(folder):
 def documents():
     """README and CHANGELOG, the documents that they link to, the examples, and what editors need."""
     paths = ["README.md", "CHANGELOG.md"]
-    for pattern in ("docs/*.md", "docs/*.png", "examples/*/*", "editors/**"):
+    for pattern in ("docs/**/*.md", "docs/figures/*.png", "examples/*/*", "editors/**"):
         paths += (it for it in glob.glob(pattern, root_dir=ROOT, recursive=True) if os.path.isfile(f"{ROOT}/{it}"))
     return {f"share/doc/needlemauve/{it}": content(f"{ROOT}/{it}") for it in paths}
 

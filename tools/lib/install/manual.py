@@ -13,10 +13,11 @@ def quoted(text):
 
 
 def statuses():
-    """The statuses of `flight_tools`, from the table in docs/TOOLS.md."""
+    """The statuses of `flight_tools`, from the last column of the table in docs/TOOLS.md."""
     with open(f"{ROOT}/docs/TOOLS.md", encoding="utf-8") as file:
-        part = file.read().partition("### Statuses of `flight_tools`\n")[2].partition("\n### ")[0]
-    return re.findall(r"^\| (\d+) \| (.*) \|$", part.replace("\\|", "|"), re.M)
+        part = file.read().partition("### Statuses\n")[2].partition("\n### ")[0]
+    rows = (re.split(r"(?<!\\) \| ", line.strip("| ")) for line in part.splitlines() if re.match(r"\| \d+ \|", line))
+    return [(row[0], row[-1].replace("\\|", "|")) for row in rows]
 
 
 def head(name, version, about):

@@ -79,7 +79,7 @@ def without_clause(tool, crate, source, function, ensured):
 
 
 def let_through(said):
-    """What gives the bodies of a function that its contract let through, as `try_plants --all` printed them; None of another function. A
+    """What gives the bodies of a function that its contract let through, as `bugs plant --all` printed them; None of another function. A
     body that calls the function itself is left out: it would call the mutant."""
     found, here = {}, collections.defaultdict(list)
     for shown, body, crate in LET_THROUGH.findall(said):

@@ -65,7 +65,7 @@ class Bench:
         self.asks = False
         programs = {name: self.copied(folder, name, at.encode()) for name in PROGRAMS}
         if not self.asks:
-            sys.exit(f"try_mutants: no program of {folder} asks for a mutant")
+            sys.exit(f"bugs mutate: no program of {folder} asks for a mutant")
         self.cases = dict(cases_of(programs))
 
     def copied(self, folder, name, page):
@@ -111,12 +111,16 @@ class Bench:
 
 def cases_of(programs):
     """The rows and trials of `try_programs`, and the talks, questions and some sessions of `try_server`, by name."""
-    rows, server = gate_script("try_programs"), gate_script("try_server")
+    server = gate_script("try_server")
+    sys.path.append(f"{ROOT}/tools/lib/programs")
     import language
     import talks
+    import trial
     from client import Client
+    from rows import calls
+    from rows.reader import all_rows, read_files
 
-    rows.SECONDS = talks.SECONDS = SECONDS
+    calls.SECONDS = talks.SECONDS = SECONDS
     tools = programs["flight_tools"]
 
     def answer(what, ask, said):
@@ -127,10 +131,10 @@ def cases_of(programs):
     def session(part):
         return [*server.faults_of_session(tools, part, Words)]
 
-    for number, trial in enumerate(rows.TRIALS):
-        yield f"trial {number} {trial.title}", lambda trial=trial: [*trial.faults(programs)]
-    for number, row in enumerate(rows.ROWS):
-        yield f"row {number} {row.title}", lambda row=row: rows.faults_of(row, programs)
+    for number, case in enumerate(trial.all_trials()):
+        yield f"trial {number} {case.title}", lambda case=case: [*case.faults(programs)]
+    for number, row in enumerate(all_rows(read_files())):
+        yield f"row {number} {row.title}", lambda row=row: calls.faults_of(row, programs)
     for number, talk in enumerate(talks.TALKS):
         yield f"talk {number} {talk.title}", lambda talk=talk: [*talks.faults_of_talk(tools, talk)]
     for what, asks, said in language.QUESTIONS:

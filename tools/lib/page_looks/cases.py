@@ -104,7 +104,7 @@ def expect_left_out(look):
     look.expect(ends == [True] * 3, f"the hatch has other ends: {ends}")
     look.do("document.querySelector('#lanes .cell.hatch').click()")
     says = look.ask("byId('panel').innerText")
-    part = re.search(r"flight_tools report --epoch 2024-02-29T00:00:00Z --from (\d+) --until (\d+) schedule.txt out/run.stream PART.html rules_0.txt", says)
+    part = re.search(r"flight_tools report --epoch 2024-02-29T00:00:00Z --from (\d+) --until (\d+) --schedule schedule.txt --stream out/run.stream --out PART.html rules_0.txt", says)
     look.expect("5,013 requests of records" in says and part and 50_600 < int(part[1]) <= 50_612 and 60_634 <= int(part[2]) < 60_650, f"what is left out says {says}")
     look.do("moveTo(3000, 3100)")
     look.do("document.querySelector('#lanes .cell.hatch').click()")

@@ -14,7 +14,7 @@ sys.path.append(os.path.join(os.path.dirname(os.path.abspath(__file__)), "..", "
 from data_rules import faults_of
 from page_bounds import LONGEST_TEXT, MOST_BYTES, RULES, most_bytes
 from records import NO_ENTRIES, SAMPLE, commanded, half
-from together_rows import SECONDS, written
+from trial import SECONDS, written
 
 PAIRS = 50  # rules that request, each over two fields of 32 bits
 RECORDS = 12_000
@@ -111,7 +111,7 @@ def longest_page(programs):
     """The page obeys crates/run_page/page/DATA.md, and is nearly as long as the bounds allow."""
     with tempfile.TemporaryDirectory(prefix="try-programs-") as place:
         written(place, {"rules": rule_text(), "stream": whole_stream(), "schedule": NO_ENTRIES})
-        words = [programs["flight_tools"], "report", "schedule", "stream", "page", "rules"]
+        words = [programs["flight_tools"], *"report --schedule schedule --stream stream --out page rules".split()]
         subprocess.run(words, cwd=place, check=True, capture_output=True, timeout=SECONDS)
         with open(os.path.join(place, "page"), encoding="utf-8") as page:
             text = page.read()

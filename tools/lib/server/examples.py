@@ -24,7 +24,7 @@ STEP, SPAN = 7, 5
 def example_texts():
     """Rule texts that compile."""
     found = texts()
-    for path in sorted(glob.glob(f"{TOP}/crates/run_rows/data/*/*rules.txt")):
+    for path in sorted(glob.glob(f"{TOP}/examples/*/*.rules") + glob.glob(f"{TOP}/crates/run_rows/data/*/*rules.txt")):
         if os.path.getsize(path) < 4_000:
             with open(path, encoding="ascii") as file:
                 found.append(file.read())

@@ -11,6 +11,7 @@ from places import edited, index_of, is_inside, lines_of, place_of, range_of, wo
 from rule_reading import KINDS, NAMES, SIGNS, RuleReading, choice, class_of, explanation_of
 from script_reading import ScriptReading
 from tokens import decoded, spelled, tokens_in
+from unproved import MARK
 from version import version
 
 REFUSED = -32_803
@@ -250,9 +251,9 @@ def faults_of_ask(client, number, what, ask, said):
 
 def faults_of_rows(client):
     """The rows whose answers are other ones."""
-    offer = {"capabilities": rows.CAPABILITIES, "serverInfo": {"name": "flight_tools", "version": version()}}
-    if client.offer != offer:
-        yield f"initialize: {client.offer}, not {offer}"
+    offers = [{"capabilities": rows.CAPABILITIES, "serverInfo": {"name": "flight_tools", "version": f"{version()}{mark}"}} for mark in ("", MARK)]
+    if client.offer not in offers:
+        yield f"initialize: {client.offer}, not {offers[0]}"
     count = 0
     for what, asks, said in QUESTIONS:
         for ask in (variant for ask in asks for variant in variants(ask)):

@@ -1,11 +1,8 @@
-"""What is published of the rule texts of tools/lib/programs, beside what `check` says of them."""
-
-import glob
-import os
+"""What is published of the rule texts of rows/messages and rows/check, beside what `check` says of them."""
 
 import worst
 from diagnostics import INFORMATION, check, of_check, of_server
-from examples import TOP
+from rows.texts import ExampleTexts
 
 URI = "file:///published.rules"
 # Longer texts `check` reads no further.
@@ -19,13 +16,13 @@ UNDECIDED += worst.RULE.format(1) + f"F0<3 or ({' xor '.join(f'(F{it}<3 and F{15
 def example_texts():
     """The texts by names: with line feeds, both signs and carriage returns alone at the ends of lines."""
     found = {"undecided": UNDECIDED}
-    for path in sorted(glob.glob(f"{TOP}/tools/lib/programs/[mw]*/*.rules")):
-        with open(path, "rb") as file:
-            try:
-                text = file.read().decode("utf-8")
-            except UnicodeDecodeError:
-                continue
-        name = os.path.basename(path).removesuffix(".rules")
+    rows = ExampleTexts()
+    for title, content in {**rows.rules, **rows.warned_rules}.items():
+        try:
+            text = content.decode("utf-8")
+        except UnicodeDecodeError:
+            continue
+        name = title.replace(" ", "_")
         found |= {name: text, f"{name}-crlf": text.replace("\n", "\r\n"), f"{name}-cr": text.replace("\n", "\r")}
     return {name: text for name, text in found.items() if len(text.encode()) <= LONGEST}
 

@@ -12,6 +12,7 @@ from language_rows import BUS
 from places import place_of
 from questions import faults_of_question
 from reading_rows import SECOND
+from rows.texts import ExampleTexts
 from rule_reading import RuleReading
 from script_reading import ScriptReading
 
@@ -40,15 +41,15 @@ def read(path):
 
 def examples():
     """Scenarios with the rule text whose names they use, none for plain scripts, and schedules."""
-    data = f"{TOP}/crates/run_rows/data"
-    scenarios = [(read(path), "") for path in (f"{data}/bus.scenario", f"{data}/a_command_has_its_code_and_its_length/scenario.txt")]
-    for name in ("power_bus", "thermal_loop"):
-        scenarios.append((read(f"{data}/{name}/scenario.txt"), read(f"{data}/{name}/rules.txt")))
-    said = f"{TOP}/tools/lib/programs/messages"
-    scenarios += [(read(path), "") for path in sorted(glob.glob(f"{said}/*.script"))]
-    scenarios += [(read(path), BUS.replace("AMPS", "DEGREES")) for path in sorted(glob.glob(f"{said}/*.scenario"))]
+    data, rows = f"{TOP}/crates/run_rows/data", ExampleTexts()
+    scenarios = [(read(path), "") for path in (f"{TOP}/examples/bus/bus.scenario", f"{data}/a_command_has_its_code_and_its_length/scenario.txt")]
+    for front in (f"{TOP}/examples/{name}/{name}" for name in ("power_bus", "thermal_loop")):
+        scenarios.append((read(f"{front}.scenario"), read(f"{front}.rules")))
+    scenarios += [(text.decode(), "") for text in rows.scripts.values()]
+    scenarios += [(text.decode(), BUS.replace("AMPS", "DEGREES")) for text in rows.scenarios.values()]
     scenarios = [it for it in scenarios if "repeat 1000" not in it[0]]
-    schedules = [read(path) for path in sorted(glob.glob(f"{data}/*/schedule.txt")) + sorted(glob.glob(f"{said}/*.schedule"))]
+    schedules = [read(path) for path in sorted(glob.glob(f"{TOP}/examples/*/*.schedule") + glob.glob(f"{data}/*/schedule.txt"))]
+    schedules += [text.decode() for text in rows.schedules.values()]
     return scenarios, schedules
 
 
@@ -88,7 +89,7 @@ def say_of_scenario(program, folder, text, rules):
     for name, content in (("text", text), ("rules", rules)):
         with open(f"{folder}/{name}", "w", encoding="utf-8", newline="") as file:
             file.write(content)
-    words = [program, "scenario", *(["--rules", "rules"] if rules else []), "text", "stream"]
+    words = [program, "scenario", "--script", "text", "--out", "stream", *(["rules"] if rules else [])]
     ran = subprocess.run(words, cwd=folder, stdout=subprocess.DEVNULL, stderr=subprocess.PIPE, timeout=60)
     return of_listing(text, ran.stderr.decode())
 

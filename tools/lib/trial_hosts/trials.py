@@ -12,7 +12,7 @@ from repository import ROOT
 from trial_hosts.namespaces import SECONDS, Failed, wait_until
 
 SCRIPT = f"{ROOT}/tools/campaign"
-BUS = f"{ROOT}/crates/run_rows/data/power_bus"
+BUS = f"{ROOT}/examples/power_bus/power_bus"
 # Stands for flight_run: notes when a recording's first run begins, and on which host, when its last one ends, and takes a pause.
 PROGRAM = """\
 #!/bin/sh
@@ -32,12 +32,15 @@ def write(path, text, mode=0o644):
 
 
 class Trials:
-    """Recordings, texts and programs in a folder, and the lines that one worker leaves."""
+    """Recordings, texts and programs in a folder, and the lines that one worker leaves. A kind of hosts says which trials there are
+    (NAMES), of how many recordings, how many seconds each takes, and which host is disturbed; `begin` starts a campaign on them."""
 
-    def __init__(self, folder, programs, count, pause, variables):
-        self.folder, self.count, self.variables, self.faults = folder, count, variables, 0
-        self.pause, self.pauses, self.began, self.ran = pause, {}, 0, None
-        os.mkdir(f"{folder}/programs")
+    NAMES, RECORDINGS, PAUSE, VICTIM = (), 0, 0, ""
+
+    def __init__(self, hosts, folder, programs):
+        self.hosts, self.folder, self.count, self.variables, self.faults = hosts, folder, self.RECORDINGS, hosts.variables, 0
+        self.pause, self.pauses, self.began, self.ran = self.PAUSE, {}, 0, None
+        os.makedirs(f"{folder}/programs")
         tools = os.path.abspath(f"{programs}/flight_tools")
         os.symlink(tools, f"{folder}/programs/flight_tools")
         write(f"{folder}/programs/flight_run", PROGRAM.format(place=folder, program=os.path.abspath(f"{programs}/flight_run")), 0o755)
@@ -47,22 +50,22 @@ class Trials:
         self.expected = self.lines_of_one()
 
     def make_texts(self):
-        with open(f"{BUS}/rules.txt", encoding="utf-8") as file:
+        with open(f"{BUS}.rules", encoding="utf-8") as file:
             rules = file.read()
         write(f"{self.folder}/old.txt", rules)
         write(f"{self.folder}/new.txt", rules.replace("VOLTS < 2600", "VOLTS < 2700"))
 
     def make_recordings(self, tools):
         """Passes whose voltage falls to another depth each."""
-        with open(f"{BUS}/scenario.txt", encoding="utf-8") as file:
+        with open(f"{BUS}.scenario", encoding="utf-8") as file:
             script = file.read()
         for number in range(1, self.count + 1):
             write(f"{self.folder}/script", script.replace("u16be 12 25", f"u16be 12 {25 + number % 3}"))
-            subprocess.run([tools, "scenario", "script", f"{number:03}.stream"], cwd=self.folder, check=True, timeout=60)
+            subprocess.run([tools, "scenario", "--script", "script", "--out", f"{number:03}.stream"], cwd=self.folder, check=True, timeout=60)
         write(f"{self.folder}/list", "".join(f"{number:03}.stream\n" for number in range(1, self.count + 1)))
 
     def words(self, name, *others):
-        texts = ["--schedule", f"{BUS}/schedule.txt", "--old", "old.txt", "--new", "new.txt"]
+        texts = ["--schedule", f"{BUS}.schedule", "--old", "old.txt", "--new", "new.txt"]
         return [SCRIPT, *texts, "--programs", "programs", "--out", f"{name}.sqlite", *others, "list"]
 
     def lines_of_one(self):
@@ -94,6 +97,29 @@ class Trials:
         self.began = time.monotonic()
         self.ran = subprocess.Popen([*words, *self.words(name, *others)], cwd=self.folder, env=self.variables, stdout=subprocess.PIPE, stderr=subprocess.PIPE, text=True)
         return self.ran
+
+    def quiet(self):
+        self.end(self.begin("quiet", "nothing happens"), "quiet")
+
+    def disturbed(self, name, what, disturb):
+        """Begins a campaign, and disturbs a host in its middle."""
+        ran = self.begin(name, what)
+        self.in_the_middle(self.VICTIM)
+        disturb(self.hosts.network.hosts[self.VICTIM])
+        self.say(what)
+        return ran
+
+    def plug_in_again(self, name):
+        """Gives a host its line back, and starts it anew."""
+        host = self.hosts.network.hosts[name]
+        host.plug()
+        host.cut()
+        self.hosts.start(name)
+
+    def same_words_again(self, name, ended):
+        """The same words end a campaign that was broken off, and run nothing of what had ended."""
+        begun = self.end(self.begin(name, "the same words again"), name)
+        self.expect("whether a recording ran again that had ended before", bool(ended & set(begun)), False)
 
     def close(self):
         """Ends the campaign that runs, with its engine."""

@@ -1,0 +1,1 @@
+"""Rows of programs as texts: `rows/README.md` describes the form of a file."""
