@@ -4,17 +4,32 @@
  *
  * TELEMETRY is where it listens, COMMANDS where requests go: both an IPv4 address and a port, as 127.0.0.1:1235. At the moment
  * of the first packet it feeds both halves of text 0 and the starts of LC and SCH. It feeds each datagram that is a telemetry
- * packet with a secondary header, at the moment of that header, and before the first packet of a later second a tick for each
- * second that passed (`flight_tools import --start 0 --tick 1` makes the same stream); with --clock a tick each second of the
- * system's instead. --record keeps what was fed. Standard output has all packets that the host writes, as `flight_run run` does;
- * standard error has a line for each event, and at the end the counts. SIGTERM or SIGINT ends it, status 0. See docs/CFS.md.
+ * packet with a secondary header, at the moment of that header. Standard output has all packets that the host writes, as
+ * `flight_run run` does; standard error has a line for each event, and at the end the counts. SIGTERM or SIGINT ends it. See
+ * docs/CFS.md.
  *
- *     cc -std=c11 -Iinclude examples/cfs_bridge/cfs_bridge.c crates/needlemauve/memory.c bin/libneedlemauve.a -o cfs_bridge */
+ * Ticks. The time is the second up to which ticks were fed. A packet up to 10 s ahead of it brings a tick for each second that
+ * passed (`flight_tools import --start 0 --tick 1` makes the same stream); one up to 60 s behind it is late and brings none. Any
+ * other packet leaps. Its clock may be wrong, and ticks would have rules judge one old value many times. So it is held, with all
+ * that comes after it, until a packet shows whose clock runs:
+ *   - It goes on from the time: what is held is fed, without ticks for the leap.
+ *   - It leaps too, and is 2 to 60 s later than a leap that is held, or later still and of the same message id: that leap is
+ *     confirmed. The time becomes that leap's, after ticks for the last 60 of the seconds that passed, or none if it stepped
+ *     back. Then what is held is fed, each packet by its own time. A clock that stands still confirms nothing.
+ * If there is no room to hold more, the oldest leap counts as confirmed, so that ticks never end for good. What is held at the end
+ * is fed. With --clock a tick comes each second of the system's, and no packet leaps or is held.
+ *
+ * Files. --record keeps what was fed, and overwrites nothing: if FILE exists the recording is FILE.1, and so on. If the recording
+ * or standard output cannot be written, it ends after a whole record or packet, with a line; checking goes on, and the status at
+ * the end is 3.
+ *
+ *     cc -std=c99 -Iinclude examples/cfs_bridge/cfs_bridge.c crates/needlemauve/memory.c bin/libneedlemauve.a -o cfs_bridge */
 #define _POSIX_C_SOURCE 200809L
 #include "needlemauve.h"
 
 #include <arpa/inet.h>
 #include <errno.h>
+#include <fcntl.h>
 #include <signal.h>
 #include <stdbool.h>
 #include <stdio.h>
@@ -40,7 +55,16 @@ enum {
   MOST_BYTES = 65536,    /* bytes of a datagram, of a rule text, of a schedule */
   MOST_TEXTS = 16,
   START = 28,            /* bytes of the command that starts an application */
-  MOST_TICKS = 60,       /* ticks that are fed after a silence */
+  MOST_EARLY = 10,       /* seconds that a packet may be ahead of the time; one that is further ahead leaps */
+  MOST_LATE = 60,        /* seconds that it may be behind it */
+  LEAST_RUN = 2,         /* seconds that a packet has to be later than a leap to confirm it; with 1, a wrong clock beside a right
+                            one would confirm its own leaps, since its seconds end at another moment */
+  MOST_RUN = 60,         /* seconds after which only a packet of the same message id confirms a leap */
+  MOST_TICKS = 60,       /* ticks that are fed at once */
+  MOST_RECORD = NEEDLEMAUVE_RECORD + MOST_TELEMETRY,
+  MOST_HELD = 1048576,   /* bytes of records that are held */
+  MOST_NAMES = 10000,    /* names that a recording may have */
+  MOST_NAME = 4096,      /* bytes of each */
   ROOM = 524288,         /* bytes that a record may lead to; eight samples of 176 rules in one tick lead to fewer */
   SECOND = 1000,         /* in milliseconds */
   WAIT = 100             /* milliseconds without a datagram, after which signals and the clock are looked at */
@@ -54,16 +78,25 @@ struct plan {
   size_t texts;
 };
 
+/* A file that takes whole records or packets, until it fails. */
+struct sink {
+  int file; /* or -1 */
+  char name[MOST_NAME];
+};
+
 struct bridge {
   struct needlemauve_host host;
   int telemetry, commands; /* sockets, or -1 */
   struct sockaddr_in receiver;
-  FILE *record; /* or NULL */
-  bool by_clock, has_begun;
-  uint32_t second;      /* of the newest packet; ticks were fed up to it */
+  struct sink packets, record;
+  bool by_clock, has_begun, has_lost; /* has_lost: something could not be written */
+  uint32_t second;      /* the time; with --clock, that of the newest packet */
   int64_t next_tick;    /* by the system's clock, in milliseconds */
   uint32_t clock_ticks; /* that the clock gave since the newest packet */
   unsigned long ticks, requests[2], datagrams[KINDS]; /* requests that were not sent, and those that were */
+  unsigned long leaps, confirmed;
+  uint8_t held[MOST_HELD]; /* records of packets, from a leap on, in the order in which they came */
+  size_t held_bytes;
   uint8_t output[ROOM], schedule[MOST_BYTES], texts[MOST_TEXTS * MOST_BYTES];
   uint8_t bytes[NEEDLEMAUVE_RECORD + MOST_BYTES]; /* a record: room for its header, then a datagram */
 };
@@ -104,6 +137,37 @@ static int64_t milliseconds(void)
   return (int64_t)now.tv_sec * SECOND + now.tv_nsec / 1000000;
 }
 
+/* ---- files */
+
+/* Writes all bytes. If that fails, the part that was written is cut off again, where the file is one that can be cut. */
+static bool is_written(int file, const uint8_t *bytes, size_t length)
+{
+  size_t done = 0;
+  off_t whole;
+  int why;
+  while (done < length) {
+    ssize_t count = write(file, bytes + done, length - done);
+    if (count > 0) done += (size_t)count;
+    else if (count == 0 || errno != EINTR || is_ended) break;
+  }
+  if (done == length) return true;
+  why = errno;
+  whole = done > 0 ? lseek(file, -(off_t)done, SEEK_CUR) : -1;
+  if (whole >= 0 && ftruncate(file, whole) != 0) failed(DEVICE, "a cut end stays", strerror(errno));
+  errno = why;
+  return false;
+}
+
+/* A full disk, or a reader that has gone, ends a file and not the checking: nobody may be there to start it again. */
+static void append(struct bridge *bridge, struct sink *sink, const uint8_t *bytes, size_t length)
+{
+  if (sink->file < 0 || is_written(sink->file, bytes, length)) return;
+  fprintf(stderr, "cfs_bridge: %s: %s; it ends here, and checking goes on\n", sink->name, strerror(errno));
+  close(sink->file);
+  sink->file = -1;
+  bridge->has_lost = true;
+}
+
 /* ---- what the host writes */
 
 /* An event, as a line of `flight_tools packets`. */
@@ -119,13 +183,17 @@ static void say_event(const uint8_t *packet)
 static void send_request(struct bridge *bridge, const uint8_t *packet, size_t size)
 {
   const struct sockaddr_in *to = &bridge->receiver;
-  bool is_sent = sendto(bridge->commands, packet, size, 0, (const struct sockaddr *)to, sizeof *to) == (ssize_t)size;
+  ssize_t sent;
+  bool is_sent;
+  do sent = sendto(bridge->commands, packet, size, 0, (const struct sockaddr *)to, sizeof *to);
+  while (sent < 0 && errno == EINTR);
+  is_sent = sent == (ssize_t)size;
   bridge->requests[is_sent]++;
   if (!is_sent) failed(DEVICE, "a request is not sent", strerror(errno));
 }
 
 /* Requests go to their receiver, events to standard error, and all packets to standard output. */
-static enum status pass_on(struct bridge *bridge, size_t written)
+static void pass_on(struct bridge *bridge, size_t written)
 {
   size_t at, size;
   for (at = 0; at < written; at += size) {
@@ -134,9 +202,7 @@ static enum status pass_on(struct bridge *bridge, size_t written)
     if (two_bytes(packet) == REQUEST) send_request(bridge, packet, size);
     if (two_bytes(packet) == EVENT) say_event(packet);
   }
-  if (fwrite(bridge->output, 1, written, stdout) != written || fflush(stdout) != 0)
-    return failed(DEVICE, "standard output", strerror(errno));
-  return FINE;
+  append(bridge, &bridge->packets, bridge->output, written);
 }
 
 /* ---- what is fed to the host */
@@ -145,14 +211,13 @@ static enum status pass_on(struct bridge *bridge, size_t written)
 static enum status feed(struct bridge *bridge, const uint8_t *record, size_t length)
 {
   struct needlemauve_handled told;
-  FILE *file = bridge->record;
-  if (file != NULL && (fwrite(record, 1, length, file) != length || fflush(file) != 0))
-    return failed(DEVICE, "the file of records", strerror(errno));
+  append(bridge, &bridge->record, record, length);
   if (needlemauve_host_feed(&bridge->host, record, length, bridge->output, ROOM, &told) != NEEDLEMAUVE_DONE) {
     fprintf(stderr, "cfs_bridge: the host stops: %u\n", (unsigned)told.code);
     return STOPPED;
   }
-  return pass_on(bridge, (size_t)told.written);
+  pass_on(bridge, (size_t)told.written);
+  return FINE;
 }
 
 static enum status feed_tick(struct bridge *bridge, uint32_t second)
@@ -201,19 +266,133 @@ static enum status begin(struct bridge *bridge, uint32_t second, uint16_t subsec
   return status;
 }
 
-/* A tick for each second that passed up to a packet's, the last 60 after a longer silence. A packet that comes late brings no
- * tick; one that is over 60 seconds late sets the time back. */
-static enum status go_on_to(struct bridge *bridge, uint32_t second)
+/* ---- the time of telemetry: see above */
+
+static uint32_t second_of(const uint8_t *record)
+{
+  return four_bytes(record + 1);
+}
+
+static uint16_t message_id_of(const uint8_t *record)
+{
+  return two_bytes(record + NEEDLEMAUVE_RECORD);
+}
+
+static size_t length_of(const uint8_t *record)
+{
+  return NEEDLEMAUVE_RECORD + size_of(record + NEEDLEMAUVE_RECORD);
+}
+
+/* Seconds that a packet is ahead of the time. */
+static int64_t ahead_of(const struct bridge *bridge, const uint8_t *record)
+{
+  return (int64_t)second_of(record) - bridge->second;
+}
+
+static bool is_leap(const struct bridge *bridge, const uint8_t *record)
+{
+  return ahead_of(bridge, record) > MOST_EARLY || ahead_of(bridge, record) < -MOST_LATE;
+}
+
+/* Whether a count gets a line: a clock that stays wrong must not fill a journal. */
+static bool is_power_of_two(unsigned long count)
+{
+  return (count & (count - 1)) == 0;
+}
+
+/* Sets the time, after a tick for each second up to it, the last 60 of more. */
+static enum status go_to(struct bridge *bridge, uint32_t second)
 {
   enum status status = FINE;
-  uint32_t passed = second - bridge->second;
-  if (second == bridge->second || (second < bridge->second && bridge->second - second <= MOST_TICKS)) return FINE;
-  if (second < bridge->second || bridge->by_clock) passed = 0;
+  int64_t passed = (int64_t)second - bridge->second;
   if (passed > MOST_TICKS) passed = MOST_TICKS;
-  while (passed > 0 && status == FINE) status = feed_tick(bridge, second - --passed);
+  while (passed > 0 && status == FINE) status = feed_tick(bridge, second - (uint32_t)--passed);
   bridge->second = second;
-  bridge->clock_ticks = 0;
   return status;
+}
+
+/* Feeds a packet, after the ticks that it brings: none if it is late, or leaps. */
+static enum status feed_packet(struct bridge *bridge, const uint8_t *record)
+{
+  enum status status = FINE;
+  if (ahead_of(bridge, record) > 0 && !is_leap(bridge, record)) status = go_to(bridge, second_of(record));
+  return status == FINE ? feed(bridge, record, length_of(record)) : status;
+}
+
+/* Feeds all that is held. */
+static enum status release(struct bridge *bridge)
+{
+  enum status status = FINE;
+  size_t at;
+  for (at = 0; at < bridge->held_bytes && status == FINE; at += length_of(bridge->held + at))
+    status = feed_packet(bridge, bridge->held + at);
+  bridge->held_bytes = 0;
+  return status;
+}
+
+/* Goes to the time of a leap that is confirmed. Its own packet is fed after the ticks: they judge what was there before. */
+static enum status follow(struct bridge *bridge, uint32_t second)
+{
+  enum status status;
+  if (is_power_of_two(++bridge->confirmed))
+    fprintf(stderr, "cfs_bridge: leap confirmed (%lu): the time was %lu, and is %lu\n", bridge->confirmed,
+            (unsigned long)bridge->second, (unsigned long)second);
+  status = go_to(bridge, second);
+  return status == FINE ? release(bridge) : status;
+}
+
+/* The leap that is held and that a packet confirms, or the oldest if there is no room to hold more; or NULL. */
+static const uint8_t *leap_confirmed_by(const struct bridge *bridge, const uint8_t *record)
+{
+  size_t at;
+  for (at = 0; at < bridge->held_bytes && is_leap(bridge, record); at += length_of(bridge->held + at)) {
+    const uint8_t *leap = bridge->held + at;
+    int64_t later = (int64_t)second_of(record) - second_of(leap);
+    if (later < LEAST_RUN || !is_leap(bridge, leap)) continue;
+    if (later <= MOST_RUN || message_id_of(leap) == message_id_of(record)) return leap;
+  }
+  return MOST_HELD - bridge->held_bytes < MOST_RECORD ? bridge->held : NULL;
+}
+
+static void hold(struct bridge *bridge, const uint8_t *record)
+{
+  memcpy(bridge->held + bridge->held_bytes, record, length_of(record));
+  bridge->held_bytes += length_of(record);
+}
+
+static void hold_leap(struct bridge *bridge, const uint8_t *record)
+{
+  if (is_power_of_two(++bridge->leaps))
+    fprintf(stderr, "cfs_bridge: leap (%lu): a packet of 0x%04X is at %lu, and the time is %lu\n", bridge->leaps,
+            (unsigned)message_id_of(record), (unsigned long)second_of(record), (unsigned long)bridge->second);
+  hold(bridge, record);
+}
+
+/* Feeds a packet, or holds it. While packets are held the time stands still, and the first of them is a leap. */
+static enum status accept_packet(struct bridge *bridge, const uint8_t *record)
+{
+  enum status status = FINE;
+  bool goes_on = !is_leap(bridge, record) && ahead_of(bridge, record) > 0;
+  const uint8_t *leap = goes_on ? NULL : leap_confirmed_by(bridge, record);
+  if (leap != NULL) status = follow(bridge, second_of(leap));
+  if (status != FINE) return status;
+  if (is_leap(bridge, record)) hold_leap(bridge, record);
+  else if (bridge->held_bytes > 0 && !goes_on) hold(bridge, record);
+  else {
+    status = release(bridge);
+    if (status == FINE) status = feed_packet(bridge, record);
+  }
+  return status;
+}
+
+/* With --clock the time of ticks goes on from the newest packet's. */
+static enum status accept_by_clock(struct bridge *bridge, const uint8_t *record)
+{
+  if (ahead_of(bridge, record) > 0 || is_leap(bridge, record)) {
+    bridge->second = second_of(record);
+    bridge->clock_ticks = 0;
+  }
+  return feed(bridge, record, length_of(record));
 }
 
 /* With --clock, a tick for each second of the system's that is over: telemetry's time goes on with them until the next packet. */
@@ -251,10 +430,9 @@ static enum status take(struct bridge *bridge, size_t length)
   bridge->datagrams[kind]++;
   if (kind != TELEMETRY) return FINE;
   if (!bridge->has_begun) status = begin(bridge, four_bytes(moment), two_bytes(moment + 4));
-  if (status == FINE) status = go_on_to(bridge, four_bytes(moment));
   if (status != FINE) return status;
   needlemauve_packet_record(bridge->bytes, four_bytes(moment), two_bytes(moment + 4), length);
-  return feed(bridge, bridge->bytes, NEEDLEMAUVE_RECORD + length);
+  return bridge->by_clock ? accept_by_clock(bridge, bridge->bytes) : accept_packet(bridge, bridge->bytes);
 }
 
 static void say_counts(const struct bridge *bridge)
@@ -262,8 +440,8 @@ static void say_counts(const struct bridge *bridge)
   static const char *const words[KINDS] = {"telemetry", "no packet", "command", "without a secondary header",
                                            "segment", "over 2,048 bytes", "event or housekeeping"};
   int kind;
-  fprintf(stderr, "cfs_bridge: fed: %lu packets, %lu ticks; requests: %lu sent, %lu not sent; dropped",
-          bridge->datagrams[TELEMETRY], bridge->ticks, bridge->requests[1], bridge->requests[0]);
+  fprintf(stderr, "cfs_bridge: fed: %lu packets, %lu ticks; leaps: %lu, confirmed: %lu; requests: %lu sent, %lu not sent; dropped",
+          bridge->datagrams[TELEMETRY], bridge->ticks, bridge->leaps, bridge->confirmed, bridge->requests[1], bridge->requests[0]);
   for (kind = NO_PACKET; kind < KINDS; kind++)
     fprintf(stderr, "%c %s: %lu", kind == NO_PACKET ? ':' : ',', words[kind], bridge->datagrams[kind]);
   fprintf(stderr, "\n");
@@ -276,13 +454,15 @@ static enum status serve(struct bridge *bridge)
   enum status status = FINE;
   sigaction(SIGTERM, &ends, NULL);
   sigaction(SIGINT, &ends, NULL);
-  sigaction(SIGPIPE, &ignored, NULL);
+  sigaction(SIGPIPE, &ignored, NULL); /* a write that fails says so by itself */
+  sigaction(SIGXFSZ, &ignored, NULL);
   while (!is_ended && status == FINE) {
     ssize_t length = recv(bridge->telemetry, bridge->bytes + NEEDLEMAUVE_RECORD, MOST_BYTES, 0);
     if (length >= 0) status = take(bridge, (size_t)length);
     else if (errno != EAGAIN && errno != EINTR) status = failed(DEVICE, "telemetry", strerror(errno));
     if (status == FINE) status = tick_by_clock(bridge);
   }
+  if (status == FINE) status = release(bridge);
   say_counts(bridge);
   return status;
 }
@@ -352,7 +532,24 @@ static bool is_address(const char *word, struct sockaddr_in *to)
   return inet_pton(AF_INET, host, &to->sin_addr) == 1;
 }
 
-/* Opens both sockets and the file of records. */
+/* Makes a file for the recording, under the first name that is free. If that fails checking goes on without it: a service that
+ * starts again at night must check, on a full disk too. */
+static void open_recording(struct bridge *bridge, const char *name)
+{
+  struct sink *record = &bridge->record;
+  int number, length;
+  for (number = 0; number < MOST_NAMES; number++) {
+    length = snprintf(record->name, MOST_NAME, number == 0 ? "%s" : "%s.%d", name, number);
+    if (length < MOST_NAME) record->file = open(record->name, O_WRONLY | O_CREAT | O_EXCL, 0666);
+    else errno = ENAMETOOLONG;
+    if (record->file >= 0 || errno != EEXIST) break;
+  }
+  bridge->has_lost = record->file < 0;
+  if (bridge->has_lost) fprintf(stderr, "cfs_bridge: %s: %s; nothing is recorded, and checking goes on\n", name, strerror(errno));
+  else if (number > 0) fprintf(stderr, "cfs_bridge: %s exists; the recording is %s\n", name, record->name);
+}
+
+/* Opens both sockets and the recording. */
 static enum status open_devices(struct bridge *bridge, const struct plan *plan)
 {
   static const struct timeval most = {0, WAIT * 1000L};
@@ -365,9 +562,8 @@ static enum status open_devices(struct bridge *bridge, const struct plan *plan)
   if (setsockopt(bridge->telemetry, SOL_SOCKET, SO_RCVTIMEO, &most, sizeof most) != 0 ||
       bind(bridge->telemetry, (const struct sockaddr *)&own, sizeof own) != 0)
     return failed(DEVICE, plan->telemetry, strerror(errno));
-  if (plan->record == NULL) return FINE;
-  bridge->record = fopen(plan->record, "wb");
-  return bridge->record != NULL ? FINE : failed(DEVICE, plan->record, strerror(errno));
+  if (plan->record != NULL) open_recording(bridge, plan->record);
+  return FINE;
 }
 
 /* Gives back all that the bridge holds. */
@@ -376,8 +572,11 @@ static enum status close_all(struct bridge *bridge, enum status status)
   needlemauve_host_close(&bridge->host);
   if (bridge->telemetry >= 0) close(bridge->telemetry);
   if (bridge->commands >= 0) close(bridge->commands);
-  if (bridge->record != NULL && fclose(bridge->record) != 0 && status == FINE)
-    status = failed(DEVICE, "the file of records", strerror(errno));
+  if (bridge->record.file >= 0 && close(bridge->record.file) != 0) {
+    failed(DEVICE, bridge->record.name, strerror(errno));
+    bridge->has_lost = true;
+  }
+  if (bridge->has_lost && status == FINE) status = DEVICE;
   free(bridge);
   return status;
 }
@@ -391,7 +590,8 @@ int main(int count, char **words)
     return failed(USAGE, "usage", "cfs_bridge [--clock] [--record FILE] SCHEDULE TELEMETRY COMMANDS RULES..");
   bridge = calloc(1, sizeof *bridge);
   if (bridge == NULL) return failed(MEMORY, "the bridge", "no memory");
-  bridge->telemetry = bridge->commands = -1;
+  bridge->telemetry = bridge->commands = bridge->record.file = -1;
+  bridge->packets = (struct sink){STDOUT_FILENO, "standard output"};
   bridge->by_clock = plan.by_clock;
   status = make_host(bridge, &plan);
   if (status == FINE) status = open_devices(bridge, &plan);

@@ -723,7 +723,7 @@ fn part_9() -> &'static [Explanation] {
     &PART_9
 }
 
-const PART_9: [Explanation; 9] = [
+const PART_9: [Explanation; 10] = [
     Explanation {
         name: "left-out",
         head: "warning[left-out] of scripts: The block is repeated 0 times: its lines and their expectations are left out.",
@@ -756,7 +756,7 @@ const PART_9: [Explanation; 9] = [
     },
     Explanation {
         name: "rule-text",
-        head: "warning[rule-text] of trials: The named rule is one of a rule text that is not in force here; the rule of the same number in the text in force is used.",
+        head: "warning[rule-text] of trials: The named rule is one of a rule text that is not in force here, or the tables in force are of no given text; the rule of the same number in the tables in force is used.",
         rest: "  at: the line\n",
         advice: "did you mean `rule-text`?",
     },
@@ -765,6 +765,12 @@ const PART_9: [Explanation; 9] = [
         head: "warning[no-record] of trials: The run has no record in these seconds, so nothing can come then, whatever the rules are.",
         rest: "  at: the line\n",
         advice: "did you mean `no-record`?",
+    },
+    Explanation {
+        name: "unknown-number",
+        head: "warning[unknown-number] of trials: The line expects that a sequence or an event does not come, and no given rule text has its number.",
+        rest: "  at: the line\n",
+        advice: "did you mean `unknown-number`?",
     },
     Explanation {
         name: "nothing-ran",

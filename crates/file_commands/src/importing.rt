@@ -1,10 +1,12 @@
 //! The command `import --out STREAM RAW..`.
 
 use crate::import_options::{ids_of, resync_by, start_number, tick_of, times_of};
+use crate::import_outcome::ImportOutcome;
 use crate::import_stream::Stream;
 use flight_tools_args::ImportWords;
 use packet_archive::{
-    ArchiveFront, Choice, Clock, ImportOptions, Met, Report, Resync, Tally, import_held,
+    ArchiveFront, Choice, Clock, ImportOptions, Met, NothingTaken, Report, Resync, Tally,
+    import_held,
 };
 use program_io::{
     Feed, STANDARD, STANDARD_INPUT, Why, begin, check_stream_place, discard, feed_of, feed_over,
@@ -20,13 +22,6 @@ fn may_go_on(met: Met) -> bool {
     matches!(met, Met::Stands(ArchiveFront::Over | ArchiveFront::Cut))
 }
 
-/// What an import says, and whether each archive ends after a whole packet.
-#[derive(Drop)]
-struct Said {
-    text: String,
-    is_whole: bool,
-}
-
 /// How archives become records.
 #[derive(Drop)]
 struct ArchiveImport<'o> {
@@ -34,7 +29,11 @@ struct ArchiveImport<'o> {
     clock: Clock,
     /// Whether bytes that begin no plausible packet are skipped.
     is_resync: bool,
-    said: Said,
+    /// Whether a warning is a fault.
+    is_strict: bool,
+    /// The reports so far.
+    text: String,
+    outcome: ImportOutcome,
 }
 
 impl ArchiveImport<'_> {
@@ -54,9 +53,20 @@ impl ArchiveImport<'_> {
             left,
         };
         let lines = format!(in alloc; "{report}")?;
-        self.said.text.push_str(lines.as_str())?;
-        let is_whole = matches!(met, Met::Stands(ArchiveFront::Over)) && !tally.ends_skipped();
-        self.said.is_whole = self.said.is_whole && is_whole;
+        self.text.push_str(lines.as_str())?;
+        self.outcome = self.outcome.with(tally, met);
+        Ok(())
+    }
+
+    /// Reports it if no packet was taken.
+    fn report_nothing(&mut self, alloc: Global) -> Result<(), Fault<'static>> {
+        if self.outcome.taken == 0 {
+            let nothing = NothingTaken {
+                only: self.options.choice.only,
+            };
+            let lines = format!(in alloc; "{nothing}")?;
+            self.text.push_str(lines.as_str())?;
+        }
         Ok(())
     }
 
@@ -92,7 +102,7 @@ impl ArchiveImport<'_> {
         Ok(())
     }
 
-    /// Imports archives in order, standard input for `-`.
+    /// Imports archives in order, standard input for `-`, and adds their reports.
     fn import_all<'a, R: Files + AllocGlobal, I: Read + Drop, S: Write>(
         &mut self,
         rt: &R,
@@ -109,7 +119,7 @@ impl ArchiveImport<'_> {
                 self.import_one(rt.alloc(), name, feed, stream)?;
             }
         }
-        Ok(())
+        self.report_nothing(rt.alloc())
     }
 }
 
@@ -130,7 +140,7 @@ fn check_names<'a, R: Files + AllocGlobal>(
     Ok(check_stream_place(rt, stream)?)
 }
 
-/// Imports archives to standard output; the reports go to standard error.
+/// Imports archives to standard output; the reports go to standard error. Errors of `ending`, too.
 fn import_to_output<'a, R: Files + Eprint + AllocGlobal, I: Read + Drop, W: Write>(
     rt: &R,
     archives: &[&'a str],
@@ -146,9 +156,9 @@ fn import_to_output<'a, R: Files + Eprint + AllocGlobal, I: Read + Drop, W: Writ
     };
     how.import_all(rt, archives, input, &mut into)?;
     listing_result(out.flush())?;
-    let text = how.said.text.as_str();
+    let text = how.text.as_str();
     let _said = eprint!(rt; "{text}");
-    Ok(())
+    how.outcome.ending(how.is_strict)
 }
 
 /// Writes the reports to standard output, or to standard error if the stream goes to standard output.
@@ -166,7 +176,8 @@ fn tell<R: Eprint, W: Write>(
     listing_result(out.flush())
 }
 
-/// Imports archives to a file, through a draft that is renamed once the reports are written.
+/// Imports archives to a file, through a draft that is renamed once the reports are written, unless a warning is a fault. Errors of
+/// `ending`, too.
 fn import_to_file<'a, R: Files + Eprint + AllocGlobal, I: Read + Drop, W: Write>(
     rt: &R,
     archives: &[&'a str],
@@ -185,20 +196,26 @@ fn import_to_file<'a, R: Files + Eprint + AllocGlobal, I: Read + Drop, W: Write>
     };
     let imported = how.import_all(rt, archives, input, &mut into);
     let told = match imported {
-        Ok(()) => tell(rt, how.said.text.as_str(), is_output, out),
+        Ok(()) => tell(rt, how.text.as_str(), is_output, out),
         Err(fault) => Err(fault),
     };
-    match told {
-        Ok(()) | Err(Fault::Gone) => keep(rt, draft).map_err(|fault| fault_at(stream, fault))?,
+    let ended = match told {
+        Ok(()) => how.outcome.ending(how.is_strict),
+        Err(fault) => Err(fault),
+    };
+    match ended {
+        Ok(()) | Err(Fault::Gone | Fault::Early) => {
+            keep(rt, draft).map_err(|fault| fault_at(stream, fault))?
+        }
         Err(_) => discard(rt, draft),
     }
-    told
+    ended
 }
 
 /// Imports archives of space packets, in order, into a stream, through a draft that is renamed at the end; `-` is standard input for an
 /// archive and standard output for the stream. Reports go to `out`, or to standard error if the stream goes to standard output. Errors:
-/// `Value` for an option; `Early` if an archive ends early, and then the stream is written all the same; others are of files and
-/// memory, and an old stream stays.
+/// `Value` for an option; `Early` if an archive ends early, and then the stream is written all the same; `Warned` for a warning if
+/// `--strict` is given; others are of files and memory. Where the stream is not written an old one stays.
 pub fn import<'a, R: Files + Eprint + AllocGlobal, I: Read + Drop, W: Write>(
     rt: &R,
     archives: &[&'a str],
@@ -221,21 +238,15 @@ pub fn import<'a, R: Files + Eprint + AllocGlobal, I: Read + Drop, W: Write>(
         },
         clock: Clock::new(tick_of(wanted.tick)?),
         is_resync: wanted.resync,
-        said: Said {
-            text: String::new(rt.alloc()),
-            is_whole: true,
-        },
+        is_strict: wanted.strict,
+        text: String::new(rt.alloc()),
+        outcome: ImportOutcome::new(),
     };
     let start = start_number(wanted.start)?;
     check_names(rt, stream, archives)?;
     if stream == STANDARD {
-        import_to_output(rt, archives, &mut how, start, &mut input, out)?;
+        import_to_output(rt, archives, &mut how, start, &mut input, out)
     } else {
-        import_to_file(rt, archives, stream, &mut how, start, &mut input, out)?;
-    }
-    if how.said.is_whole {
-        Ok(())
-    } else {
-        Err(Fault::Early)
+        import_to_file(rt, archives, stream, &mut how, start, &mut input, out)
     }
 }

@@ -7,6 +7,7 @@ mod exporting;
 mod formatting;
 mod forms;
 mod import_options;
+mod import_outcome;
 mod import_stream;
 mod importing;
 mod listing;

@@ -10,7 +10,7 @@ mod serving;
 
 use check_command::{CheckOptions, check, explain, told};
 use flight_tools_args::{CommandPlan, WordsError, read_words};
-use program_io::{arguments_of, lend_words};
+use program_io::{Lasting, STANDARD, arguments_of, lend_words};
 use run_commands::PageTimes;
 use std::fs::Files;
 use std::io::{self, BufWriter, Eprint, Input, IsTerminal, Print, Read, Write};
@@ -47,8 +47,18 @@ fn words_fault(error: WordsError) -> Fault<'static>
     }
 }
 
+/// Whether a command passes on what comes, so that it ends where nobody takes what it prints.
+fn passes_on(plan: &CommandPlan<'_>) -> bool {
+    match plan {
+        CommandPlan::Live { .. } | CommandPlan::LanguageServer => true,
+        CommandPlan::Import { out, .. } => *out == STANDARD,
+        _ => false,
+    }
+}
+
 /// Does what the words ask for. What reads standard input reads `input` in its place; listings and packets go to
-/// `out` in place of standard output. The error is the command's fault, which `tell` prints.
+/// `out` in place of standard output; where that has lost its reader, commands that pass nothing on go on to the end of what they judge.
+/// The error is the command's fault, which `tell` prints.
 fn obey<'a, R: Files + Eprint + AllocGlobal, I: Read + Drop, W: Write>(
     rt: &R,
     words: &'a [&'a str],
@@ -56,7 +66,9 @@ fn obey<'a, R: Files + Eprint + AllocGlobal, I: Read + Drop, W: Write>(
     out: &mut W,
     is_watched: bool,
 ) -> Result<(), Fault<'a>> {
-    match read_words(rt.alloc(), words).map_err(words_fault)? {
+    let plan = read_words(rt.alloc(), words).map_err(words_fault)?;
+    let out = &mut Lasting::new(out, !passes_on(&plan));
+    match plan {
         CommandPlan::Said(text) => file_commands::write_help(&text, out),
         CommandPlan::Table { file, watchpoints } => file_commands::table(
             rt,

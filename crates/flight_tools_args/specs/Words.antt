@@ -61,6 +61,7 @@ HoldsImport rows how = IsFlag (codes "marked") rows how.marked
     × (first_of (codes "step") rows ≡ option_map (λ word. word.now) how.step)
     × (first_of (codes "tick") rows ≡ option_map (λ word. word.now) how.tick)
     × (first_of (codes "start") rows ≡ option_map (λ word. word.now) how.start)
+    × IsFlag (codes "strict") rows how.strict
 
 -- what is given of the form of a listing
 abbrev pub HoldsForm : List Row → RowWords → Type 0

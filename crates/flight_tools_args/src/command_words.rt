@@ -186,7 +186,7 @@ pub const COMPARE: [WordEntry; 5] = [
 ];
 
 /// The words of `import`.
-pub const IMPORT: [WordEntry; 12] = [
+pub const IMPORT: [WordEntry; 13] = [
     WordEntry {
         name: "marked",
         value: "",
@@ -247,6 +247,7 @@ pub const IMPORT: [WordEntry; 12] = [
         form: Form::Option,
         help: "Begin with the tables of the rule text of this number, and start LC and SCH",
     },
+    STRICT,
     WordEntry {
         name: "out",
         value: "STREAM",

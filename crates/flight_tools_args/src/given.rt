@@ -134,6 +134,7 @@ fn scenario_plan<'a>(found: &ArgMatches<'a>) -> Option<CommandPlan<'a>>
 fn import_words<'a>(found: &ArgMatches<'a>) -> ImportWords<'a>
     ensures { HoldsImport (rows_of (found_of found.now)) result }
 {
+    let is_strict = flag(found, "strict");
     ImportWords {
         marked: flag(found, "marked"),
         resync: flag(found, "resync"),
@@ -145,6 +146,7 @@ fn import_words<'a>(found: &ArgMatches<'a>) -> ImportWords<'a>
         step: option_value(found, "step"),
         tick: option_value(found, "tick"),
         start: option_value(found, "start"),
+        strict: is_strict,
     }
 }
 

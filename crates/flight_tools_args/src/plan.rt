@@ -140,4 +140,6 @@ pub struct ImportWords<'a> {
     pub tick: Option<&'a str>,
     /// The number of the rule text with which the stream starts.
     pub start: Option<&'a str>,
+    /// Whether a warning is a fault.
+    pub strict: bool,
 }

@@ -171,5 +171,5 @@ module _ (marked : Bool) (resync : Resync) (faulty : Bool) (times : Times) where
   all_kept (packet ∷ packets) fine = one_more packet packets fine.0 (all_kept packets fine.1)
 
 pub archives_are_given_back : ArchivesAreGivenBack
-archives_are_given_back marked resync faulty times clock packets fine never =
-    (imports_are_given_back (all_of marked resync faulty times) clock (archive_of marked packets)).whole never ∙ all_kept marked resync faulty times packets fine
+archives_are_given_back marked resync faulty times clock packets fine =
+    (imports_are_given_back (all_of marked resync faulty times) clock (archive_of marked packets)).all ∙ all_kept marked resync faulty times packets fine

@@ -10,7 +10,7 @@ use Rattle.packet_archive.specs.Export.{ExportsGoOn, ExportsInPieces, exported, 
 -- ---- the number of the first record says nothing of what the records are
 
 module _ (kinds : List ℕ) (texts : ℕ) where
-  same_records : (most n m : ℕ) (bytes : List ℕ) → (records_from kinds texts most n bytes).0 ≡ (records_from kinds texts most m bytes).0
+  pub same_records : (most n m : ℕ) (bytes : List ℕ) → (records_from kinds texts most n bytes).0 ≡ (records_from kinds texts most m bytes).0
   same_records zero n m bytes = refl
   same_records (suc most) n m bytes = by_front (front kinds texts bytes) (λ rest. same_records most (n + 1) (m + 1) rest)
     where

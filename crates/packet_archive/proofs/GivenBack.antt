@@ -9,16 +9,16 @@ use Rattle.stream_script.specs.Front.{any_text}
 use Rattle.packet_archive.specs.declared.choice.Fate.{Fate}
 use Rattle.packet_archive.specs.declared.choice.Fate.TheVariants.{Kept, Idle, Other, Faulty}
 use Rattle.packet_archive.specs.declared.import.Met.{Met}
-use Rattle.packet_archive.specs.declared.import.Met.TheVariants.{Taken, LeftOut, Leap, Stands}
+use Rattle.packet_archive.specs.declared.import.Met.TheVariants.{LeftOut, Stands}
 use Rattle.packet_archive.specs.declared.front.ArchiveFront.{ArchiveFront}
 use Rattle.packet_archive.specs.declared.front.ArchiveFront.TheVariants.{Over, Gap, Cut, Foreign, Unmarked, Stray, Packet}
 use Rattle.packet_archive.specs.declared.front.Resync.{Resync}
 use Rattle.packet_archive.specs.declared.front.Resync.TheVariants.{Never, Within, AtEnd}
 use Rattle.packet_archive.specs.Choice.{Chosen, fate_by_fault, fate_of, is_asked_for, is_idle}
 use Rattle.packet_archive.specs.Clock.{Clocked, moment_by}
-use Rattle.packet_archive.specs.Export.{ImportsAreGivenBack, exported, is_leap_met, keeps, kept_in, packets_by, packets_in, packets_within}
+use Rattle.packet_archive.specs.Export.{ImportsAreGivenBack, exported, keeps, kept_in, packets_by, packets_in, packets_within}
 use Rattle.packet_archive.specs.Front.{front_by}
-use Rattle.packet_archive.specs.Import.{Asking, Imported, Step, behind, by_fate, by_front, clock_at, front_for, imported, is_leap, kept_at, next_step, nothing, passed, records_at}
+use Rattle.packet_archive.specs.Import.{Asking, Imported, Step, behind, by_fate, by_front, clock_at, front_for, imported, kept_at, next_step, nothing, passed}
 use Rattle.packet_archive.proofs.Pieces.{no_step, one_step}
 use Rattle.packet_archive.proofs.Sought.{bounds_by, gap_is_by, stray_there}
 use Rattle.packet_archive.proofs.Stays.{zeros_within}
@@ -119,7 +119,7 @@ kept_packet asking bytes b s fate is becomes =
     ∙ ap (λ (f : Fate). one_first (keeps f) (take s (drop b bytes)) (kept_in asking (drop (b + s) bytes))) becomes
 
 -- a packet that becomes a record is none that no record can hold
-not_long : (chosen : Chosen) (packet : List ℕ) → fate_of chosen packet ≡ Kept → length packet ≤ max_body
+pub not_long : (chosen : Chosen) (packet : List ℕ) → fate_of chosen packet ≡ Kept → length packet ≤ max_body
 not_long chosen packet is =
     by_tests (not chosen.idle && is_idle packet) (not (is_asked_for chosen.only (message_id packet))) (nat_lt max_body (length packet)) refl is
   where
@@ -136,14 +136,14 @@ record Gives (asking : Asking) (bytes : List ℕ) (import : Imported) : Type 0 w
   packets : List ℕ
   brings : Brings import.written packets
   all : packets ++ kept_in asking import.left ≡ kept_in asking bytes
-  over : is_leap_met import.met ≡ false → kept_in asking import.left ≡ []
+  over : kept_in asking import.left ≡ []
 
 -- where it ends
 abbrev ended : List ℕ → Met → Clocked → Imported
 ended bytes met clock = record { written = []; clock = clock; left = bytes; met = met }
 
 ends : (asking : Asking) (clock : Clocked) (bytes : List ℕ) (met : Met) → next_step asking clock bytes ≡ nothing met clock → passed met ≡ None →
-    (is_leap_met met ≡ false → kept_in asking bytes ≡ []) → Gives asking bytes (imported asking clock bytes)
+    kept_in asking bytes ≡ [] → Gives asking bytes (imported asking clock bytes)
 ends asking clock bytes met step none over =
     let is : imported asking clock bytes ≡ ended bytes met clock =
     no_step asking clock bytes (ap (λ (s : Step). passed s.met) step ∙ none)
@@ -185,21 +185,12 @@ module _ (asking : Asking) (clock : Clocked) (bytes : List ℕ) (b s : ℕ) (is 
       (kept_packet asking bytes b s fate is becomes ∙ ap (λ k. one_first k packet (kept_in asking (drop (b + s) bytes))) never) (others (b + s) clock goes.some goes.inside)
 
   kept : fate_of asking.chosen packet ≡ Kept → Gives asking bytes (imported asking clock bytes)
-  kept becomes = by_test (is_leap clock moment) refl
-    where
-      moment : Moment
-      moment = moment_by asking.times clock packet
-
-      by_test : (t : Bool) → is_leap clock moment ≡ t → Gives asking bytes (imported asking clock bytes)
-      by_test true leap =
-          let late : kept_at (b + s) clock moment packet ≡ nothing Leap clock = rw leap refl in
-          ends asking clock bytes Leap (step_is Kept becomes ∙ late) refl (λ never. absurd (cc never))
-      by_test false leap =
-          let goes : Goes bytes (b + s) = packet_goes asking.resync asking.marked bytes b s is in
-          let step : Step = record { met = Taken (b + s); written = records_at clock moment packet; clock = clock_at clock moment } in
-          let now : kept_at (b + s) clock moment packet ≡ step = rw leap refl in
-          goes_on asking clock bytes packet (b + s) step (step_is Kept becomes ∙ now) refl
-          (brings_kept clock moment packet (not_long asking.chosen packet becomes)) (kept_packet asking bytes b s Kept is becomes) (others (b + s) step.clock goes.some goes.inside)
+  kept becomes =
+      let moment : Moment = moment_by asking.times clock packet in
+      let goes : Goes bytes (b + s) = packet_goes asking.resync asking.marked bytes b s is in
+      goes_on asking clock bytes packet (b + s) (kept_at b (b + s) clock moment packet) (step_is Kept becomes) refl
+      (brings_kept clock moment packet (not_long asking.chosen packet becomes)) (kept_packet asking bytes b s Kept is becomes)
+      (others (b + s) (clock_at clock moment) goes.some goes.inside)
 
   by_fates : (fate : Fate) → fate_of asking.chosen packet ≡ fate → Gives asking bytes (imported asking clock bytes)
   by_fates Kept becomes = kept becomes
@@ -210,13 +201,13 @@ module _ (asking : Asking) (clock : Clocked) (bytes : List ℕ) (b s : ℕ) (is 
 by_parts : (asking : Asking) (clock : Clocked) (bytes : List ℕ) (f : ArchiveFront) → front_for asking bytes ≡ f → GivesBehind asking bytes →
     Gives asking bytes (imported asking clock bytes)
 by_parts asking clock bytes Over is others =
-    ends asking clock bytes (Stands Over) (ap (λ (f : ArchiveFront). by_front f asking clock bytes) is) refl (λ never. kept_front asking bytes Over is)
+    ends asking clock bytes (Stands Over) (ap (λ (f : ArchiveFront). by_front f asking clock bytes) is) refl (kept_front asking bytes Over is)
 by_parts asking clock bytes Cut is others =
-    ends asking clock bytes (Stands Cut) (ap (λ (f : ArchiveFront). by_front f asking clock bytes) is) refl (λ never. kept_front asking bytes Cut is)
+    ends asking clock bytes (Stands Cut) (ap (λ (f : ArchiveFront). by_front f asking clock bytes) is) refl (kept_front asking bytes Cut is)
 by_parts asking clock bytes Foreign is others =
-    ends asking clock bytes (Stands Foreign) (ap (λ (f : ArchiveFront). by_front f asking clock bytes) is) refl (λ never. kept_front asking bytes Foreign is)
+    ends asking clock bytes (Stands Foreign) (ap (λ (f : ArchiveFront). by_front f asking clock bytes) is) refl (kept_front asking bytes Foreign is)
 by_parts asking clock bytes Unmarked is others =
-    ends asking clock bytes (Stands Unmarked) (ap (λ (f : ArchiveFront). by_front f asking clock bytes) is) refl (λ never. kept_front asking bytes Unmarked is)
+    ends asking clock bytes (Stands Unmarked) (ap (λ (f : ArchiveFront). by_front f asking clock bytes) is) refl (kept_front asking bytes Unmarked is)
 by_parts asking clock bytes Stray is others =
     let goes : Goes bytes 1 = stray_goes asking.resync asking.marked bytes is in
     goes_on asking clock bytes [] 1 (nothing (Stands Stray) clock) (ap (λ (f : ArchiveFront). by_front f asking clock bytes) is) refl brings_none
@@ -241,7 +232,7 @@ imports_are_given_back asking clock archive =
     let is : exported written ≡ found.packets = ap exported (sym (append-nil written)) ∙ found.brings.exports [] ∙ append-nil found.packets in
     let all : exported written ++ kept_in asking left ≡ kept_in asking archive = ap (λ out. out ++ kept_in asking left) is ∙ found.all in
     record {
-      all = all;
-      whole = λ never. sym (append-nil (exported written)) ∙ ap (λ others. exported written ++ others) (sym (found.over never)) ∙ all;
+      all = sym (append-nil (exported written)) ∙ ap (λ others. exported written ++ others) (sym found.over) ∙ all;
+      none_left = found.over;
       ends = ap (λ (bytes : List ℕ). (records_of any_text bytes).1) (sym (append-nil written)) ∙ found.brings.ends [] (λ number. refl) 1;
     }

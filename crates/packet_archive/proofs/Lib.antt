@@ -1,4 +1,5 @@
 mod ArchivesGivenBack
+mod Breaks
 mod Importing
 mod Kept
 mod Pieces
@@ -6,6 +7,7 @@ mod Places
 mod Sought
 mod Stays
 mod Ticks
+mod TicksGoOn
 mod Counting
 mod Exports
 mod GivenBack

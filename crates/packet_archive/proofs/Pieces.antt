@@ -1,5 +1,5 @@
 -- An import in pieces.
-use Rattle.std.proofs.Common.{◌≡◌, refl, sym, ◌∙◌, ap, subst, ℕ, zero, suc, ◌+◌, ◌<◌, ◌≤◌, Bool, true, false, true≢false, nat_lt, List, [], ◌∷◌, ◌++◌, length, take, drop, length-drop, append_assoc, Option, Some, None, arith}
+use Rattle.std.proofs.Common.{◌≡◌, refl, sym, ◌∙◌, ap, subst, ℕ, zero, suc, ◌+◌, ◌<◌, ◌≤◌, Bool, true, false, nat_lt, List, [], ◌∷◌, ◌++◌, length, take, drop, length-drop, append_assoc, Option, Some, None, arith}
 use Rattle.std.proofs.lemmas.List.{take-append-le, drop-append-le, drop_all}
 use Rattle.packet_archive.specs.declared.choice.Fate.{Fate}
 use Rattle.packet_archive.specs.declared.choice.Fate.TheVariants.{Kept, Idle, Other, Faulty}
@@ -10,9 +10,9 @@ use Rattle.packet_archive.specs.declared.front.ArchiveFront.TheVariants.{Over, G
 use Rattle.packet_archive.specs.declared.front.Resync.{Resync}
 use Rattle.packet_archive.specs.declared.front.Resync.TheVariants.{Never, Within, AtEnd}
 use Rattle.packet_archive.specs.Choice.{fate_of}
-use Rattle.packet_archive.specs.Clock.{Clocked, moment_by}
+use Rattle.packet_archive.specs.Clock.{Clocked}
 use Rattle.packet_archive.specs.Front.{front_by, zeros}
-use Rattle.packet_archive.specs.Import.{Asking, Imported, ImportsInPieces, Step, behind, by_fate, by_front, follows, front_for, going_on, imported, imported_within, is_leap, kept_at, may_go_on, next_step, nothing, passed, with_resync}
+use Rattle.packet_archive.specs.Import.{Asking, Imported, ImportsInPieces, Step, behind, by_fate, by_front, follows, front_for, going_on, imported, imported_within, may_go_on, next_step, nothing, passed, with_resync}
 use Rattle.packet_archive.proofs.Sought.{bounds_by, front_stays_by, gap_in_front_by, gap_is_by, gap_stays_by, stray_stays_by, stray_there}
 use Rattle.packet_archive.proofs.Stays.{zeros_go_on, zeros_within}
 
@@ -22,24 +22,12 @@ abbrev number : Option ℕ → ℕ
 number None = 0
 number (Some n) = n
 
-no_number : (o : Option ℕ) (n m : ℕ) → o ≡ None → o ≡ Some n → n ≡ m
-no_number None n m none some = cc
-no_number (Some k) n m none some = cc
-
-fate_passes : (fate : Fate) (asking : Asking) (before size n : ℕ) (clock : Clocked) (packet : List ℕ) → passed (by_fate fate asking before size clock packet).met ≡ Some n → n ≡ size
-fate_passes Kept asking before size n clock packet some = by_test (is_leap clock (moment_by asking.times clock packet)) refl some
-  where
-    by_test : (b : Bool) → is_leap clock (moment_by asking.times clock packet) ≡ b →
-        passed (kept_at size clock (moment_by asking.times clock packet) packet).met ≡ Some n → n ≡ size
-    by_test true is some =
-        let met : passed (kept_at size clock (moment_by asking.times clock packet) packet).met ≡ None = rw is refl in
-        no_number (passed (kept_at size clock (moment_by asking.times clock packet) packet).met) n size met some
-    by_test false is some =
-        let met : passed (kept_at size clock (moment_by asking.times clock packet) packet).met ≡ Some size = rw is refl in
-        ap number (sym some ∙ met)
-fate_passes Idle asking before size n clock packet some = sym (ap number some)
-fate_passes Other asking before size n clock packet some = sym (ap number some)
-fate_passes (Faulty fault) asking before size n clock packet some = sym (ap number some)
+-- whatever becomes of a packet, it is passed
+pub fate_passes : (fate : Fate) (asking : Asking) (before size : ℕ) (clock : Clocked) (packet : List ℕ) → passed (by_fate fate asking before size clock packet).met ≡ Some size
+fate_passes Kept asking before size clock packet = refl
+fate_passes Idle asking before size clock packet = refl
+fate_passes Other asking before size clock packet = refl
+fate_passes (Faulty fault) asking before size clock packet = refl
 
 pub record IsInside (n : ℕ) (bytes : List ℕ) : Type 0 where
   pub some : 1 ≤ n
@@ -61,7 +49,7 @@ step_passes (Gap size) asking clock bytes n is some =
 step_passes (Packet b s) asking clock bytes n is some =
     let found = bounds_by asking.resync asking.marked bytes b s is in
     let packet : List ℕ = take s (drop b bytes) in
-    let same : n ≡ b + s = fate_passes (fate_of asking.chosen packet) asking b (b + s) n clock packet some in
+    let same : n ≡ b + s = ap number (sym some ∙ fate_passes (fate_of asking.chosen packet) asking b (b + s) clock packet) in
     record { some = omega (arith, found.0, same); inside = omega (arith, found.1, same) }
 
 pub passes : (asking : Asking) (clock : Clocked) (bytes : List ℕ) (n : ℕ) → passed (next_step asking clock bytes).met ≡ Some n → IsInside n bytes
@@ -201,29 +189,6 @@ ends_in_zeros last asking clock xs ys n f past may =
     skip_zeros other clock (xs ++ ys) ∙ ap (imported other clock) left ∙ sym (skip_zeros other clock ys) in
     subst (λ (o : Imported). imported other clock (xs ++ ys) ≡ behind o.written (imported other o.clock (o.left ++ ys))) (sym (one ∙ nothing_left asking clock)) whole
 
--- a packet that is not passed is too late, and nothing goes on behind it
-ends_there : (fate : Fate) (asking : Asking) (before size : ℕ) (clock : Clocked) (packet : List ℕ) → passed (by_fate fate asking before size clock packet).met ≡ None →
-    may_go_on (by_fate fate asking before size clock packet).met ≡ false
-ends_there Kept asking before size clock packet none = by_test (is_leap clock (moment_by asking.times clock packet)) refl none
-  where
-    by_test : (b : Bool) → is_leap clock (moment_by asking.times clock packet) ≡ b →
-        passed (kept_at size clock (moment_by asking.times clock packet) packet).met ≡ None →
-        may_go_on (kept_at size clock (moment_by asking.times clock packet) packet).met ≡ false
-    by_test true is none = rw is refl
-    by_test false is none = rw is refl
-ends_there Idle asking before size clock packet none = refl
-ends_there Other asking before size clock packet none = refl
-ends_there (Faulty fault) asking before size clock packet none = refl
-
-ends : (last : Resync) (asking : Asking) (clock : Clocked) (xs ys : List ℕ) (b s : ℕ) → front_for asking xs ≡ Packet b s →
-    passed (by_front (Packet b s) asking clock xs).met ≡ None → Goes last asking clock xs ys
-ends last asking clock xs ys b s is none may =
-    let step : next_step asking clock xs ≡ by_front (Packet b s) asking clock xs = ap (λ front. by_front front asking clock xs) is in
-    let one = no_step asking clock xs (ap (λ (t : Step). passed t.met) step ∙ none) in
-    let packet : List ℕ = take s (drop b xs) in
-    let no : may_go_on (by_front (Packet b s) asking clock xs).met ≡ false = ends_there (fate_of asking.chosen packet) asking b (b + s) clock packet none in
-    absurd (true≢false (sym may ∙ ap (λ (o : Imported). may_go_on o.met) one ∙ ap (λ (t : Step). may_go_on t.met) step ∙ no))
-
 -- what becomes of a packet doesn't hang on where an import resynchronizes
 same_fate : (last : Resync) (fate : Fate) (asking : Asking) (before size : ℕ) (clock : Clocked) (packet : List ℕ) →
     by_fate fate (with_resync last asking) before size clock packet ≡ by_fate fate asking before size clock packet
@@ -269,17 +234,13 @@ module _ (last : Resync) (asking : Asking) (follow : follows asking.resync last 
       (ap (λ front. by_front front (with_resync last asking) clock (xs ++ ys)) together) refl there (others 1 clock (omega arith) there)
 
   at_packet : (b s : ℕ) → front_for asking xs ≡ Packet b s → Goes last asking clock xs ys
-  at_packet b s is = by_passed (passed (by_front (Packet b s) asking clock xs).met) refl
-    where
-      alone : next_step asking clock xs ≡ by_front (Packet b s) asking clock xs
-      alone = ap (λ front. by_front front asking clock xs) is
-
-      by_passed : (o : Option ℕ) → passed (by_front (Packet b s) asking clock xs).met ≡ o → Goes last asking clock xs ys
-      by_passed None none = ends last asking clock xs ys b s is none
-      by_passed (Some n) some =
-          let inside = step_passes (Packet b s) asking clock xs n is some in
-          goes last asking clock xs ys n (by_front (Packet b s) asking clock xs) alone (same_step last asking clock xs ys b s follow is) some inside.inside
-          (others n (by_front (Packet b s) asking clock xs).clock inside.some inside.inside)
+  at_packet b s is =
+      let packet : List ℕ = take s (drop b xs) in
+      let some : passed (by_front (Packet b s) asking clock xs).met ≡ Some (b + s) = fate_passes (fate_of asking.chosen packet) asking b (b + s) clock packet in
+      let inside = step_passes (Packet b s) asking clock xs (b + s) is some in
+      goes last asking clock xs ys (b + s) (by_front (Packet b s) asking clock xs) (ap (λ front. by_front front asking clock xs) is)
+      (same_step last asking clock xs ys b s follow is) some inside.inside
+      (others (b + s) (by_front (Packet b s) asking clock xs).clock inside.some inside.inside)
 
   by_parts : (front : ArchiveFront) → front_for asking xs ≡ front → Goes last asking clock xs ys
   by_parts Over is = stays last asking clock xs ys (Stands Over) (ap (λ front. by_front front asking clock xs) is) refl

@@ -1,19 +1,16 @@
 -- Each byte of an archive has its place.
-use Rattle.std.proofs.Common.{◌≡◌, refl, sym, ◌∙◌, ap, ℕ, zero, suc, ◌+◌, ◌<◌, Bool, true, false, true≢false, List, [], ◌∷◌, ◌++◌, length, take, drop, length-drop, take-append-drop, append_assoc, Option, Some, None, arith}
-use Rattle.packet_archive.specs.declared.choice.Fate.{Fate}
-use Rattle.packet_archive.specs.declared.choice.Fate.TheVariants.{Kept, Idle, Other, Faulty}
+use Rattle.std.proofs.Common.{◌≡◌, refl, sym, ◌∙◌, ap, ℕ, zero, suc, ◌+◌, ◌<◌, List, [], ◌∷◌, ◌++◌, length, take, drop, length-drop, take-append-drop, append_assoc, Option, Some, None, arith}
 use Rattle.packet_archive.specs.declared.import.Met.{Met}
 use Rattle.packet_archive.specs.declared.front.ArchiveFront.{ArchiveFront}
 use Rattle.packet_archive.specs.declared.front.ArchiveFront.TheVariants.{Over, Gap, Cut, Foreign, Unmarked, Stray, Packet}
 use Rattle.packet_archive.specs.declared.front.Resync.{Resync}
 use Rattle.packet_archive.specs.declared.front.Resync.TheVariants.{AtEnd}
 use Rattle.packet_archive.specs.Choice.{fate_of}
-use Rattle.packet_archive.specs.Clock.{Clocked, moment_by}
-use Rattle.packet_archive.specs.Export.{is_leap_met}
+use Rattle.packet_archive.specs.Clock.{Clocked}
 use Rattle.packet_archive.specs.Front.{front_by}
-use Rattle.packet_archive.specs.Import.{Asking, Imported, Step, behind, by_fate, by_front, front_for, imported, is_leap, kept_at, next_step, passed}
+use Rattle.packet_archive.specs.Import.{Asking, Imported, Step, behind, by_front, front_for, imported, next_step, passed}
 use Rattle.packet_archive.specs.Parts.{EachByteHasAPlace, HasPlaces, bytes_of, parts_by, parts_of, parts_within}
-use Rattle.packet_archive.proofs.Pieces.{no_step, one_step, passes}
+use Rattle.packet_archive.proofs.Pieces.{fate_passes, no_step, one_step, passes}
 use Rattle.packet_archive.proofs.Sought.{goes_on_at_end, over_at_end}
 
 -- ---- the parts by the first step
@@ -41,40 +38,42 @@ first_part : (asking : Asking) (clock : Clocked) (bytes : List ℕ) →
 unfolding parts_within
 first_part asking clock bytes = let most : length bytes + 1 ≡ suc (length bytes) = omega arith in ap (λ n. parts_within n asking clock bytes) most
 
+pub no_parts : (asking : Asking) (clock : Clocked) (bytes : List ℕ) → passed (next_step asking clock bytes).met ≡ None → parts_of asking clock bytes ≡ []
+no_parts asking clock bytes none =
+    first_part asking clock bytes ∙ ap (parts_by (parts_within (length bytes) asking (next_step asking clock bytes).clock) (next_step asking clock bytes).met bytes) none
+
+pub one_part : (asking : Asking) (clock : Clocked) (bytes : List ℕ) (size : ℕ) → passed (next_step asking clock bytes).met ≡ Some size →
+    parts_of asking clock bytes ≡ ((next_step asking clock bytes).met, take size bytes) ∷ parts_of asking (next_step asking clock bytes).clock (drop size bytes)
+one_part asking clock bytes size some =
+    let inside = passes asking clock bytes size some in
+    let after : Clocked = (next_step asking clock bytes).clock in
+    let met : Met = (next_step asking clock bytes).met in
+    first_part asking clock bytes
+    ∙ ap (parts_by (parts_within (length bytes) asking after) met bytes) some
+    ∙ ap (λ (others : List (Met × List ℕ)). (met, take size bytes) ∷ others)
+    (enough (length bytes) (length (drop size bytes) + 1) asking after (drop size bytes) (omega (arith, length-drop size bytes, inside.some, inside.inside)) (omega arith))
+
 -- ---- where an import ends
 
-fate_leaps : (fate : Fate) (asking : Asking) (before size : ℕ) (clock : Clocked) (packet : List ℕ) → passed (by_fate fate asking before size clock packet).met ≡ None →
-    is_leap_met (by_fate fate asking before size clock packet).met ≡ true
-fate_leaps Kept asking before size clock packet none = by_test (is_leap clock (moment_by asking.times clock packet)) refl none
-  where
-    by_test : (b : Bool) → is_leap clock (moment_by asking.times clock packet) ≡ b → passed (kept_at size clock (moment_by asking.times clock packet) packet).met ≡ None →
-        is_leap_met (kept_at size clock (moment_by asking.times clock packet) packet).met ≡ true
-    by_test true is none = rw is refl
-    by_test false is none = let met : passed (kept_at size clock (moment_by asking.times clock packet) packet).met ≡ Some size = rw is refl in absurd (cc (none, met))
-fate_leaps Idle asking before size clock packet none = cc
-fate_leaps Other asking before size clock packet none = cc
-fate_leaps (Faulty fault) asking before size clock packet none = cc
-
--- a step that passes nothing stands at the end, or at a packet that is too late
-over_or_late : (front : ArchiveFront) (asking : Asking) (clock : Clocked) (bytes : List ℕ) → front_by AtEnd asking.marked bytes ≡ front →
-    passed (by_front front asking clock bytes).met ≡ None → is_leap_met (by_front front asking clock bytes).met ≡ false → bytes ≡ []
-over_or_late Over asking clock bytes is none never = over_at_end asking.marked bytes is
-over_or_late (Gap n) asking clock bytes is none never = cc
-over_or_late Stray asking clock bytes is none never = cc
-over_or_late Cut asking clock bytes is none never = absurd ((goes_on_at_end asking.marked bytes).not_cut is)
-over_or_late Foreign asking clock bytes is none never = absurd ((goes_on_at_end asking.marked bytes).not_foreign is)
-over_or_late Unmarked asking clock bytes is none never = absurd ((goes_on_at_end asking.marked bytes).not_unmarked is)
-over_or_late (Packet b s) asking clock bytes is none never =
+-- a step that passes nothing stands at the end
+over : (front : ArchiveFront) (asking : Asking) (clock : Clocked) (bytes : List ℕ) → front_by AtEnd asking.marked bytes ≡ front →
+    passed (by_front front asking clock bytes).met ≡ None → bytes ≡ []
+over Over asking clock bytes is none = over_at_end asking.marked bytes is
+over (Gap n) asking clock bytes is none = cc
+over Stray asking clock bytes is none = cc
+over Cut asking clock bytes is none = absurd ((goes_on_at_end asking.marked bytes).not_cut is)
+over Foreign asking clock bytes is none = absurd ((goes_on_at_end asking.marked bytes).not_foreign is)
+over Unmarked asking clock bytes is none = absurd ((goes_on_at_end asking.marked bytes).not_unmarked is)
+over (Packet b s) asking clock bytes is none =
     let packet : List ℕ = take s (drop b bytes) in
-    let late = fate_leaps (fate_of asking.chosen packet) asking b (b + s) clock packet none in
-    absurd (true≢false (sym late ∙ never))
+    let some = fate_passes (fate_of asking.chosen packet) asking b (b + s) clock packet in
+    absurd (cc (none, some))
 
-none_left : (asking : Asking) (clock : Clocked) (bytes : List ℕ) → asking.resync ≡ AtEnd → passed (next_step asking clock bytes).met ≡ None →
-    is_leap_met (next_step asking clock bytes).met ≡ false → bytes ≡ []
-none_left asking clock bytes at_end none never =
+none_left : (asking : Asking) (clock : Clocked) (bytes : List ℕ) → asking.resync ≡ AtEnd → passed (next_step asking clock bytes).met ≡ None → bytes ≡ []
+none_left asking clock bytes at_end none =
     let same : front_for asking bytes ≡ front_by AtEnd asking.marked bytes = ap (λ (resync : Resync). front_by resync asking.marked bytes) at_end in
     let step : next_step asking clock bytes ≡ by_front (front_by AtEnd asking.marked bytes) asking clock bytes = ap (λ front. by_front front asking clock bytes) same in
-    over_or_late (front_by AtEnd asking.marked bytes) asking clock bytes refl (ap (λ (s : Step). passed s.met) (sym step) ∙ none) (ap (λ (s : Step). is_leap_met s.met) (sym step) ∙ never)
+    over (front_by AtEnd asking.marked bytes) asking clock bytes refl (ap (λ (s : Step). passed s.met) (sym step) ∙ none)
 
 -- ---- all parts
 
@@ -87,13 +86,10 @@ placed (suc most) asking clock bytes less =
         ((size : ℕ) (after : Clocked) → length (drop size bytes) < most → HasPlaces asking after (drop size bytes)) → HasPlaces asking clock bytes
     by_passed None none others =
         let one = no_step asking clock bytes none in
-        let parts : parts_of asking clock bytes ≡ [] =
-        first_part asking clock bytes ∙ ap (parts_by (parts_within (length bytes) asking (next_step asking clock bytes).clock) (next_step asking clock bytes).met bytes) none in
+        let parts : parts_of asking clock bytes ≡ [] = no_parts asking clock bytes none in
         record {
           all = ap (λ (ps : List (Met × List ℕ)). bytes_of ps ++ (imported asking clock bytes).left) parts ∙ ap (λ (i : Imported). i.left) one;
-          none_left = λ at_end never.
-              ap (λ (i : Imported). i.left) one
-              ∙ none_left asking clock bytes at_end none (ap (λ (i : Imported). is_leap_met i.met) (sym one) ∙ never);
+          none_left = λ at_end. ap (λ (i : Imported). i.left) one ∙ none_left asking clock bytes at_end none;
         }
     by_passed (Some size) some others =
         let after : Clocked = (next_step asking clock bytes).clock in
@@ -101,11 +97,7 @@ placed (suc most) asking clock bytes less =
         let inside = passes asking clock bytes size some in
         let one : imported asking clock bytes ≡ behind (next_step asking clock bytes).written (imported asking after (drop size bytes)) = one_step asking clock bytes size some in
         let rest : HasPlaces asking after (drop size bytes) = others size after (omega (arith, length-drop size bytes, inside.some, inside.inside, less)) in
-        let parts : parts_of asking clock bytes ≡ (met, take size bytes) ∷ parts_of asking after (drop size bytes) =
-        first_part asking clock bytes
-        ∙ ap (parts_by (parts_within (length bytes) asking after) met bytes) some
-        ∙ ap (λ (others : List (Met × List ℕ)). (met, take size bytes) ∷ others)
-        (enough (length bytes) (length (drop size bytes) + 1) asking after (drop size bytes) (omega (arith, length-drop size bytes, inside.some, inside.inside)) (omega arith)) in
+        let parts : parts_of asking clock bytes ≡ (met, take size bytes) ∷ parts_of asking after (drop size bytes) = one_part asking clock bytes size some in
         record {
           all =
               ap (λ (ps : List (Met × List ℕ)). bytes_of ps ++ (imported asking clock bytes).left) parts
@@ -113,9 +105,7 @@ placed (suc most) asking clock bytes less =
               ∙ append_assoc (take size bytes) (bytes_of (parts_of asking after (drop size bytes))) (imported asking after (drop size bytes)).left
               ∙ ap (λ others. take size bytes ++ others) rest.all
               ∙ take-append-drop size bytes;
-          none_left = λ at_end never.
-              ap (λ (i : Imported). i.left) one
-              ∙ rest.none_left at_end (ap (λ (i : Imported). is_leap_met i.met) (sym one) ∙ never);
+          none_left = λ at_end. ap (λ (i : Imported). i.left) one ∙ rest.none_left at_end;
         }
 
 pub each_byte : EachByteHasAPlace

@@ -10,7 +10,7 @@ use Rattle.lc_model.proofs.Host.Streams.{front_decides}
 use Rattle.stream_script.specs.Front.{any_text}
 use Rattle.packet_archive.specs.Clock.{Clocked, ticks_due}
 use Rattle.packet_archive.specs.Export.{exported, packet_of}
-use Rattle.packet_archive.specs.Import.{record_bytes, records_at, tick_kind, ticks, ticks_before}
+use Rattle.packet_archive.specs.Import.{record_bytes, records_at, tick_at, tick_kind, ticks, ticks_before}
 use Rattle.packet_archive.proofs.Exports.{exported_by, exported_front}
 
 -- ---- a record in front
@@ -104,5 +104,5 @@ brings_due period (Some next) second = brings_ticks (ticks_due period (Some next
 -- a packet behind its ticks
 pub brings_kept : (clock : Clocked) (moment : Moment) (packet : List ℕ) → length packet ≤ max_body → Brings (records_at clock moment packet) packet
 brings_kept clock moment packet few =
-    brings_both (ticks_before clock.period clock.next moment.seconds) (record_bytes 1 moment packet) [] packet
-    (brings_due clock.period clock.next moment.seconds) (brings_packet moment packet few)
+    brings_both (ticks_before clock.period (tick_at clock moment) moment.seconds) (record_bytes 1 moment packet) [] packet
+    (brings_due clock.period (tick_at clock moment) moment.seconds) (brings_packet moment packet few)

@@ -1,7 +1,7 @@
 -- Which packets of an archive become records. This project's own.
-use Rattle.std.specs.Prelude.{ℕ, ◌%◌, Bool, not, ◌&&◌, ◌||◌, ◌==◌, List, length, nat_lt, Option, Some, None, if◌then◌else◌}
+use Rattle.std.specs.Prelude.{ℕ, ◌+◌, ◌/◌, ◌%◌, Bool, not, ◌&&◌, ◌||◌, ◌==◌, List, length, nat_lt, Option, Some, None, if◌then◌else◌}
 use Rattle.std.specs.List.{list_any}
-use Rattle.lc_model.specs.Packet.{message_id, stream_fault, long_packet}
+use Rattle.lc_model.specs.Packet.{message_id, message_id_end, stream_fault, long_packet}
 use Rattle.lc_model.specs.Host.Stream.{max_body}
 use Rattle.packet_archive.specs.declared.choice.Fate.{Fate}
 use Rattle.packet_archive.specs.declared.choice.Fate.TheVariants.{Kept, Idle, Other, Faulty}
@@ -36,3 +36,11 @@ fate_of chosen packet =
     else if not (is_asked_for chosen.only (message_id packet)) then Other
     else if nat_lt max_body (length packet) then Faulty long_packet
     else fate_by_fault chosen.faulty (stream_fault packet)
+
+-- whether a message id is that of commands
+abbrev pub is_command_id : ℕ → Bool
+is_command_id mid = mid / 4096 % 2 == 1
+
+-- the message id that was probably meant by one without the bit of a secondary header, which every packet without a fault has
+abbrev pub meant_id : ℕ → Option ℕ
+meant_id mid = if nat_lt mid message_id_end && mid / 2048 % 2 == 0 then Some (mid + 2048) else None

@@ -1,8 +1,9 @@
--- When a packet of an archive came, and which ticks come before it. This project's own.
+-- When a packet of an archive came, which ticks come before it, and where time breaks. This project's own.
 use Rattle.std.specs.Prelude.{ℕ, ◌+◌, ◌-◌, ◌*◌, ◌/◌, ◌%◌, ◌^◌, Bool, not, ◌&&◌, ◌||◌, ◌==◌, List, length, min, nat_lt, nat_le, ◌<◌, IfSome, Option, Some, None, if◌then◌else◌}
 use Rattle.lc_model.specs.Bytes.{u16_at, u32_at}
 use Rattle.lc_model.specs.Packet.{is_command}
 use Rattle.lc_model.specs.declared.record.Moment.{Moment}
+use Rattle.packet_archive.specs.declared.clock.TimeBreak.{TimeBreak}
 use Rattle.packet_archive.specs.declared.clock.Times.{Times}
 use Rattle.packet_archive.specs.declared.clock.Times.TheVariants.{Header, Steps}
 
@@ -70,3 +71,34 @@ most_ticks = 86400
 -- there is a next tick only if ticks come, and it is at most a period after the last second
 abbrev pub IsNextTick : ℕ → Option ℕ → Type 0
 IsNextTick period next = IfSome next (λ second. (0 < period) × (second < seconds_end + period))
+
+-- ---- where time breaks
+
+-- a moment in 65,536ths of a second
+abbrev pub elapsed : Moment → ℕ
+elapsed moment = moment.seconds * parts + moment.subseconds
+
+-- whether a moment is before another
+abbrev pub is_before : Moment → Moment → Bool
+is_before moment other = nat_lt (elapsed moment) (elapsed other)
+
+-- whether time leaps: too many ticks would come up to this second
+abbrev pub is_leap : ℕ → Option ℕ → ℕ → Bool
+is_leap period next second = nat_lt most_ticks (ticks_due period next second)
+
+-- The break in time at a packet of this moment: it is before that of the packet taken last, or time leaps.
+abbrev pub break_at : Clocked → Moment → Option TimeBreak
+break_at clock moment =
+    if is_before moment clock.last || is_leap clock.period clock.next moment.seconds then Some (record { from = clock.last; to = moment }) else None
+
+-- whether a tick is over two periods after this second
+abbrev pub is_far : ℕ → ℕ → ℕ → Bool
+is_far period tick second = nat_lt (second + 2 * period) tick
+
+-- The next tick as a packet of this second finds it. There is none, and ticks begin anew as at a first packet, where time leaps, or where
+-- it stepped back so far that the tick would come over two periods after the packet. So no tick comes twice because packets are out of
+-- order by less than a period.
+abbrev pub tick_before : ℕ → Option ℕ → ℕ → Option ℕ
+tick_before period None second = None
+tick_before period (Some next) second =
+    if is_leap period (Some next) second || is_far period next second then None else Some next

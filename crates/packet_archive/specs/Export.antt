@@ -15,8 +15,6 @@ use Rattle.packet_archive.specs.declared.clock.Times.{Times}
 use Rattle.packet_archive.specs.declared.front.ArchiveFront.{ArchiveFront}
 use Rattle.packet_archive.specs.declared.front.ArchiveFront.TheVariants.{Gap, Stray, Packet}
 use Rattle.packet_archive.specs.declared.front.Resync.{Resync}
-use Rattle.packet_archive.specs.declared.import.Met.{Met}
-use Rattle.packet_archive.specs.declared.import.Met.TheVariants.{Leap}
 use Rattle.packet_archive.specs.Choice.{fate_of}
 use Rattle.packet_archive.specs.Clock.{Clocked}
 use Rattle.packet_archive.specs.Front.{before_each, front_by}
@@ -97,20 +95,14 @@ keeps fate = false
 abbrev pub kept_in : Asking → List ℕ → List ℕ
 kept_in asking archive = concat (filter (λ packet. keeps (fate_of asking.chosen packet)) (packets_in asking.resync asking.marked archive))
 
--- whether an import stops at a packet that is too late
-abbrev pub is_leap_met : Met → Bool
-is_leap_met Leap = true
-is_leap_met met = false
-
 -- ---- the laws
 
--- An import, exported, gives the bytes of the packets that became records, whatever is asked for, and however many ticks stand
--- between them: with the packets of what is left, they are those of the archive.
+-- An import, exported, gives the bytes of the packets that became records, whatever is asked for, whatever their times, and however
+-- many ticks stand between them.
 pub record GivesBack (asking : Asking) (archive : List ℕ) (import : Imported) : Type 0 where
-  -- with those that are left, which only are some where time goes on too far
-  pub all : exported import.written ++ kept_in asking import.left ≡ kept_in asking archive
-  -- so without them, unless the import stops there
-  pub whole : is_leap_met import.met ≡ false → exported import.written ≡ kept_in asking archive
+  pub all : exported import.written ≡ kept_in asking archive
+  -- what is left has none that is asked for
+  pub none_left : kept_in asking import.left ≡ []
   -- and the stream ends behind a whole record
   pub ends : (records_of any_text import.written).1 ≡ Whole
 
@@ -135,9 +127,8 @@ pub record IsFine (packet : List ℕ) : Type 0 where
   pub fault : stream_fault packet ≡ None
 
 -- An archive of packets without a fault, of which all are asked for, is given back byte for byte, without its markers: without
--- markers it is what it was. So it is with or without resynchronizing.
+-- markers it is what it was. So it is with or without resynchronizing, and whatever the packets' times.
 abbrev pub ArchivesAreGivenBack : Type 0
 ArchivesAreGivenBack = (marked : Bool) (resync : Resync) (faulty : Bool) (times : Times) (clock : Clocked) (packets : List (List ℕ)) →
     AllByRecursion IsFine packets →
-    is_leap_met (imported (all_of marked resync faulty times) clock (archive_of marked packets)).met ≡ false →
     exported (imported (all_of marked resync faulty times) clock (archive_of marked packets)).written ≡ concat packets

@@ -1,18 +1,19 @@
 -- The records that the packets of an archive become. This project's own.
-use Rattle.std.specs.Prelude.{◌≡◌, ℕ, zero, suc, ◌+◌, Bool, true, false, List, [], ◌∷◌, ◌++◌, length, take, drop, nat_lt, Option, Some, None, if◌then◌else◌}
-use Rattle.lc_model.specs.Bytes.{u16, u32}
+use Rattle.std.specs.Prelude.{◌≡◌, ℕ, zero, suc, ◌+◌, ◌*◌, ◌%◌, ◌<◌, ◌≤◌, Bool, true, false, List, [], ◌∷◌, ◌++◌, length, take, drop, Option, Some, None}
+use Rattle.lc_model.specs.Bytes.{u16, u16_at, u32}
+use Rattle.lc_model.specs.Packet.{count_end, message_id}
 use Rattle.lc_model.specs.declared.record.Moment.{Moment}
 use Rattle.packet_archive.specs.declared.choice.Fate.{Fate}
 use Rattle.packet_archive.specs.declared.choice.Fate.TheVariants.{Kept}
 use Rattle.packet_archive.specs.declared.clock.Times.{Times}
 use Rattle.packet_archive.specs.declared.import.Met.{Met}
-use Rattle.packet_archive.specs.declared.import.Met.TheVariants.{Taken, LeftOut, Leap, Stands}
+use Rattle.packet_archive.specs.declared.import.Met.TheVariants.{Taken, LeftOut, Stands}
 use Rattle.packet_archive.specs.declared.front.ArchiveFront.{ArchiveFront}
 use Rattle.packet_archive.specs.declared.front.ArchiveFront.TheVariants.{Over, Gap, Cut, Stray, Packet}
 use Rattle.packet_archive.specs.declared.front.Resync.{Resync}
 use Rattle.packet_archive.specs.declared.front.Resync.TheVariants.{Never, Within, AtEnd}
 use Rattle.packet_archive.specs.Choice.{Chosen, fate_of}
-use Rattle.packet_archive.specs.Clock.{Clocked, moment_by, most_ticks, next_count, next_tick, ticks_due}
+use Rattle.packet_archive.specs.Clock.{Clocked, break_at, moment_by, next_count, next_tick, tick_before, ticks_due}
 use Rattle.packet_archive.specs.Front.{front_by}
 
 -- a record in bytes: its kind, its moment, the length of its body, and the body
@@ -37,18 +38,23 @@ abbrev pub ticks_before : ℕ → Option ℕ → ℕ → List ℕ
 ticks_before period None second = []
 ticks_before period (Some next) second = ticks (ticks_due period (Some next) second) period next
 
--- whether the packet is too late: too many ticks would come before it
-abbrev pub is_leap : Clocked → Moment → Bool
-is_leap clock moment = nat_lt most_ticks (ticks_due clock.period clock.next moment.seconds)
+-- the next tick as a packet of this moment finds it
+abbrev pub tick_at : Clocked → Moment → Option ℕ
+tick_at clock moment = tick_before clock.period clock.next moment.seconds
 
 -- what a packet of this moment becomes: the ticks before it, and its own record
 abbrev pub records_at : Clocked → Moment → List ℕ → List ℕ
 records_at clock moment packet =
-    ticks_before clock.period clock.next moment.seconds ++ record_bytes packet_kind moment packet
+    ticks_before clock.period (tick_at clock moment) moment.seconds ++ record_bytes packet_kind moment packet
 
 -- the clock after the packet
 abbrev pub clock_at : Clocked → Moment → Clocked
-clock_at clock moment = record { period = clock.period; last = moment; count = next_count clock.count; next = next_tick clock.period clock.next moment.seconds }
+clock_at clock moment = record {
+  period = clock.period;
+  last = moment;
+  count = next_count clock.count;
+  next = next_tick clock.period (tick_at clock moment) moment.seconds;
+}
 
 -- the options of an import: whether the archive has markers, what it does where no packet stands, which packets become records, and
 -- the source of their times
@@ -68,15 +74,18 @@ pub record Step : Type 0 where
 abbrev pub nothing : Met → Clocked → Step
 nothing met clock = record { met = met; written = []; clock = clock }
 
--- a step with a packet that becomes a record, unless it is too late
-abbrev pub kept_at : ℕ → Clocked → Moment → List ℕ → Step
-kept_at size clock moment packet =
-    if is_leap clock moment then nothing Leap clock
-    else record { met = Taken size; written = records_at clock moment packet; clock = clock_at clock moment }
+-- the sequence count of a packet (CCSDS 133.0-B)
+abbrev pub sequence_count : List ℕ → ℕ
+sequence_count packet = u16_at packet 2 % count_end
+
+-- a step with a packet that becomes a record, after `before` bytes of its marker; `size` is its size with its marker
+abbrev pub kept_at : ℕ → ℕ → Clocked → Moment → List ℕ → Step
+kept_at before size clock moment packet =
+    record { met = Taken size before (message_id packet) (sequence_count packet) (break_at clock moment); written = records_at clock moment packet; clock = clock_at clock moment }
 
 -- a step with a packet after `before` bytes of its marker, by what becomes of it; `size` is its size with its marker
 abbrev pub by_fate : Fate → Asking → ℕ → ℕ → Clocked → List ℕ → Step
-by_fate Kept asking before size clock packet = kept_at size clock (moment_by asking.times clock packet) packet
+by_fate Kept asking before size clock packet = kept_at before size clock (moment_by asking.times clock packet) packet
 by_fate fate asking before size clock packet = nothing (LeftOut size before fate) clock
 
 -- a step, by what is in front
@@ -96,7 +105,7 @@ next_step asking clock bytes = by_front (front_for asking bytes) asking clock by
 
 -- the number of bytes that a step passes; none if the import stops there
 abbrev pub passed : Met → Option ℕ
-passed (Taken size) = Some size
+passed (Taken size before mid count time_break) = Some size
 passed (LeftOut size before fate) = Some size
 passed (Stands (Gap size)) = Some size
 passed (Stands Stray) = Some 1
@@ -155,3 +164,12 @@ ImportsInPieces = (asking : Asking) (last : Resync) (clock : Clocked) (first nex
     imported (with_resync last asking) clock (first ++ next)
     ≡ behind (imported asking clock first).written
     (imported (with_resync last asking) (imported asking clock first).clock ((imported asking clock first).left ++ next))
+
+-- there is a next tick: after this second, and at most two periods after it
+abbrev pub ComesSoon : ℕ → ℕ → Option ℕ → Type 0
+ComesSoon period second None = ⊥
+ComesSoon period second (Some tick) = (second < tick) × (tick ≤ second + 2 * period)
+
+-- where ticks come they go on: after each packet taken, whatever its time and that of the packet before it, the next one comes soon
+abbrev pub TicksGoOn : Type 0
+TicksGoOn = (clock : Clocked) (moment : Moment) → 0 < clock.period → ComesSoon clock.period moment.seconds (clock_at clock moment).next

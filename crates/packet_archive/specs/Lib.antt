@@ -1,3 +1,4 @@
+pub mod Breaks
 pub mod Choice
 pub mod Clock
 pub mod Export

@@ -1,10 +1,9 @@
 -- What an import passes of an archive, part by part. This project's own.
-use Rattle.std.specs.Prelude.{◌≡◌, ℕ, zero, suc, ◌+◌, false, List, [], ◌∷◌, ◌++◌, length, take, drop, map, Option, Some, None}
+use Rattle.std.specs.Prelude.{◌≡◌, ℕ, zero, suc, ◌+◌, List, [], ◌∷◌, ◌++◌, length, take, drop, map, Option, Some, None}
 use Rattle.std.specs.List.{concat}
 use Rattle.packet_archive.specs.declared.front.Resync.TheVariants.{AtEnd}
 use Rattle.packet_archive.specs.declared.import.Met.{Met}
 use Rattle.packet_archive.specs.Clock.{Clocked}
-use Rattle.packet_archive.specs.Export.{is_leap_met}
 use Rattle.packet_archive.specs.Import.{Asking, Step, imported, next_step, passed}
 
 -- the bytes that a step passes, with what it met: a packet that became a record or was left out, a gap of zeros, or a skipped byte;
@@ -28,11 +27,10 @@ parts_of asking clock bytes = parts_within (length bytes + 1) asking clock bytes
 abbrev pub bytes_of : List (Met × List ℕ) → List ℕ
 bytes_of parts = concat (map (λ (part : Met × List ℕ). part.1) parts)
 
--- Each byte of an archive is in one part or is left. An import that resynchronizes, of the last bytes of an archive, leaves none,
--- unless a packet is too late.
+-- Each byte of an archive is in one part or is left. An import that resynchronizes, of the last bytes of an archive, leaves none.
 pub record HasPlaces (asking : Asking) (clock : Clocked) (archive : List ℕ) : Type 0 where
   pub all : bytes_of (parts_of asking clock archive) ++ (imported asking clock archive).left ≡ archive
-  pub none_left : asking.resync ≡ AtEnd → is_leap_met (imported asking clock archive).met ≡ false → (imported asking clock archive).left ≡ []
+  pub none_left : asking.resync ≡ AtEnd → (imported asking clock archive).left ≡ []
 
 abbrev pub EachByteHasAPlace : Type 0
 EachByteHasAPlace = (asking : Asking) (clock : Clocked) (archive : List ℕ) → HasPlaces asking clock archive

@@ -1,13 +1,16 @@
 -- What an import counts and names. This project's own.
-use Rattle.std.specs.Prelude.{ℕ, zero, suc, ◌+◌, ◌-◌, ◌^◌, ◌==◌, Bool, false, List, drop, is_some, length, min, nat_lt, replicate, slice_set, Option, Some, None, if◌then◌else◌}
+use Rattle.std.specs.Prelude.{ℕ, zero, suc, ◌+◌, ◌-◌, ◌%◌, ◌^◌, ◌==◌, Bool, false, not, ◌&&◌, ◌||◌, List, drop, is_some, length, min, nat_lt, replicate, slice_index_or, slice_set, Option, Some, None, if◌then◌else◌}
+use Rattle.lc_model.specs.Packet.{count_end}
 use Rattle.packet_archive.specs.declared.choice.Fate.{Fate}
 use Rattle.packet_archive.specs.declared.choice.Fate.TheVariants.{Idle, Faulty}
 use Rattle.packet_archive.specs.declared.front.ArchiveFront.{ArchiveFront}
 use Rattle.packet_archive.specs.declared.front.ArchiveFront.TheVariants.{Gap, Stray}
+use Rattle.packet_archive.specs.declared.clock.TimeBreak.{TimeBreak}
 use Rattle.packet_archive.specs.declared.import.Met.{Met}
-use Rattle.packet_archive.specs.declared.import.Met.TheVariants.{Taken, LeftOut, Leap, Stands}
+use Rattle.packet_archive.specs.declared.import.Met.TheVariants.{Taken, LeftOut, Stands}
 use Rattle.packet_archive.specs.declared.tally.SkippedPart.{SkippedPart}
 use Rattle.packet_archive.specs.declared.tally.Tally.{Tally}
+use Rattle.packet_archive.specs.Choice.{idle_application, is_command_id}
 use Rattle.packet_archive.specs.Clock.{Clocked}
 use Rattle.packet_archive.specs.Import.{Asking, Step, next_step, passed}
 
@@ -15,9 +18,13 @@ use Rattle.packet_archive.specs.Import.{Asking, Step, next_step, passed}
 abbrev pub counted : ℕ → ℕ → ℕ
 counted count more = min (count + more) (2 ^ 64 - 1)
 
--- how many packets with a fault are named, and how many skipped parts
+-- how many packets with a fault are named, and how many breaks in time, gaps in sequence counts, and skipped parts
 abbrev pub named : ℕ
 named = 10
+
+-- the number of application ids, of which each has sequence counts of its own (CCSDS 133.0-B)
+abbrev pub applications : ℕ
+applications = 2048
 
 -- nothing was met
 abbrev pub nothing_met : Tally
@@ -28,6 +35,11 @@ nothing_met = record {
   other = 0;
   faulty = 0;
   first = replicate named None;
+  breaks = 0;
+  first_breaks = replicate named None;
+  gaps = 0;
+  first_gaps = replicate named None;
+  counts = replicate applications None;
   zeros = 0;
   first_zero = None;
   skipped = 0;
@@ -42,6 +54,54 @@ fault_noted before fault t = record t {
   first = if nat_lt t.faulty named then slice_set t.first t.faulty (Some (record { at = counted t.bytes before; fault = fault })) else t.first;
   faulty = counted t.faulty 1;
 }
+
+-- counts the break in time before a packet, if there is one, after `before` bytes of its marker; the first ten are named, each with the
+-- byte at which the packet begins
+abbrev pub break_noted : ℕ → Option TimeBreak → Tally → Tally
+break_noted before None t = t
+break_noted before (Some times) t = record t {
+  first_breaks =
+      if nat_lt t.breaks named then slice_set t.first_breaks t.breaks (Some (record { at = counted t.bytes before; is_first = t.taken == 0; times = times }))
+      else t.first_breaks;
+  breaks = counted t.breaks 1;
+}
+
+-- the sequence count of the last packet of this message id's application that was taken, if there is one
+abbrev pub last_count : ℕ → Tally → Option ℕ
+last_count mid t = slice_index_or t.counts (mid % applications) None
+
+-- whether a sequence count is the next one after the last
+abbrev pub is_next : ℕ → ℕ → Bool
+is_next last count = count == (last + 1) % count_end
+
+-- counts the gap before a packet, if its sequence count is not the next one; the first ten are named, each with the byte at which the
+-- packet begins
+abbrev pub gap_noted : ℕ → ℕ → ℕ → Option ℕ → Tally → Tally
+gap_noted before mid count None t = t
+gap_noted before mid count (Some last) t =
+    if is_next last count then t
+    else record t {
+      first_gaps =
+          if nat_lt t.gaps named then slice_set t.first_gaps t.gaps (Some (record { at = counted t.bytes before; mid = mid; last = last; count = count }))
+          else t.first_gaps;
+      gaps = counted t.gaps 1;
+    }
+
+-- notes a sequence count as the last one
+abbrev pub count_noted : ℕ → ℕ → Tally → Tally
+count_noted mid count t = record t { counts = slice_set t.counts (mid % applications) (Some count) }
+
+-- whether sequence counts of a message id are looked at: those of telemetry that isn't idle. Commands have the counts of who sends them.
+abbrev pub is_counted : ℕ → Bool
+is_counted mid = not (is_command_id mid) && not (mid % 2048 == idle_application)
+
+-- counts a packet's sequence count, with the gap before it
+abbrev pub sequence_noted : ℕ → ℕ → ℕ → Tally → Tally
+sequence_noted before mid count t = if is_counted mid then count_noted mid count (gap_noted before mid count (last_count mid t) t) else t
+
+-- counts a packet that became a record
+abbrev pub taken_noted : Tally → Tally
+taken_noted t = record t { taken = counted t.taken 1; last_part = None }
 
 -- counts a packet that is left out
 abbrev pub left_out_noted : ℕ → Fate → Tally → Tally
@@ -86,6 +146,10 @@ skipped_noted size t = record t {
 abbrev pub ends_skipped : Tally → Bool
 ends_skipped t = is_some t.last_part
 
+-- whether there is a warning: time breaks in the archive, or at its begin, or there is a gap in sequence counts
+abbrev pub has_warning : Tally → Bool
+has_warning t = nat_lt 0 t.breaks || nat_lt 0 t.gaps
+
 -- counts a front that isn't a packet; zeros right behind skipped bytes are skipped, too
 abbrev pub front_noted : ArchiveFront → Tally → Tally
 front_noted (Gap size) t = if joins t.bytes t.last_part then skipped_noted size t else zeros_noted size t
@@ -94,10 +158,9 @@ front_noted front t = t
 
 -- counts what was met, without its bytes
 abbrev pub met_noted : Met → Tally → Tally
-met_noted (Taken size) t = record t { taken = counted t.taken 1; last_part = None }
+met_noted (Taken size before mid count time_break) t = taken_noted (sequence_noted before mid count (break_noted before time_break t))
 met_noted (LeftOut size before fate) t = left_out_noted before fate (record t { last_part = None })
 met_noted (Stands front) t = front_noted front t
-met_noted Leap t = t
 
 -- counts passed bytes
 abbrev pub bytes_noted : Option ℕ → Tally → Tally

@@ -3,14 +3,15 @@
 ghost use Rattle.std.specs.Prelude.{◌≡◌, ◌≤◌, ◌==◌, length};
 ghost use Rattle.std.specs.List.{list_any};
 ghost use Rattle.lc_model.specs.Packet.{primary_header_size};
-ghost use Rattle.packet_archive.specs.Choice.{fate_of, is_asked_for, is_idle};
+ghost use Rattle.packet_archive.specs.Choice.{fate_of, is_asked_for, is_command_id, is_idle, meant_id};
 
+use crate::front::{COMMAND, MESSAGE_ID_END, SECONDARY_HEADER};
 use lc_model::packet::{message_id, stream_fault};
 use lc_model::stream::LONGEST_BODY;
 use std::marker::Model;
 
 /// The application id of idle packets, which only fill time (CCSDS 133.0-B).
-const IDLE: u16 = 0x07FF;
+pub(crate) const IDLE: u16 = 0x07FF;
 
 /// The fault number of a packet of over 2,048 bytes.
 const LONG: u8 = 6;
@@ -53,6 +54,25 @@ pub(crate) fn is_idle(packet: &[u8]) -> bool
     ensures { result ≡ is_idle packet.now }
 {
     message_id(packet) % 2_048 == IDLE
+}
+
+/// Whether a message id is that of commands.
+pub(crate) fn is_command_id(mid: u16) -> bool
+    ensures { result ≡ is_command_id mid }
+{
+    mid / COMMAND % 2 == 1
+}
+
+/// The message id that was probably meant by one without the bit of a secondary header, which every packet without a fault has; `None`
+/// for any other id.
+pub(crate) fn meant_id(mid: u16) -> Option<u16>
+    ensures { result ≡ meant_id mid }
+{
+    if mid < MESSAGE_ID_END && mid / SECONDARY_HEADER % 2 == 0 {
+        Some(mid + SECONDARY_HEADER)
+    } else {
+        None
+    }
 }
 
 impl Choice<'_> {

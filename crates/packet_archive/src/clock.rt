@@ -2,7 +2,7 @@
 
 ghost use Rattle.std.specs.Prelude.{◌≡◌, ◌≤◌, ◌<◌, length};
 ghost use Rattle.lc_model.specs.Packet.{primary_header_size};
-ghost use Rattle.packet_archive.specs.Clock.{has_time, moment_after, moment_by, next_count, next_tick, stopped, ticks_due, IsNextTick};
+ghost use Rattle.packet_archive.specs.Clock.{break_at, elapsed, has_time, is_before, is_far, is_leap, moment_after, moment_by, next_count, next_tick, stopped, tick_before, ticks_due, IsNextTick};
 
 use crate::front::COMMAND;
 use lc_model::packet::message_id;
@@ -15,6 +15,9 @@ const SECONDS_END: u128 = 4_294_967_296;
 /// The parts of a second in which a step is said.
 const MILLIONTHS: u128 = 1_000_000;
 
+/// The most ticks between two packets: one each second for a day.
+const MOST_TICKS: u64 = 86_400;
+
 /// The source of the packets' times.
 #[derive(Clone, Copy, Debug, PartialEq, Eq)]
 pub enum Times {
@@ -24,6 +27,16 @@ pub enum Times {
     /// No times in the packets: each comes `step` millionths of a second after the one before, the first after one step. Its moment is
     /// the number of packets times the step, rounded down once to 65,536ths of a second.
     Steps { step: u64 },
+}
+
+/// A break in time: the moments of two packets taken, one after the other, of which the second is before the first, or so late that more
+/// than 86,400 ticks would come between them.
+#[derive(Clone, Copy, Debug, PartialEq, Eq)]
+pub struct TimeBreak {
+    /// The moment of the packet before the break.
+    pub from: Moment,
+    /// The moment of the packet after it.
+    pub to: Moment,
 }
 
 /// The clock of an import: the seconds between ticks (0: no ticks), the last packet's moment, the number of packets, and the second of
@@ -115,6 +128,43 @@ impl Times {
     }
 }
 
+/// A moment in 65,536ths of a second.
+fn elapsed(moment: Moment) -> u64
+    ensures { result ≡ elapsed moment }
+{
+    u64::from(moment.seconds) * u64::from(SUBSECONDS) + u64::from(moment.subseconds)
+}
+
+/// Whether a moment is before another.
+fn is_before(moment: Moment, other: Moment) -> bool
+    ensures { result ≡ is_before moment other }
+{
+    elapsed(moment) < elapsed(other)
+}
+
+impl TimeBreak {
+    /// Whether time steps back; otherwise it leaps.
+    pub fn is_back(self) -> bool
+        ensures { result ≡ is_before self.to self.from }
+    {
+        is_before(self.to, self.from)
+    }
+}
+
+impl Clock {
+    /// The break in time before a packet of this moment; `None` if time goes on.
+    pub fn break_at(&self, moment: Moment) -> Option<TimeBreak>
+        ensures exact { result ≡ break_at self.now moment }
+    {
+        let from = self.last;
+        if is_before(moment, from) || is_leap(self.period, self.next, moment.seconds) {
+            Some(TimeBreak { from, to: moment })
+        } else {
+            None
+        }
+    }
+}
+
 /// The number of ticks due up to `second`, if the next one is at `next` and one comes every `period` seconds; 0 without a period or
 /// a next tick.
 pub(crate) fn ticks_due(period: u32, next: Option<u64>, second: u32) -> u64
@@ -124,6 +174,33 @@ pub(crate) fn ticks_due(period: u32, next: Option<u64>, second: u32) -> u64
     match next {
         Some(next) if period > 0 && next <= second => (second - next) / u64::from(period) + 1,
         _ => 0,
+    }
+}
+
+/// Whether more than 86,400 ticks would come up to this second.
+fn is_leap(period: u32, next: Option<u64>, second: u32) -> bool
+    ensures { result ≡ is_leap period next second }
+{
+    ticks_due(period, next, second) > MOST_TICKS
+}
+
+/// Whether a tick is over two periods after this second.
+fn is_far(period: u32, tick: u64, second: u32) -> bool
+    ensures { result ≡ is_far period tick second }
+{
+    u64::from(second) + 2 * u64::from(period) < tick
+}
+
+/// The second of the next tick as a packet of this second finds it; `None` if ticks begin anew there: at the first packet, after a leap,
+/// and if time stepped back so far that the tick would come over two periods after the packet.
+pub(crate) fn tick_before(period: u32, next: Option<u64>, second: u32) -> Option<u64>
+    requires { IsNextTick period next }
+    ensures tick { result ≡ tick_before period next second }
+    ensures stays { IsNextTick period result }
+{
+    match next {
+        Some(tick) if is_leap(period, next, second) || is_far(period, tick, second) => None,
+        _ => next,
     }
 }
 

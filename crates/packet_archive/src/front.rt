@@ -18,13 +18,13 @@ const PRIMARY_HEADER: usize = 6;
 const LENGTH_OFFSET: usize = 7;
 
 /// Message ids of version 0 are below this number.
-const MESSAGE_ID_END: u16 = 8_192;
+pub(crate) const MESSAGE_ID_END: u16 = 8_192;
 
 /// The bit of a message id that makes a packet a command.
 pub(crate) const COMMAND: u16 = 0x1000;
 
 /// The bit of a message id that says that a secondary header follows.
-const SECONDARY_HEADER: u16 = 0x0800;
+pub(crate) const SECONDARY_HEADER: u16 = 0x0800;
 
 /// What is at the front of the rest of an archive.
 #[derive(Clone, Copy, Debug, PartialEq, Eq)]

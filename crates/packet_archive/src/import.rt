@@ -4,15 +4,16 @@ ghost use Rattle.std.specs.Prelude.{◌≡◌, ◌≤◌, ◌++◌, Some, length
 ghost use Rattle.lc_model.specs.Host.Stream.{max_body};
 ghost use Rattle.lc_model.specs.Packet.{primary_header_size};
 ghost use Rattle.packet_archive.specs.Clock.{moment_by, ticks_due, IsNextTick};
-ghost use Rattle.packet_archive.specs.Import.{kept_at, imported, next_step, passed, ticks, ticks_before};
+ghost use Rattle.packet_archive.specs.Import.{kept_at, imported, next_step, passed, sequence_count, ticks, ticks_before};
 ghost use Rattle.packet_archive.specs.Tally.{tallied};
 
 use crate::choice::{Choice, Fate};
-use crate::clock::{Clock, Times, next_count, next_tick, ticks_due};
+use crate::clock::{Clock, TimeBreak, Times, next_count, next_tick, tick_before};
 use crate::front::{ArchiveFront, Resync, front_by};
 use crate::record::push_record;
 use crate::tally::Tally;
-use lc_model::Moment;
+use lc_model::packet::{COUNT_END, message_id};
+use lc_model::{Moment, u16_at};
 use std::alloc::AllocError;
 use std::marker::Model;
 
@@ -22,19 +23,16 @@ const PACKET: u8 = 1;
 /// The kind of a tick.
 const TICK: u8 = 2;
 
-/// The most ticks between two packets: one each second for a day.
-const MOST_TICKS: u64 = 86_400;
-
 impl Met {
     /// The number of bytes that the step passed; `None` if the import stops here.
     pub fn size_behind(self) -> Option<usize>
         ensures { result ≡ passed self }
     {
         match self {
-            Met::Taken(size) | Met::LeftOut { size, .. } => Some(size),
+            Met::Taken { size, .. } | Met::LeftOut { size, .. } => Some(size),
             Met::Stands(ArchiveFront::Gap { size }) => Some(size),
             Met::Stands(ArchiveFront::Stray) => Some(1),
-            Met::Stands(_) | Met::Leap => None,
+            Met::Stands(_) => None,
         }
     }
 }
@@ -82,60 +80,85 @@ impl<'a> Model for ImportOptions<'a> {
 /// What one step of an import met at the front of the rest of an archive.
 #[derive(Clone, Copy, Debug, PartialEq, Eq)]
 pub enum Met {
-    /// A packet that became a record, and its size in bytes with its marker.
-    Taken(usize),
+    /// A packet that became a record: its size in bytes with its marker, the size of its marker, its message id and sequence count, and
+    /// the break in time before it.
+    Taken {
+        size: usize,
+        before: usize,
+        mid: u16,
+        count: u16,
+        time_break: Option<TimeBreak>,
+    },
     /// A packet that was left out: its size in bytes with its marker, the size of its marker, and why.
     LeftOut {
         size: usize,
         before: usize,
         fate: Fate,
     },
-    /// A packet so late that more than 86,400 ticks would come before it. Nothing was written for it.
-    Leap,
     /// Not a whole packet: what is there instead.
     Stands(ArchiveFront),
 }
 
-/// Appends the records of the ticks that are due up to this second. The only error is a lack of memory.
-fn push_due(out: &mut Vec<u8>, clock: &Clock, second: u32) -> Result<(), AllocError>
-    ensures { IfOk result (λ _. out.new.items ≡
-        out.old.items ++ ticks_before clock.now.period clock.now.next second) }
+/// The sequence count of a packet that has its primary header.
+fn sequence_count(packet: &[u8]) -> u16
+    requires { primary_header_size ≤ length packet.now }
+    ensures { result ≡ sequence_count packet.now }
 {
-    match clock.next {
-        Some(next) => push_ticks(out, clock.period, next, second),
+    u16_at(packet, 2) % COUNT_END
+}
+
+/// Appends the records of the ticks that are due up to this second, if the next one is at `next`. The only error is a lack of memory.
+fn push_due(
+    out: &mut Vec<u8>,
+    period: u32,
+    next: Option<u64>,
+    second: u32,
+) -> Result<(), AllocError>
+    requires { IsNextTick period next }
+    ensures { IfOk result (λ _. out.new.items ≡
+        out.old.items ++ ticks_before period next second) }
+{
+    match next {
+        Some(next) => push_ticks(out, period, next, second),
         None => Ok(()),
     }
 }
 
-/// Appends the ticks that are due by a packet, and the packet's record. If the ticks are too many, appends nothing and returns
-/// `Leap`. `size` is the packet's size with its marker. The only error is a lack of memory.
+/// Appends the ticks that are due by a packet, and the packet's record, which is after `before` bytes of its marker; `size` is the
+/// packet's size with its marker. The only error is a lack of memory.
 fn keep(
     out: &mut Vec<u8>,
     clock: &mut Clock,
     times: Times,
+    before: usize,
     size: usize,
     packet: &[u8],
 ) -> Result<Met, AllocError>
     requires header { primary_header_size ≤ length packet.now }
     requires fits { length packet.now ≤ max_body }
     ensures met { let moment = moment_by times clock.old packet.now in
-        IfOk result (λ met. met ≡ (kept_at size clock.old moment packet.now).met) }
+        IfOk result (λ met. met ≡ (kept_at before size clock.old moment packet.now).met) }
     ensures written { let moment = moment_by times clock.old packet.now in
         IfOk result (λ _. out.new.items ≡
-        out.old.items ++ (kept_at size clock.old moment packet.now).written) }
+        out.old.items ++ (kept_at before size clock.old moment packet.now).written) }
     ensures clock { let moment = moment_by times clock.old packet.now in
-        IfOk result (λ _. clock.new ≡ (kept_at size clock.old moment packet.now).clock) }
+        IfOk result (λ _. clock.new ≡ (kept_at before size clock.old moment packet.now).clock) }
 {
     let moment = times.moment_of(clock, packet);
-    if ticks_due(clock.period, clock.next, moment.seconds) > MOST_TICKS {
-        return Ok(Met::Leap);
-    }
-    push_due(out, clock, moment.seconds)?;
+    let time_break = clock.break_at(moment);
+    let tick = tick_before(clock.period, clock.next, moment.seconds);
+    push_due(out, clock.period, tick, moment.seconds)?;
     push_record(out, PACKET, moment, packet)?;
-    clock.next = next_tick(clock.period, clock.next, moment.seconds);
+    clock.next = next_tick(clock.period, tick, moment.seconds);
     clock.last = moment;
     clock.count = next_count(clock.count);
-    Ok(Met::Taken(size))
+    Ok(Met::Taken {
+        size,
+        before,
+        mid: message_id(packet),
+        count: sequence_count(packet),
+        time_break,
+    })
 }
 
 /// Makes one step of an import at the front of the rest of an archive: appends records to `out`, advances the clock, and returns what
@@ -160,7 +183,7 @@ pub fn import_next(
             let (packet, _) = behind.split_at(size);
             match asked.choice.fate(packet) {
                 Fate::Kept => {
-                    let met = keep(out, clock, asked.times, before + size, packet)?;
+                    let met = keep(out, clock, asked.times, before, before + size, packet)?;
                     Ok(met)
                 }
                 fate => Ok(Met::LeftOut {
@@ -174,9 +197,8 @@ pub fn import_next(
     }
 }
 
-/// Imports packet after packet from these bytes until a step passes no bytes (`size_behind`): at the end, a packet cut short, bytes
-/// that aren't a packet and aren't skipped, or a `Leap`. Returns the bytes that are left and what was met there. The only error is a
-/// lack of memory.
+/// Imports packet after packet from these bytes until a step passes no bytes (`size_behind`): at the end, a packet cut short, or bytes
+/// that aren't a packet and aren't skipped. Returns the bytes that are left and what was met there. The only error is a lack of memory.
 pub fn import_held<'a>(
     out: &mut Vec<u8>,
     clock: &mut Clock,

@@ -1,7 +1,8 @@
 //! The laws of imports and exports, each stated by a function with an empty body.
 
+ghost use Rattle.packet_archive.specs.Breaks.{StepsBackAreReported};
 ghost use Rattle.packet_archive.specs.Export.{ArchivesAreGivenBack, ExportsGoOn, ExportsInPieces, ImportsAreGivenBack};
-ghost use Rattle.packet_archive.specs.Import.{ImportsInPieces};
+ghost use Rattle.packet_archive.specs.Import.{ImportsInPieces, TicksGoOn};
 ghost use Rattle.packet_archive.specs.Parts.{EachByteHasAPlace};
 
 /// States that an archive imported in pieces gives the same stream as a whole, if the rest of each piece goes before the next.
@@ -10,9 +11,19 @@ pub fn imports_in_pieces()
 {}
 
 /// States that each byte of an archive is in a packet, a gap of zeros or a skipped part, or is left; and that an import that
-/// resynchronizes leaves none at an archive's end, unless a packet is too late.
+/// resynchronizes leaves none at an archive's end.
 pub fn imports_lose_no_byte()
     ensures { EachByteHasAPlace }
+{}
+
+/// States that ticks go on after each packet taken, whatever its time: the next one comes at most two periods after it.
+pub fn ticks_go_on()
+    ensures { TicksGoOn }
+{}
+
+/// States that an import reports exactly the steps back between a packet of its stream and the next, each with both moments.
+pub fn steps_back_are_reported()
+    ensures { StepsBackAreReported }
 {}
 
 /// States that the export of streams one after the other is the exports of each, one after the other.
@@ -25,7 +36,8 @@ pub fn exports_in_pieces()
     ensures { ExportsInPieces }
 {}
 
-/// States that an import, exported again, gives byte for byte the packets of the archive that became records, with any options.
+/// States that an import, exported again, gives byte for byte the packets of the archive that are asked for, with any options and
+/// any times.
 pub fn imports_are_given_back()
     ensures { ImportsAreGivenBack }
 {}

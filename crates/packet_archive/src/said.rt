@@ -1,9 +1,11 @@
 //! The report of an import, in lines.
 
 ghost use Rattle.std.specs.Prelude.{Some, flat_map};
-ghost use Rattle.packet_archive.specs.Said.{end_line, fault_line, fault_words, left_out_words, more_line, more_parts_line, packet_lines, part_line, report_lines, skipped_lines, taken_line, zeros_line};
+ghost use Rattle.packet_archive.specs.Said.{end_line, fault_line, fault_words, left_out_words, more_line, more_parts_line, order_lines, packet_lines, part_line, report_lines, skipped_lines, taken_line, zeros_line};
 
+use crate::break_lines::BreakLines;
 use crate::front::ArchiveFront;
+use crate::gap_lines::GapLines;
 use crate::import::Met;
 use crate::tally::{Faulty, NAMED, SkippedPart, Tally};
 use std::fmt::{self, Display, Formatter, Write};
@@ -292,10 +294,6 @@ impl Display for EndLine<'_> {
                 f,
                 "{name}: byte {at}: no marker 1ACFFC1D stands here; what follows is not read\n"
             ),
-            Met::Leap => write!(
-                f,
-                "{name}: byte {at}: a packet so late that over 86,400 ticks would come before it; what follows is not read\n"
-            ),
             _ => Ok(()),
         }
     }
@@ -335,8 +333,27 @@ impl Display for PacketLines<'_> {
     }
 }
 
-/// The report of an import. It displays as lines: how many packets were taken and left out, the first packets with a fault, what was
-/// skipped, the first zero bytes, and where the archive ends early.
+/// The lines about the order of packets: breaks in time, and gaps in sequence counts.
+#[derive(Clone, Copy)]
+struct OrderLines<'a> {
+    name: &'a str,
+    tally: &'a Tally,
+}
+
+impl Display for OrderLines<'_> {
+    ghost output = { λ l. Some (order_lines l.name.now l.tally.now) };
+
+    fn fmt<W: Write>(&self, f: &mut Formatter<W>) -> fmt::Result {
+        let name = self.name;
+        let tally = self.tally;
+        let breaks = BreakLines { name, tally };
+        let gaps = GapLines { name, tally };
+        write!(f, "{breaks}{gaps}")
+    }
+}
+
+/// The report of an import. It displays as lines: how many packets were taken and left out, the first packets with a fault, the first
+/// breaks in time and gaps in sequence counts, what was skipped, the first zero bytes, and where the archive ends early.
 #[derive(Drop)]
 pub struct Report<'a> {
     /// The archive's name.
@@ -356,6 +373,7 @@ impl Display for Report<'_> {
         let name = self.name;
         let tally = self.tally;
         let packets = PacketLines { name, tally };
+        let order = OrderLines { name, tally };
         let skipped = SkippedLines { name, tally };
         let zeros = ZerosLine {
             name,
@@ -368,6 +386,6 @@ impl Display for Report<'_> {
             left: self.left,
             met: self.met,
         };
-        write!(f, "{packets}{skipped}{zeros}{end}")
+        write!(f, "{packets}{order}{skipped}{zeros}{end}")
     }
 }

@@ -1,14 +1,19 @@
 //! What an import counts.
 
 ghost use Rattle.std.specs.Prelude.{◌≡◌};
-ghost use Rattle.packet_archive.specs.Tally.{bytes_noted, counted, ends_skipped, fault_noted, front_noted, joins, left_out_noted, met_noted, noted, nothing_met, part_with, parts_before, skipped_noted, zeros_noted};
+ghost use Rattle.packet_archive.specs.Tally.{break_noted, bytes_noted, count_noted, counted, ends_skipped, fault_noted, front_noted, gap_noted, has_warning, is_counted, is_next, joins, last_count, left_out_noted, met_noted, noted, nothing_met, part_with, parts_before, sequence_noted, skipped_noted, taken_noted, zeros_noted};
 
-use crate::choice::Fate;
+use crate::choice::{Fate, IDLE, is_command_id};
+use crate::clock::TimeBreak;
 use crate::front::ArchiveFront;
 use crate::import::Met;
+use lc_model::packet::COUNT_END;
 
-/// The most packets with a fault that are named in the report, and the most skipped parts.
+/// The most packets with a fault that are named in the report, and the most breaks in time, gaps in sequence counts, and skipped parts.
 pub const NAMED: usize = 10;
+
+/// The number of application ids.
+pub const APPLICATIONS: usize = 2_048;
 
 /// A packet with a fault.
 #[derive(Clone, Copy, Debug, PartialEq, Eq)]
@@ -19,6 +24,30 @@ pub struct Faulty {
     pub fault: u8,
 }
 
+/// A break in the times of an archive's packets.
+#[derive(Clone, Copy, Debug, PartialEq, Eq)]
+pub struct Break {
+    /// The byte of the archive at which the packet after the break begins, after its marker; counted from 0.
+    pub at: u64,
+    /// Whether this packet is the first that was taken of the archive.
+    pub is_first: bool,
+    /// The times on both sides of the break.
+    pub times: TimeBreak,
+}
+
+/// A gap in the sequence counts of a message id: packets are missing, or the count began again.
+#[derive(Clone, Copy, Debug, PartialEq, Eq)]
+pub struct SequenceGap {
+    /// The byte of the archive at which the packet after the gap begins, after its marker; counted from 0.
+    pub at: u64,
+    /// The message id of this packet.
+    pub mid: u16,
+    /// The sequence count of the packet before the gap.
+    pub last: u16,
+    /// The sequence count of the packet after it.
+    pub count: u16,
+}
+
 /// Bytes of an archive that were skipped, one after the other.
 #[derive(Clone, Copy, Debug, PartialEq, Eq)]
 pub struct SkippedPart {
@@ -26,6 +55,20 @@ pub struct SkippedPart {
     pub at: u64,
     /// The number of these bytes.
     pub size: u64,
+}
+
+/// Whether sequence counts of a message id are looked at: those of telemetry that isn't idle.
+fn is_counted(mid: u16) -> bool
+    ensures { result ≡ is_counted mid }
+{
+    !is_command_id(mid) && mid % 2_048 != IDLE
+}
+
+/// Whether a sequence count is the next one after the last.
+fn is_next(last: u16, count: u16) -> bool
+    ensures { result ≡ is_next last count }
+{
+    u32::from(count) == (u32::from(last) + 1) % u32::from(COUNT_END)
 }
 
 impl SkippedPart {
@@ -52,6 +95,16 @@ pub struct Tally {
     pub faulty: u64,
     /// The first of these packets, in order.
     pub first: [Option<Faulty>; NAMED],
+    /// Breaks in time.
+    pub breaks: u64,
+    /// The first of these breaks, in order.
+    pub first_breaks: [Option<Break>; NAMED],
+    /// Gaps in sequence counts.
+    pub gaps: u64,
+    /// The first of these gaps, in order.
+    pub first_gaps: [Option<SequenceGap>; NAMED],
+    /// For each application id the sequence count of the last packet that was taken.
+    pub counts: [Option<u16>; APPLICATIONS],
     /// Zero bytes between packets.
     pub zeros: u64,
     /// The byte of the archive with the first of them, counted from 0.
@@ -78,6 +131,11 @@ impl Tally {
             other: 0,
             faulty: 0,
             first: [None; NAMED],
+            breaks: 0,
+            first_breaks: [None; NAMED],
+            gaps: 0,
+            first_gaps: [None; NAMED],
+            counts: [None; APPLICATIONS],
             zeros: 0,
             first_zero: None,
             skipped: 0,
@@ -87,6 +145,13 @@ impl Tally {
         }
     }
 
+    /// The byte at which the packet in front begins, after `before` bytes of its marker.
+    fn packet_at(&self, before: usize) -> u64
+        ensures { result ≡ counted self.now.bytes before }
+    {
+        self.bytes.saturating_add(before as u64)
+    }
+
     /// Counts a packet with a fault, after `before` bytes of its marker.
     fn note_fault(&mut self, before: usize, fault: u8)
         ensures { self.new ≡ fault_noted before fault self.old }
@@ -94,11 +159,82 @@ impl Tally {
         let place = self.faulty;
         if place < NAMED as u64 {
             self.first[place as usize] = Some(Faulty {
-                at: self.bytes.saturating_add(before as u64),
+                at: self.packet_at(before),
                 fault,
             });
         }
         self.faulty = self.faulty.saturating_add(1);
+    }
+
+    /// Counts the break in time before a packet, if there is one, after `before` bytes of its marker.
+    fn note_break(&mut self, before: usize, time_break: Option<TimeBreak>)
+        ensures { self.new ≡ break_noted before time_break self.old }
+    {
+        if let Some(times) = time_break {
+            let number = self.breaks;
+            if number < NAMED as u64 {
+                self.first_breaks[number as usize] = Some(Break {
+                    at: self.packet_at(before),
+                    is_first: self.taken == 0,
+                    times,
+                });
+            }
+            self.breaks = self.breaks.saturating_add(1);
+        }
+    }
+
+    /// Counts the gap before a packet, if its sequence count is not the next one after the last, after `before` bytes of its marker.
+    fn note_gap(&mut self, before: usize, mid: u16, count: u16, last: Option<u16>)
+        ensures { self.new ≡ gap_noted before mid count last self.old }
+    {
+        match last {
+            Some(last) if !is_next(last, count) => {
+                let number = self.gaps;
+                if number < NAMED as u64 {
+                    self.first_gaps[number as usize] = Some(SequenceGap {
+                        at: self.packet_at(before),
+                        mid,
+                        last,
+                        count,
+                    });
+                }
+                self.gaps = self.gaps.saturating_add(1);
+            }
+            _ => {}
+        }
+    }
+
+    /// The sequence count of the last packet of this message id's application that was taken.
+    fn last_count(&self, mid: u16) -> Option<u16>
+        ensures { result ≡ last_count mid self.now }
+    {
+        self.counts[usize::from(mid) % APPLICATIONS]
+    }
+
+    /// Notes a sequence count as the last one of a message id's application.
+    fn note_count(&mut self, mid: u16, count: u16)
+        ensures { self.new ≡ count_noted mid count self.old }
+    {
+        self.counts[usize::from(mid) % APPLICATIONS] = Some(count);
+    }
+
+    /// Counts a packet's sequence count, with the gap before it; the packet is after `before` bytes of its marker.
+    fn note_sequence(&mut self, before: usize, mid: u16, count: u16)
+        ensures { self.new ≡ sequence_noted before mid count self.old }
+    {
+        if is_counted(mid) {
+            let last = self.last_count(mid);
+            self.note_gap(before, mid, count, last);
+            self.note_count(mid, count);
+        }
+    }
+
+    /// Counts a packet that became a record.
+    fn note_taken(&mut self)
+        ensures { self.new ≡ taken_noted self.old }
+    {
+        self.last_part = None;
+        self.taken = self.taken.saturating_add(1);
     }
 
     /// Counts a packet that is left out, after `before` bytes of its marker.
@@ -121,6 +257,13 @@ impl Tally {
             None => Some(self.bytes),
         };
         self.zeros = self.zeros.saturating_add(size as u64);
+    }
+
+    /// Whether there is a warning: time breaks in the archive, or at its begin, or there is a gap in sequence counts.
+    pub fn has_warning(&self) -> bool
+        ensures exact { result ≡ has_warning self.now }
+    {
+        self.breaks > 0 || self.gaps > 0
     }
 
     /// Whether bytes were skipped behind the last packet.
@@ -200,16 +343,22 @@ impl Tally {
         ensures { self.new ≡ met_noted met self.old }
     {
         match met {
-            Met::Taken(_) => {
-                self.last_part = None;
-                self.taken = self.taken.saturating_add(1);
+            Met::Taken {
+                before,
+                mid,
+                count,
+                time_break,
+                ..
+            } => {
+                self.note_break(before, time_break);
+                self.note_sequence(before, mid, count);
+                self.note_taken();
             }
             Met::LeftOut { before, fate, .. } => {
                 self.last_part = None;
                 self.note_left_out(before, fate);
             }
             Met::Stands(front) => self.note_front(front),
-            Met::Leap => {}
         }
     }
 

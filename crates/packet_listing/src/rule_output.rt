@@ -49,13 +49,30 @@ fn say_requesters_of<W: Write>(
     Ok(sign)
 }
 
-/// Writes the rules that request the sequence of this number, in parentheses; nothing if there are none.
+/// How many rules of these texts request the sequence of this number.
+fn requester_count(texts: &[TextRules<'_>], sequence: u16) -> usize {
+    let mut count = 0usize;
+    for rules in texts {
+        for rule in &rules.rules {
+            if rule.sequence == i64::from(sequence) {
+                count = count.saturating_add(1);
+            }
+        }
+    }
+    count
+}
+
+/// Writes the rules that request the sequence of this number, in parentheses, since one of them did; nothing if there are none.
 pub fn say_requesters<W: Write>(
     texts: &[TextRules<'_>],
     sequence: u16,
     f: &mut Formatter<W>,
 ) -> fmt::Result {
-    let mut sign = " (";
+    let mut sign = if requester_count(texts, sequence) > 1 {
+        " (one of "
+    } else {
+        " ("
+    };
     for (text, rules) in texts.iter().enumerate() {
         sign = say_requesters_of(texts, text, rules.rules.as_slice(), sequence, sign, f)?;
     }

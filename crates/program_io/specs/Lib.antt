@@ -3,5 +3,6 @@ pub mod Why
 pub mod Error
 pub mod Arguments
 pub mod FileCall
+pub mod Lasting
 pub mod Replaced
 pub mod Stops

@@ -1,5 +1,5 @@
 -- The worst of several statuses. This project's own.
-use Rattle.std.specs.Prelude.{◌≡◌, ◌≤◌, ◌⊎◌, ◌==◌, if◌then◌else◌, ℕ, zero, suc, Result, Ok, Err}
+use Rattle.std.specs.Prelude.{◌≡◌, ◌≤◌, ◌⊎◌, ◌==◌, if◌then◌else◌, ℕ, zero, suc, List, All, Contains, Result, Ok, Err}
 use Rattle.tool_faults.specs.declared.fault.Fault.{Fault}
 use Rattle.tool_faults.specs.declared.fault.Fault.TheVariants as fault
 
@@ -14,6 +14,10 @@ badness status =
 -- it is one of two statuses, and no other is worse
 abbrev pub IsWorse : (one other result : ℕ) → Type 0
 IsWorse one other result = ((result ≡ one) ⊎ (result ≡ other)) × (badness one ≤ badness result) × (badness other ≤ badness result)
+
+-- none of these statuses is worse, and it is one of them, or 0
+abbrev pub IsWorst : List ℕ → ℕ → Type 0
+IsWorst statuses result = (All (λ status. badness status ≤ badness result) statuses) × ((result ≡ 0) ⊎ Contains statuses result)
 
 -- the result of trials with this worst status
 abbrev pub answer_by : ℕ → Result (Unit {0}) Fault

@@ -1,10 +1,10 @@
 //! `try [--strict] --script SCRIPT .. --schedule SCHEDULE RULES..`
 
-ghost use Rattle.std.specs.Prelude.{◌≡◌};
+ghost use Rattle.std.specs.Prelude.{◌≡◌, IfOk, length};
 ghost use Rattle.run_commands.specs.Cause.{IsOfLine, IsOfTrial, ending_of};
 
 use crate::line_error::line_error_fault;
-use crate::worst::{reported, worse_status};
+use crate::worst::{reported, worst_of};
 use diagnostics::{Message, around, warnings_page_of};
 use program_io::Noting;
 use rpn_compiler::RuleText;
@@ -139,9 +139,17 @@ fn warning_head(
             force,
             rule,
         } => other_text_head(alloc, texts, text, force, rule),
+        TrialWarning::UngivenTables { n: _ } => String::from_str(
+            alloc,
+            "the tables in force here are of no given rule text: their rule of the same number is taken",
+        ),
         TrialWarning::NoRecord { n: _ } => String::from_str(
             alloc,
             "the run has no record in these seconds: nothing could come, whatever the rules are",
+        ),
+        TrialWarning::UnknownNumber { n: _ } => String::from_str(
+            alloc,
+            "no given rule text has this number",
         ),
         TrialWarning::NothingRan { n: _ } => String::from_str(
             alloc,
@@ -153,19 +161,21 @@ fn warning_head(
     }
 }
 
-/// The name of a warning, and its line.
-fn name_and_line(warning: TrialWarning) -> (&'static str, usize) {
+/// The name of a warning, its line, and a hint.
+fn name_line_and_hint(warning: TrialWarning) -> (&'static str, usize, &'static str) {
     match warning {
-        TrialWarning::ManyNumbers { n } => ("rule-number", n),
+        TrialWarning::ManyNumbers { n } => ("rule-number", n, "give it one number in all texts"),
         TrialWarning::OtherText {
             n,
             text: _,
             force: _,
             rule: _,
-        } => ("rule-text", n),
-        TrialWarning::NoRecord { n } => ("no-record", n),
-        TrialWarning::NothingRan { n } => ("nothing-ran", n),
-        TrialWarning::NothingTried => ("nothing-tried", 1),
+        } => ("rule-text", n, "name a rule of the text in force"),
+        TrialWarning::UngivenTables { n } => ("rule-text", n, "give the rule text of these tables"),
+        TrialWarning::NoRecord { n } => ("no-record", n, "name seconds that have a record"),
+        TrialWarning::UnknownNumber { n } => ("unknown-number", n, "look at the number"),
+        TrialWarning::NothingRan { n } => ("nothing-ran", n, "start `LC` before"),
+        TrialWarning::NothingTried => ("nothing-tried", 1, "add a line `expect`"),
     }
 }
 
@@ -176,9 +186,11 @@ fn warning_message(
     texts: &[RuleText<'_>],
     warning: TrialWarning,
 ) -> Result<Message, AllocError> {
-    let (name, n) = name_and_line(warning);
+    let (name, n, hint) = name_line_and_hint(warning);
     let head = warning_head(alloc, texts, warning)?;
-    Ok(Message::warning(alloc, name, head, line_mark(alloc, script, n)))
+    let mut mark = line_mark(alloc, script, n);
+    mark.label = String::from_str(alloc, hint)?;
+    Ok(Message::warning(alloc, name, head, mark))
 }
 
 /// The messages for the warnings about a script that was tried with these rule texts, after those so far.
@@ -265,8 +277,7 @@ fn try_script<'a, R: Files + Eprint + AllocGlobal, W: Write>(
     }
 }
 
-/// Runs each script as `try_script` does, in order, and writes each one's fault to standard error. Returns the worst status; ends early
-/// only if the reader of the output closed it.
+/// Runs each script as `try_script` does, in order, and writes each one's fault to standard error. Returns the status of each.
 fn try_each<'a, R: Files + Eprint + AllocGlobal, W: Write>(
     rt: &R,
     scripts: &[&'a str],
@@ -274,18 +285,21 @@ fn try_each<'a, R: Files + Eprint + AllocGlobal, W: Write>(
     plan: RunInputs<'_>,
     strict: bool,
     out: &mut W,
-) -> u8 {
-    let mut worst = 0u8;
+) -> Result<Vec<u8>, AllocError>
+    ensures each { IfOk result (λ statuses. length statuses.items ≡ length scripts.now) }
+{
+    let mut statuses = Vec::new(rt.alloc());
     for script in scripts {
-        if let Err(fault) = try_script(rt, script, rules, plan, strict, out) {
-            let _said = eprint!(rt; "{fault}");
-            worst = worse_status(worst, fault.status());
-            if matches!(fault, Fault::Gone) {
-                break;
+        let status = match try_script(rt, script, rules, plan, strict, out) {
+            Ok(()) => 0,
+            Err(fault) => {
+                let _said = eprint!(rt; "{fault}");
+                fault.status()
             }
-        }
+        };
+        statuses.push(status)?;
     }
-    worst
+    Ok(statuses)
 }
 
 /// Tries scripts with the rule texts in these files: each script alone, in the order given. Errors: `Reported` with the worst status of
@@ -310,5 +324,6 @@ pub fn try_out<'a, R: Files + Eprint + AllocGlobal, W: Write>(
         texts: slices.as_slice(),
         schedule: &schedule,
     };
-    reported(try_each(rt, scripts, rules, plan, strict, out))
+    let statuses = try_each(rt, scripts, rules, plan, strict, out)?;
+    reported(worst_of(statuses.as_slice()))
 }

@@ -1,7 +1,7 @@
 //! The worst status of several trials.
 
 ghost use Rattle.std.specs.Prelude.{◌≡◌};
-ghost use Rattle.run_commands.specs.Worst.{IsWorse, answer_by, badness};
+ghost use Rattle.run_commands.specs.Worst.{IsWorse, IsWorst, answer_by, badness};
 
 use tool_faults::Fault;
 
@@ -19,7 +19,7 @@ fn badness(status: u8) -> u8
 }
 
 /// The worse of two statuses.
-pub fn worse_status(one: u8, other: u8) -> u8
+fn worse_status(one: u8, other: u8) -> u8
     ensures { IsWorse one other result }
 {
     if badness(other) > badness(one) {
@@ -27,6 +27,17 @@ pub fn worse_status(one: u8, other: u8) -> u8
     } else {
         one
     }
+}
+
+/// The worst of several statuses, or 0 if there are none.
+pub fn worst_of(statuses: &[u8]) -> u8
+    ensures { IsWorst statuses.now result }
+{
+    let mut worst = 0u8;
+    for status in statuses {
+        worst = worse_status(worst, *status);
+    }
+    worst
 }
 
 /// The result of trials with this worst status, whose faults are already written.

@@ -5,6 +5,7 @@ pub mod Judged
 pub mod Arrivals
 pub mod Settled
 pub mod Origin
+pub mod Numbers
 pub mod Untried
 pub mod Telling
 pub mod Warned

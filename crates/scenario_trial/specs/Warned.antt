@@ -9,15 +9,18 @@ use Rattle.scenarios.specs.Plain.{line_of}
 use Rattle.scenarios.specs.Rules.{numbers_differ, rule_numbered}
 use Rattle.scenarios.specs.declared.force.ForceChange.{ForceChange}
 use Rattle.run_stepper.specs.Trace.{Arrived, Part, arrived_from, has_record}
+use Rattle.run_stepper.specs.declared.standing.RuleStanding.{RuleStanding}
+use Rattle.run_stepper.specs.declared.standing.RuleStanding.TheVariants.{Stands}
 use Rattle.scenario_trial.specs.declared.expectation.Arrival.{Arrival}
 use Rattle.scenario_trial.specs.declared.expectation.ArrivalKind.{ArrivalKind}
 use Rattle.scenario_trial.specs.declared.trial.TrialOutcome.{TrialOutcome}
 use Rattle.scenario_trial.specs.declared.verdict.Judged.{Judged}
 use Rattle.scenario_trial.specs.declared.warning.TrialWarning.{TrialWarning}
-use Rattle.scenario_trial.specs.declared.warning.TrialWarning.TheVariants.{ManyNumbers, NoRecord, NothingRan, NothingTried, OtherText}
+use Rattle.scenario_trial.specs.declared.warning.TrialWarning.TheVariants.{ManyNumbers, NoRecord, NothingRan, NothingTried, OtherText, UngivenTables, UnknownNumber}
 use Rattle.scenario_trial.specs.Arrivals.{arrival_of, rule_in}
 use Rattle.scenario_trial.specs.Expected.{Absent, Comes, Expected, LastResult, State, expected_of}
 use Rattle.scenario_trial.specs.Judged.{kind_number}
+use Rattle.scenario_trial.specs.Numbers.{is_known}
 use Rattle.scenario_trial.specs.Origin.{text_named}
 use Rattle.scenario_trial.specs.Reading.{PlacedExpected}
 
@@ -48,6 +51,11 @@ abbrev pub warned_before : Option TrialWarning → List TrialWarning → List Tr
 warned_before None warnings = warnings
 warned_before (Some warning) warnings = warning ∷ warnings
 
+-- a rule of this state and last result was found, but the tables in force are of no given text
+abbrev pub ungiven_warning : (n : ℕ) → (force : Option ℕ) → RuleStanding → Option TrialWarning
+ungiven_warning n None (Stands state last) = Some (UngivenTables n)
+ungiven_warning n force found = None
+
 -- nothing is to come in seconds in which some record of the run is, or none
 abbrev pub tried_in : (n : ℕ) → Bool → Option TrialWarning
 tried_in n true = None
@@ -58,6 +66,17 @@ span_warning n parts (Comes coming) = None
 span_warning n parts (Absent coming) = tried_in n (has_record coming.span.first coming.span.last parts)
 span_warning n parts (State rule state) = None
 span_warning n parts (LastResult rule last) = None
+
+-- nothing of a number is to come that one of these texts leads to, or none
+abbrev pub numbered_in : (n : ℕ) → Bool → Option TrialWarning
+numbered_in n true = None
+numbered_in n false = Some (UnknownNumber n)
+
+abbrev pub number_warning : List RuleText → (n : ℕ) → Expected → Option TrialWarning
+number_warning texts n (Comes coming) = None
+number_warning texts n (Absent coming) = numbered_in n (is_known texts coming.what)
+number_warning texts n (State rule state) = None
+number_warning texts n (LastResult rule last) = None
 
 module _ (texts : List RuleText) (declared : Declarations) where
   -- a line names a rule by this word, which is of another text than the one in force there
@@ -72,12 +91,17 @@ module _ (texts : List RuleText) (declared : Declarations) where
   named_warning n force None = None
   named_warning n force (Some name) = or_many declared n name (other_text n force name)
 
-  -- that of an expectation over such a run, at the scenario's line that says it
+  -- that of an expectation over such a run, if the tables in force are of a given text
+  abbrev pub given_warning : (n : ℕ) → List Part → Judged → Option TrialWarning
+  given_warning n parts judged =
+      let expected = expected_of judged.placed.expectation in
+      or_later (named_warning n judged.force (rule_in expected)) (or_later (span_warning n parts expected) (number_warning texts n expected))
+
+  -- the same for all tables, at the scenario's line of the expectation
   abbrev pub expectation_warning : (lines : List ℕ) → List Part → Judged → Option TrialWarning
   expectation_warning lines parts judged =
       let n = line_of lines judged.placed.n in
-      let expected = expected_of judged.placed.expectation in
-      or_later (named_warning n judged.force (rule_in expected)) (span_warning n parts expected)
+      or_later (ungiven_warning n judged.force judged.found) (given_warning n parts judged)
 
   abbrev pub expectation_warnings : (lines : List ℕ) → List Part → List Judged → List TrialWarning
   expectation_warnings lines parts judged = filter_map (expectation_warning lines parts) judged

@@ -9,6 +9,7 @@ mod fault;
 mod in_force;
 mod judging;
 pub mod laws;
+mod numbers;
 mod origin;
 mod stopping;
 mod telling;

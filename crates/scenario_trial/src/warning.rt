@@ -8,16 +8,17 @@ ghost use Rattle.text_lines.specs.Lines.{texts_of};
 ghost use Rattle.scenario_trial.specs.Arrivals.{arrival_of, rule_in};
 ghost use Rattle.scenario_trial.specs.Expected.{expected_of};
 ghost use Rattle.scenario_trial.specs.Reading.{placed_of};
-ghost use Rattle.scenario_trial.specs.Warned.{asked_by, asks_checker, command_warning, expectation_warning, expectation_warnings, span_warning, named_warning, first_command, idle_warning, is_kind_of_checker, is_of_checker, or_many, other_text, state_rule, state_warning, state_warnings, with_idle};
+ghost use Rattle.scenario_trial.specs.Warned.{asked_by, asks_checker, command_warning, expectation_warning, expectation_warnings, span_warning, named_warning, first_command, given_warning, idle_warning, is_kind_of_checker, is_of_checker, number_warning, or_later, or_many, other_text, state_rule, state_warning, state_warnings, ungiven_warning, with_idle};
 
 use crate::expectation::{Arrival, ArrivalKind, Expectation};
 use crate::expectation_lines::Placed;
 use crate::expectation_words::is;
 use crate::in_force::SettledScript;
+use crate::numbers::is_known;
 use crate::origin::text_named;
 use crate::verdict::Judged;
 use rpn_compiler::RuleText;
-use run_stepper::{Came, Trace};
+use run_stepper::{Came, RuleStanding, Trace};
 use scenarios::{DeclaredItems, ForceChange, Plain};
 use std::alloc::{AllocError, Global};
 use text_lines::{first_line, words};
@@ -36,8 +37,16 @@ pub enum TrialWarning {
         force: usize,
         rule: u16,
     },
+    /// This line names a rule, but the tables in force there are of no given text: their rule of the same number is taken.
+    UngivenTables {
+        n: usize,
+    },
     /// This line expects that nothing comes, in seconds in which the run has no record.
     NoRecord {
+        n: usize,
+    },
+    /// This line expects that no sequence or event of a number comes, and no text has the number.
+    UnknownNumber {
         n: usize,
     },
     /// This line has the first expectation about the Limit Checker, and nothing came of the Limit Checker.
@@ -110,6 +119,18 @@ fn named_warning(
     }
 }
 
+/// The warning of line `n` about the rule of an expectation, if it was found in tables of no given text.
+fn ungiven_warning(n: usize, judged: &Judged<'_>) -> Option<TrialWarning>
+    ensures { result ≡ ungiven_warning n judged.now.force judged.now.found }
+{
+    match (judged.force, judged.found) {
+        (None, RuleStanding::Stands { state: _, last: _ }) => Some(TrialWarning::UngivenTables {
+            n,
+        }),
+        _ => None,
+    }
+}
+
 /// The warning of line `n` about the seconds of an expectation that nothing comes, if no record of the run is in them.
 fn span_warning(n: usize, trace: &Trace, expectation: &Expectation<'_>) -> Option<TrialWarning>
     ensures { result ≡ span_warning n trace.now.parts (expected_of expectation.now) }
@@ -125,6 +146,57 @@ fn span_warning(n: usize, trace: &Trace, expectation: &Expectation<'_>) -> Optio
     }
 }
 
+/// The warning of line `n` about the number of an expectation that nothing comes, if none of the texts leads to it.
+fn number_warning(
+    texts: &[RuleText<'_>],
+    n: usize,
+    expectation: &Expectation<'_>,
+) -> Option<TrialWarning>
+    ensures { result ≡ number_warning texts.now n (expected_of expectation.now) }
+{
+    match expectation {
+        Expectation::Absent(coming) => {
+            if is_known(texts, coming.what) {
+                return None;
+            }
+            Some(TrialWarning::UnknownNumber { n })
+        }
+        Expectation::Comes(_) | Expectation::State(_, _) | Expectation::Result(_, _) => None,
+    }
+}
+
+/// The warning of line `n` that an expectation can't fail, if it can't.
+fn idle_expectation(
+    texts: &[RuleText<'_>],
+    n: usize,
+    trace: &Trace,
+    expectation: &Expectation<'_>,
+) -> Option<TrialWarning>
+    ensures { result ≡ or_later (span_warning n trace.now.parts (expected_of expectation.now))
+        (number_warning texts.now n (expected_of expectation.now)) }
+{
+    match span_warning(n, trace, expectation) {
+        Some(warning) => Some(warning),
+        None => number_warning(texts, n, expectation),
+    }
+}
+
+/// The warning of line `n` about an expectation of a run, if there is one, apart from tables of no given text.
+fn given_warning(
+    texts: &[RuleText<'_>],
+    declared: &DeclaredItems<'_>,
+    n: usize,
+    trace: &Trace,
+    judged: &Judged<'_>,
+) -> Option<TrialWarning>
+    ensures { result ≡ given_warning texts.now declared.now n trace.now.parts judged.now }
+{
+    match named_warning(texts, declared, n, judged) {
+        Some(warning) => Some(warning),
+        None => idle_expectation(texts, n, trace, &judged.placed.expectation),
+    }
+}
+
 /// The warning about an expectation of a run, if there is one.
 fn expectation_warning(
     texts: &[RuleText<'_>],
@@ -137,9 +209,9 @@ fn expectation_warning(
         trace.now.parts judged.now }
 {
     let n = plain.line(judged.placed.n);
-    match named_warning(texts, declared, n, judged) {
+    match ungiven_warning(n, judged) {
         Some(warning) => Some(warning),
-        None => span_warning(n, trace, &judged.placed.expectation),
+        None => given_warning(texts, declared, n, trace, judged),
     }
 }
 

@@ -158,6 +158,10 @@ impl Display for Fault<'_> {
             }
             Fault::Judgement(name, error) => writeln!(f, "{name}: {error}"),
             Fault::Run(error) => writeln!(f, "{error}"),
+            Fault::Stream(name, RunError::BadRecord { n: 1 }) => writeln!(
+                f,
+                "{name}: record 1 is none; of raw space packets `flight_tools import` makes a stream"
+            ),
             Fault::Stream(name, error) => writeln!(f, "{name}: {error}"),
             Fault::TextMissing(name, n, text) => writeln!(
                 f,

@@ -52,9 +52,11 @@ class Inputs:
         self.key = hashlib.sha256(json.dumps([self.prints, self.options]).encode()).hexdigest()[:16]
 
     def judge(self, is_import_tried):
-        """Refuses texts, schedules and options with the words of the programs."""
+        """Refuses texts, schedules and options with the words of the programs, which then say nothing of the texts before."""
         tools = os.path.abspath(self.files["flight_tools"])
-        self.call([tools, "check", "--schedule", *(self.files[it] for it in self.texts)])
+        schedule, *texts = (self.files[it] for it in self.texts)
+        for text in texts:
+            self.call([tools, "check", "--schedule", schedule, text])
         if is_import_tried:
             with tempfile.TemporaryDirectory(prefix="campaign-") as place:
                 open(f"{place}/archive", "wb").close()

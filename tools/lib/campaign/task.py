@@ -25,11 +25,11 @@ RUNS = ("old", "new")
 # The statuses of both programs that another attempt would have too: something is refused, or a stream or archive ends early.
 REFUSED, ENDS_EARLY = (1, 2), 4
 DIFFERENCE = re.compile(r"(\S+) record (\d+)(?: \((.*?)\))?: only (old|new): (.*)")
-REQUEST = re.compile(r"sequence (\d+)(?: \((.*)\))?")
+REQUEST = re.compile(r"sequence (\d+)(?: \((?:one of )?(.*)\))?")
 EVENT = re.compile(r"(.+?) (\d+) \w+(?: of (\S+?))?: .*")
 TOTALS = re.compile(r"old alone: (\d+); new alone: (\d+); both: (\d+)")
 RECORDS = re.compile(r"records (\d+), bytes \d+")
-RULES = re.compile(r"sequence request \d+, count \d+ \((.*)\)")
+RULES = re.compile(r"sequence request \d+, count \d+ \((?:one of )?(.*)\)")
 STOPPED = "both runs end here: "
 HOUSEKEEPING = b'"kind":"housekeeping"'
 
@@ -139,7 +139,7 @@ class Recording:
         said = text_of(b"".join(self.calls.lines("import", "flight_tools", *words)))
         self.found["imported"] = said
         if early := self.calls.early.get("import"):
-            early.says = said.split("\n")[-1]
+            early.says = [line for line in said.split("\n") if ": byte " in line][-1]
 
     def run(self, run):
         """Runs a text over the recording, and writes a row for each request and each event."""

@@ -53,7 +53,7 @@ def zsh(program, commands, options):
     listed = "\n".join(f"        '{it.word}:{zsh_text(it.about, '')}'" for it in commands)
     cases = ""
     for it in commands:
-        words = [f"'--{option.long}[{zsh_text(option.help, '[]:')}]{f':{option.value}:_files' if option.value else ''}'" for option in it.options]
+        words = [f"'{'*' * option.may_repeat}--{option.long}[{zsh_text(option.help, '[]:')}]{f':{option.value}:_files' if option.value else ''}'" for option in it.options]
         cases += f"        {it.word}) _arguments {' '.join([*words, zsh_rest()])} ;;\n"
     return f"""#compdef {program}
 _{program}()

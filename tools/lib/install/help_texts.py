@@ -14,6 +14,10 @@ class Option:
     value: str
     help: str
 
+    @property
+    def may_repeat(self):
+        return "repeat" in self.help
+
 
 @dataclass(frozen=True)
 class Command:

@@ -8,7 +8,7 @@ import tempfile
 from records import LOW_VOLTS
 from trial import SECONDS, Trial, written
 
-CALLS = ["flight_run run", "flight_tools check", "flight_tools compare", "flight_tools import"]
+CALLS = ["flight_tools check"]
 SCRIPT = os.path.join(os.path.dirname(os.path.abspath(__file__)), "..", "..", "campaign")
 TEXTS = ["--schedule", "schedule", "--old", "rules", "--new", "rules"]
 CALL = [*TEXTS, "--out", "table", "list"]
@@ -18,8 +18,6 @@ NEEDED = ("env", "sh", "python3")
 PARALLEL = b"#!/bin/sh\nexit 7\n"
 REFUSED = b"""\
 flight_tools check ends with 1
-rules: 1 rule, 0 warnings
-rules: 1 rule, 0 warnings
 wrong:1:5: error[11]: expected a name, found the end of the file
   1 | rule
     |     ^ the file ends here

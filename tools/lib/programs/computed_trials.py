@@ -42,19 +42,30 @@ TORN = STRAY.join(b"".join(PACKETS[first : first + 500]) for first in range(0, 3
 PLACES = [(8_000 * n + len(STRAY) * (n - 1), len(STRAY)) for n in range(1, 6)] + [(len(TORN) - len(NOISE + PLAIN), len(NOISE))]
 FULL = b"the device is full"
 
+
+def step_back(at):
+    """What is reported of the first packet of PLAIN after those of MANY, which begins at this byte."""
+    lines = ["time steps back from 399.00000 to 100.50000", "a gap in the sequence counts of 0x0883: 0 comes after 2999"]
+    return "".join(f"raw: byte {at}: {line}\n" for line in lines).encode()
+
+
 ARCHIVES = [
     Row(
         "stray bytes in many pieces",
         [*IMPORT, "stream", "--resync", "raw"],
         {"raw": TORN},
-        output=counts(3_010) + b"".join(b"raw: byte %d: no plausible packet begins here; bytes skipped: %d\n" % it for it in PLACES),
+        output=counts(3_010)
+        + step_back(len(TORN) - len(PLAIN))
+        + b"".join(b"raw: byte %d: no plausible packet begins here; bytes skipped: %d\n" % it for it in PLACES),
         after={"stream": MANY_STREAM + STREAM},
     ),
     Row(
         "a long archive with a gap of many zeros",
         [*IMPORT, "stream", "raw"],
         {"raw": MANY + GAP + PLAIN},
-        output=counts(3_010) + b"raw: byte %d: zeros where a packet would begin, %d in all\n" % (len(MANY), len(GAP)),
+        output=counts(3_010)
+        + step_back(len(MANY + GAP))
+        + b"raw: byte %d: zeros where a packet would begin, %d in all\n" % (len(MANY), len(GAP)),
         after={"stream": MANY_STREAM + STREAM},
     ),
     Row("a long import to a full device", [*IMPORT, "/dev/full", "raw"], {"raw": MANY}, status=3, error=b"cannot use /dev/full: %s\n" % FULL),

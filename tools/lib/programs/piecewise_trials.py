@@ -1,6 +1,7 @@
 """Calls that a row can't say: what comes to a program piece by piece, what goes on to one that dies, files that are holes, and several
 calls behind each other."""
 
+import contextlib
 import os
 import select
 import signal
@@ -41,32 +42,37 @@ def step_by_step(stream, packets):
     return []
 
 
-def through_pipes(programs):
-    """`flight_tools live` between two pipes."""
+@contextlib.contextmanager
+def live(programs, **how):
+    """`flight_tools live` in a folder with a schedule and a text, between pipes where nothing else is said."""
     with tempfile.TemporaryDirectory(prefix="try-programs-") as place:
         written(place, {"schedule": NO_ENTRIES, "rules": LOW_VOLTS})
-        pipe = subprocess.PIPE
         words = [programs["flight_tools"], "live", "--schedule", "schedule", "rules"]
-        ran = subprocess.Popen(words, cwd=place, stdin=pipe, stdout=pipe, stderr=pipe, bufsize=0)
+        pipes = dict.fromkeys(["stdin", "stdout", "stderr"], subprocess.PIPE)
+        yield subprocess.Popen(words, cwd=place, bufsize=0, **{**pipes, **how})
+
+
+def end_of_stream(ran):
+    ran.stdin.close()
+    ran.stdin = None
+
+
+def through_pipes(programs):
+    """`flight_tools live` between two pipes."""
+    with live(programs) as ran:
         faults = step_by_step(ran.stdin.fileno(), ran.stdout.fileno())
-        ran.stdin.close()
-        ran.stdin = None
+        end_of_stream(ran)
         return faults + ended(ran, 0, b"records 7, bytes 852\n")
 
 
 def through_a_socket(programs):
     """`flight_tools live` at one end of a socket, as `socat` or a service manager would put it there."""
-    with tempfile.TemporaryDirectory(prefix="try-programs-") as place:
-        written(place, {"schedule": NO_ENTRIES, "rules": LOW_VOLTS})
-        ours, its = socket.socketpair()
-        words = [programs["flight_tools"], "live", "--schedule", "schedule", "rules"]
-        ran = subprocess.Popen(words, cwd=place, stdin=its, stdout=its, stderr=subprocess.PIPE)
+    ours, its = socket.socketpair()
+    with ours, live(programs, stdin=its, stdout=its) as ran:
         its.close()
         faults = step_by_step(ours.fileno(), ours.fileno())
         ours.shutdown(socket.SHUT_WR)
-        faults += ended(ran, 0, b"records 7, bytes 852\n")
-        ours.close()
-        return faults
+        return faults + ended(ran, 0, b"records 7, bytes 852\n")
 
 
 def from_writers_in_turn(programs):
@@ -104,27 +110,21 @@ def through_fifos(programs):
 
 def from_one_that_dies(programs):
     """The stream comes from a process that is killed inside a record."""
-    with tempfile.TemporaryDirectory(prefix="try-programs-") as place:
-        written(place, {"schedule": NO_ENTRIES, "rules": LOW_VOLTS, "front": beginning() + LOW[:5]})
-        source = subprocess.Popen(["sh", "-c", "cat front; exec sleep 600"], cwd=place, stdout=subprocess.PIPE)
-        words = [programs["flight_tools"], "live", "--schedule", "schedule", "rules"]
-        pipe = subprocess.PIPE
-        ran = subprocess.Popen(words, cwd=place, stdin=source.stdout, stdout=pipe, stderr=pipe, bufsize=0)
-        source.stdout.close()
+    front = subprocess.Popen(["sh", "-c", "cat; exec sleep 600 < /dev/null"], stdin=subprocess.PIPE, stdout=subprocess.PIPE)
+    with live(programs, stdin=front.stdout) as ran:
+        front.stdout.close()
+        front.stdin.write(beginning() + LOW[:5])
+        front.stdin.close()
         found = read_exactly(ran.stdout.fileno(), len(STARTED))
-        source.kill()
-        source.wait()
+        front.kill()
+        front.wait()
         faults = [] if found == STARTED else [f"{len(found)} bytes came of {len(STARTED)}"]
         return faults + ended(ran, 4, b"the stream ends inside record 4\n")
 
 
 def to_one_that_dies(programs):
     """Who reads the packets goes away, and the next write ends the run without a word."""
-    with tempfile.TemporaryDirectory(prefix="try-programs-") as place:
-        written(place, {"schedule": NO_ENTRIES, "rules": LOW_VOLTS})
-        pipe = subprocess.PIPE
-        words = [programs["flight_tools"], "live", "--schedule", "schedule", "rules"]
-        ran = subprocess.Popen(words, cwd=place, stdin=pipe, stdout=pipe, stderr=pipe, bufsize=0)
+    with live(programs) as ran:
         try:
             os.write(ran.stdin.fileno(), beginning())
             read_exactly(ran.stdout.fileno(), len(STARTED))
@@ -147,17 +147,12 @@ def by_signals(programs):
     does nothing."""
     faults = []
     for number, status in ((signal.SIGINT, None), (signal.SIGTERM, None), (signal.SIGHUP, None), (signal.SIGPIPE, 4)):
-        with tempfile.TemporaryDirectory(prefix="try-programs-") as place:
-            written(place, {"schedule": NO_ENTRIES, "rules": LOW_VOLTS})
-            pipe = subprocess.PIPE
-            words = [programs["flight_tools"], "live", "--schedule", "schedule", "rules"]
-            ran = subprocess.Popen(words, cwd=place, stdin=pipe, stdout=pipe, stderr=pipe, bufsize=0, preexec_fn=heed_signals)
+        with live(programs, preexec_fn=heed_signals) as ran:
             faults += step_by_step(ran.stdin.fileno(), ran.stdout.fileno())
             os.write(ran.stdin.fileno(), LOW[:5])
             ran.send_signal(number)
             if status is not None:
-                ran.stdin.close()
-                ran.stdin = None
+                end_of_stream(ran)
             packets, said = ran.communicate(timeout=SECONDS)
             expected = (-number, b"", b"") if status is None else (status, b"", b"the stream ends inside record 8\n")
             if (ran.returncode, packets, said) != expected:
@@ -178,7 +173,7 @@ def of_a_sparse_file(programs):
             "stream --stream hole": (4, b""),
             "scenario --script hole --out made": (3, b"cannot use hole: it has more than 67108864 bytes\n"),
             "report --schedule hole --stream stream --out page rules": (3, b"cannot use hole: it has more than 65536 bytes\n"),
-            "report --schedule schedule --stream lesser --out page rules": (4, b"lesser: record 1 is none\n"),
+            "report --schedule schedule --stream lesser --out page rules": (4, b"lesser: record 1 is none; of raw space packets `flight_tools import` makes a stream\n"),
             "report --schedule schedule --stream stream --out page hole": (1, b"hole: the text has over 65,536 bytes\n"),
             "live --schedule schedule hole": (1, b"hole: the text has over 65,536 bytes\n"),
         }
