@@ -139,7 +139,8 @@ class Recording:
         said = text_of(b"".join(self.calls.lines("import", "flight_tools", *words)))
         self.found["imported"] = said
         if early := self.calls.early.get("import"):
-            early.says = [line for line in said.split("\n") if ": byte " in line][-1]
+            lines = said.split("\n")
+            early.says = ([line for line in lines if ": byte " in line] or lines)[-1]
 
     def run(self, run):
         """Runs a text over the recording, and writes a row for each request and each event."""
