@@ -40,6 +40,8 @@ MOST = {
     "parts": number_in("run_summary/src/sent", "PARTS"),
     "events": 2 * number_in("run_summary/src/sent", "EVENTS"),
     "commands": 2 * number_in("run_summary/src/uplinks", "UPLINKS"),
+    "gaps": number_in("run_page/src/lanes", "GAPS"),
+    "around": number_in("run_summary/src/recent", "MOST"),
 }
 
 
@@ -57,8 +59,11 @@ def bytes_of_entries():
 
 
 def bytes_of_requests():
-    """With as many samples as they can have, each of one comparison."""
-    request = width("requests", "REQUEST", PACKET, RECORD, TIME, RULE, TEXT, NUMBER, COUNT, PACKET, "null", NUMBER) + len(',"samples":[]},')
+    """With as many samples as they can have, each of one comparison; each with one of eight rules, or with values of four fields."""
+    request = width("requests", "REQUEST", PACKET, RECORD, TIME, RULE, TEXT, NUMBER, COUNT, PACKET, "null", NUMBER)
+    request += len(',"one_of":[],"samples":[],"around":[]},')
+    value = width("requests", "VALUE", RECORD, TIME, VALUE) + len(f'[{RULE},[]],')
+    request += max(MOST["around"] * value, 9 * len(f"{RULE},"))
     part = width("requests", "MET", VALUE, RECORD, TIME, "false") + len(",")
     sample = width("requests", "SAMPLE", RECORD, TIME) + len(",[]],")
     return MOST["requests"] * request + MOST["parts"] * (sample + part)
@@ -74,12 +79,22 @@ def bytes_of_rules():
     return LONGEST_TEXT * page // text
 
 
+def bytes_of_sampling():
+    """The samples and gaps of each lane, and what the account says of each rule of a text with names of two bytes."""
+    gap = width("samples", "GAP", RECORD, TIME, RECORD, TIME, RECORD) + len(",")
+    lane = width("samples", "LANE", "false", RECORD) + len(',"gaps":[]},')
+    counts = ",".join(f'"{name}":{RECORD}' for name in "sampled passed failed stale errors unsampled".split())
+    row = len(f'{{"text":0,"rule":{RULE},"name":"{32 * "A"}",{counts}}},')
+    return MOST["gaps"] * gap + RULES * (lane + row)
+
+
 def most_bytes():
     """The most bytes of each part of a page of one rule text."""
     return {
         "script": sum(len(part.encode()) for part in page_files.parts()),
         "rules": bytes_of_rules(),
         "entries": bytes_of_entries(),
+        "sampling": bytes_of_sampling(),
         "bands": MOST["bands"] * (width("lists", "TABLES", RECORD, TIME, TEXT, "adopted") + width("lists", "MODE", RECORD, TIME, "disabled") + 2),
         "requests": bytes_of_requests(),
         "events": MOST["events"] * (width("requests", "EVENT", PACKET, RECORD, TIME, RULE, "LC", NUMBER, "critical", SAID) + 1),

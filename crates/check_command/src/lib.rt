@@ -4,6 +4,9 @@
 mod checking;
 mod explaining;
 mod explanations;
+mod explanations_0;
+mod explanations_1;
+mod explanations_2;
 mod outcomes;
 mod refused;
 mod totals;

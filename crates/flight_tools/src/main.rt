@@ -11,7 +11,7 @@ mod serving;
 use check_command::{CheckOptions, check, explain, told};
 use flight_tools_args::{CommandPlan, WordsError, read_words};
 use program_io::{Lasting, STANDARD, arguments_of, lend_words};
-use run_commands::PageTimes;
+use run_commands::{CompareOptions, ComparedFiles, PageTimes};
 use std::fs::Files;
 use std::io::{self, BufWriter, Eprint, Input, IsTerminal, Print, Read, Write};
 use std::process::ExitCode;
@@ -138,9 +138,21 @@ fn obey<'a, R: Files + Eprint + AllocGlobal, I: Read + Drop, W: Write>(
             old,
             new,
             further,
+            json,
+            fail_on,
         } => {
-            let further = further.as_slice();
-            run_commands::compare(rt, schedule, stream, old, new, further, out)
+            let files = ComparedFiles {
+                schedule,
+                stream,
+                old,
+                new,
+                further: further.as_slice(),
+            };
+            let how = CompareOptions {
+                is_json: json,
+                fail_on,
+            };
+            run_commands::compare(rt, files, how, out)
         }
         CommandPlan::Try {
             scripts,

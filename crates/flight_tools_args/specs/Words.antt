@@ -107,10 +107,11 @@ HoldsRows found (Check schedule rules all strict json) = (found.0 ≡ codes "che
     × IsFlag (codes "all") found.1 all × IsFlag (codes "strict") found.1 strict × IsFlag (codes "json") found.1 json
     × (first_of (codes "explain") found.1 ≡ None)
 HoldsRows found (Explain name) = (found.0 ≡ codes "check") × (first_of (codes "explain") found.1 ≡ Some name.now)
-HoldsRows found (Compare schedule stream old new further) = (found.0 ≡ codes "compare")
+HoldsRows found (Compare schedule stream old new further json fail_on) = (found.0 ≡ codes "compare")
     × (first_of (codes "schedule") found.1 ≡ Some schedule.now) × (first_of (codes "stream") found.1 ≡ Some stream.now)
     × (first_of (codes "OLD") found.1 ≡ Some old.now) × (first_of (codes "NEW") found.1 ≡ Some new.now)
-    × HoldsWords (codes "with") found.1 further.items
+    × HoldsWords (codes "with") found.1 further.items × IsFlag (codes "json") found.1 json
+    × (first_of (codes "fail-on") found.1 ≡ option_map (λ word. word.now) fail_on)
 HoldsRows found (Try scripts schedule rules strict) = (found.0 ≡ codes "try")
     × HasWords (codes "script") found.1 scripts.items × (first_of (codes "schedule") found.1 ≡ Some schedule.now)
     × HasWords (codes "RULES") found.1 rules.items × IsFlag (codes "strict") found.1 strict

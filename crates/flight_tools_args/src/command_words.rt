@@ -162,9 +162,21 @@ pub const TRY: [WordEntry; 4] = [
 ];
 
 /// The words of `compare`.
-pub const COMPARE: [WordEntry; 5] = [
+pub const COMPARE: [WordEntry; 7] = [
     SCHEDULE,
     STREAM,
+    WordEntry {
+        name: "json",
+        value: "",
+        form: Form::Flag,
+        help: "Write one JSON object, with all requests and events of both runs",
+    },
+    WordEntry {
+        name: "fail-on",
+        value: "WHAT",
+        form: Form::Option,
+        help: "Exit with status 1 only for this: new-requests, requests or differences (the default)",
+    },
     WordEntry {
         name: "with",
         value: "RULES",

@@ -259,12 +259,16 @@ fn compare_of<'a>(found: &ArgMatches<'a>, further: Vec<&'a str>) -> Option<Comma
     requires { HoldsWords (codes "with") (rows_of (found_of found.now)) further.items }
     ensures { IfSome result (HoldsRows (codes "compare", rows_of (found_of found.now))) }
 {
+    let json = flag(found, "json");
+    let fail_on = option_value(found, "fail-on");
     Some(CommandPlan::Compare {
         schedule: file_of(found, "schedule")?,
         stream: file_of(found, "stream")?,
         old: file_of(found, "OLD")?,
         new: file_of(found, "NEW")?,
         further,
+        json,
+        fail_on,
     })
 }
 

@@ -64,14 +64,16 @@ pub enum CommandPlan<'a> {
     Explain {
         name: &'a str,
     },
-    /// `compare --schedule SCHEDULE --stream STREAM [--with RULES].. OLD NEW`: lists what only one of two rule texts leads to, over a
-    /// stream that may bring further texts.
+    /// `compare --schedule SCHEDULE --stream STREAM [--with RULES].. [--json] [--fail-on WHAT] OLD NEW`: lists the requests and events in
+    /// which two rule texts differ, over a stream that may bring further texts.
     Compare {
         schedule: &'a str,
         stream: &'a str,
         old: &'a str,
         new: &'a str,
         further: Vec<&'a str>,
+        json: bool,
+        fail_on: Option<&'a str>,
     },
     /// `format [--check] RULES..`: gives rule texts the one layout, or lists those that differ from it.
     Format {

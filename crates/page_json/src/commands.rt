@@ -1,12 +1,5 @@
 //! The ground commands, files and halves of rule texts of a page's data, in words.
 
-ghost use Rattle.std.specs.Prelude.{◌≡◌, ◌++◌, List, ℕ, IfOk, OnOk, drop, take};
-ghost use Rattle.std.specs.List.{AllZip};
-ghost use Rattle.page_json.specs.Commands.{IsInWords, in_force, words_or};
-ghost use Rattle.rpn_compiler.specs.TextParts.{AreTextsOf};
-ghost use Rattle.run_summary.specs.Uplinks.{Uplinked};
-ghost use Rattle.scenarios.specs.CommandWords.{record_in_words};
-
 use crate::json::{Item, Json};
 use crate::requests::put_left;
 use rpn_compiler::RuleText;
@@ -14,35 +7,22 @@ use run_summary::{Account, Place, Uplink};
 use scenarios::{DeclaredItems, declared_in, record_in_words};
 use std::alloc::{AllocError, Global};
 use std::fmt::Write;
-use std::marker::Model;
 
-/// A ground command, a file or a half of a rule text in words. Contracts see all (`Line`).
+/// A ground command, a file or a half of a rule text in words.
 #[derive(Drop)]
 pub struct CommandLine {
     place: Place,
     says: Vec<u8>,
 }
 
-impl Model for CommandLine {
-    ghost use Rattle.page_json.specs.Commands.{Line};
-
-    ghost Value = { Line };
-
-    ghost view = { λ l. record { place = l.place; says = l.says.items } };
-}
-
 /// The text with this number, alone; none if there is no such text.
-fn text_at<'t, 'a>(texts: &'t [RuleText<'a>], text: usize) -> &'t [RuleText<'a>]
-    ensures { result.now ≡ take 1 (drop text texts.now) }
-{
+fn text_at<'t, 'a>(texts: &'t [RuleText<'a>], text: usize) -> &'t [RuleText<'a>] {
     let (_, from) = texts.split_at(text.min(texts.len()));
     from.split_at(1usize.min(from.len())).0
 }
 
 /// The text in force, alone; none if it isn't known.
-fn in_force<'t, 'a>(texts: &'t [RuleText<'a>], text: Option<usize>) -> &'t [RuleText<'a>]
-    ensures { result.now ≡ in_force text texts.now }
-{
+fn in_force<'t, 'a>(texts: &'t [RuleText<'a>], text: Option<usize>) -> &'t [RuleText<'a>] {
     match text {
         None => &[],
         Some(text) => text_at(texts, text),
@@ -54,10 +34,7 @@ fn words_of(
     alloc: Global,
     names: &DeclaredItems<'_>,
     uplink: &Uplink,
-) -> Result<Vec<u8>, AllocError>
-    ensures { IfOk result (λ says. says.items ≡
-        words_or uplink.now.listed (record_in_words names.now uplink.now.bytes)) }
-{
+) -> Result<Vec<u8>, AllocError> {
     match record_in_words(alloc, uplink.bytes.as_slice(), names)? {
         Some(words) => Ok(words),
         None => Vec::from_slice(alloc, uplink.listed.as_slice()),
@@ -69,10 +46,7 @@ fn line_of(
     alloc: Global,
     texts: &[RuleText<'_>],
     uplink: &Uplink,
-) -> Result<CommandLine, AllocError>
-    ensures { (sources : List (List ℕ)) → AreTextsOf sources texts.now →
-        IfOk result (λ line. IsInWords sources uplink.now line) }
-{
+) -> Result<CommandLine, AllocError> {
     let names = declared_in(alloc, in_force(texts, uplink.text))?;
     let says = words_of(alloc, &names, uplink)?;
     Ok(CommandLine {
@@ -87,11 +61,7 @@ fn add_lines(
     texts: &[RuleText<'_>],
     uplinks: &[Uplink],
     lines: &mut Vec<CommandLine>,
-) -> Result<(), AllocError>
-    ensures { (sources : List (List ℕ)) (before : List Uplinked) →
-        AreTextsOf sources texts.now → AllZip (IsInWords sources) before lines.old.items →
-        OnOk result (AllZip (IsInWords sources) (before ++ uplinks.now) lines.new.items) }
-{
+) -> Result<(), AllocError> {
     for uplink in uplinks {
         lines.push(line_of(alloc, texts, uplink)?)?;
     }
@@ -99,11 +69,7 @@ fn add_lines(
 }
 
 /// The ground commands, files and halves that an account keeps, in order and in words. The only error is a lack of memory.
-pub fn command_lines(alloc: Global, account: &Account<'_>) -> Result<Vec<CommandLine>, AllocError>
-    ensures { (sources : List (List ℕ)) → AreTextsOf sources account.now.texts.items →
-        IfOk result (λ lines. AllZip (IsInWords sources)
-        (account.now.uplinks.first ++ account.now.uplinks.last) lines.items) }
-{
+pub fn command_lines(alloc: Global, account: &Account<'_>) -> Result<Vec<CommandLine>, AllocError> {
     let texts = account.texts.as_slice();
     let (from, before) = account.uplinks.last();
     let mut lines = Vec::new(alloc);

@@ -5,6 +5,7 @@ use crate::json::{Item, Json};
 use crate::lists::{put_fields, put_lanes, put_modes, put_tables};
 use crate::requests::put_sent;
 use crate::rules::put_texts;
+use crate::samples::{LaneSamples, put_sampling};
 use bounded_history::Changes;
 use lc_model::VERSION;
 use run_summary::{Account, Figures};
@@ -60,8 +61,8 @@ pub struct Window {
 }
 
 /// All data of a page.
-#[derive(Clone, Copy)]
-pub struct Data<'a, 'n, 't, 's> {
+#[derive(Drop)]
+pub struct Data<'a, 'n, 't, 's, A: Display> {
     /// The names and files of the run.
     pub run: &'a Run<'n, 't>,
     /// The length of the stream in bytes.
@@ -82,6 +83,12 @@ pub struct Data<'a, 'n, 't, 's> {
     pub is_ordered: bool,
     /// The account of the run.
     pub account: &'a Account<'s>,
+    /// What the whole run looked at, as an object of JSON.
+    pub looked_at: &'a A,
+    /// The number of records in which a rule was sampled.
+    pub samples: u64,
+    /// The samples of the rules of each lane.
+    pub sampling: &'a [LaneSamples],
     /// The changes of each rule.
     pub lanes: &'a [Changes],
     /// The changes of each field.
@@ -154,7 +161,7 @@ fn put_sources<W: Write>(json: &mut Json<'_, W>, run: &Run<'_, '_>) {
     put_source(json, "schedule", &run.plan)
 }
 
-const PROGRAM: &[&str] = &["{\"format\":2,\"program\":\"flight_tools ", "\",\"ended\":"];
+const PROGRAM: &[&str] = &["{\"format\":3,\"program\":\"flight_tools ", "\",\"ended\":"];
 
 const WINDOW: &[&str] = &[
     ",\"window\":{\"from\":",
@@ -228,7 +235,7 @@ fn put_figures<W: Write>(json: &mut Json<'_, W>, figures: &Figures, before: u64)
 const CLOCK: &[&str] = &["", ",\"end\":", ",\"ordered\":", ",\"epoch\":"];
 
 /// The times of a run, and the instant of second 0, or null.
-fn put_clock<W: Write>(json: &mut Json<'_, W>, data: &Data<'_, '_, '_, '_>) {
+fn put_clock<W: Write, A: Display>(json: &mut Json<'_, W>, data: &Data<'_, '_, '_, '_, A>) {
     let ordered = if data.is_ordered { "true" } else { "false" };
     let items = [
         Item::Natural(data.start),
@@ -244,7 +251,7 @@ fn put_clock<W: Write>(json: &mut Json<'_, W>, data: &Data<'_, '_, '_, '_>) {
 }
 
 /// The part of the data before the rule texts.
-fn put_front<W: Write>(json: &mut Json<'_, W>, data: &Data<'_, '_, '_, '_>) {
+fn put_front<W: Write, A: Display>(json: &mut Json<'_, W>, data: &Data<'_, '_, '_, '_, A>) {
     json.row(PROGRAM, &[Item::Word(VERSION)]);
     put_ended(json, data.ended);
     put_window(json, data.window);
@@ -255,12 +262,19 @@ fn put_front<W: Write>(json: &mut Json<'_, W>, data: &Data<'_, '_, '_, '_>) {
     put_clock(json, data);
 }
 
+const SAMPLES: &[&str] = &["", ",\"samples\":"];
+
 /// The lists of fields, rules and tables.
-fn put_lists<W: Write>(json: &mut Json<'_, W>, data: &Data<'_, '_, '_, '_>) {
+fn put_lists<W: Write, A: Display>(json: &mut Json<'_, W>, data: &Data<'_, '_, '_, '_, A>) {
     json.open("],\"fields\":[");
     put_fields(json, data.account.seen.as_slice(), data.values);
     json.open("],\"lanes\":[");
     put_lanes(json, data.lanes);
+    json.text("],\"account\":");
+    json.value(data.looked_at);
+    json.row(SAMPLES, &[Item::Word(""), Item::Natural(data.samples)]);
+    json.open(",\"sampling\":[");
+    put_sampling(json, data.sampling);
     json.open("],\"tables\":[");
     put_tables(json, &data.account.bands);
     json.open("],\"mode\":[");
@@ -268,13 +282,13 @@ fn put_lists<W: Write>(json: &mut Json<'_, W>, data: &Data<'_, '_, '_, '_>) {
     json.open("],\"requests\":[");
 }
 
-impl Display for Data<'_, '_, '_, '_> {
+impl<A: Display> Display for Data<'_, '_, '_, '_, A> {
     fn fmt<W: Write>(&self, f: &mut Formatter<W>) -> fmt::Result {
         let mut json = Json::new(f, self.shift);
         put_front(&mut json, self);
         put_texts(&mut json, self.account);
         put_lists(&mut json, self);
-        put_sent(&mut json, self.account);
+        put_sent(&mut json, self.account, self.values);
         put_commands(&mut json, self.account, self.commands);
         json.text("}");
         json.end()

@@ -2,7 +2,7 @@
 
 ghost use Rattle.std.specs.Prelude.{◌≡◌, ◌≤◌, ◌==◌, false, None};
 
-use std::fmt::{self, Write};
+use std::fmt::{self, Display, Write};
 
 /// The escape for a byte of a text that needs one. A plain `<` could end the page's script.
 fn replacement(byte: u8) -> Option<&'static str>
@@ -150,6 +150,13 @@ impl<'o, W: Write> Json<'o, W> {
     pub fn quote(&mut self, text: &[u8]) {
         if self.result.is_ok() {
             self.result = put_text(self.out, text);
+        }
+    }
+
+    /// Writes a value of JSON that writes itself.
+    pub fn value<A: Display>(&mut self, value: &A) {
+        if self.result.is_ok() {
+            self.result = write!(self.out, "{value}");
         }
     }
 

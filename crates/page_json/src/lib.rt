@@ -8,7 +8,9 @@ mod json;
 mod lists;
 mod requests;
 mod rules;
+mod samples;
 mod value_names;
 
 pub use commands::{CommandLine, command_lines};
 pub use data::{Data, Ended, Run, Source, Window};
+pub use samples::{Gap, LaneSamples};

@@ -2,7 +2,10 @@
 
 use crate::json::{Item, Json};
 use crate::value_names::{hold, level};
-use run_summary::{Account, Left, Met, Part, Request, Sample, SeenEvent, verdict};
+use bounded_history::Changes;
+use run_summary::{
+    Account, FieldValues, Left, Met, Part, Request, Sample, SeenEvent, ValueFrom, verdict,
+};
 use std::fmt::Write;
 
 /// The texts of the row for what a comparison met: with a packet of the field, and without one.
@@ -46,6 +49,54 @@ fn put_samples<W: Write>(json: &mut Json<'_, W>, parts: &[Part], samples: &[Samp
     }
 }
 
+/// The rules that may have made a request, if it isn't known which did; and null where there are more.
+fn put_one_of<W: Write>(json: &mut Json<'_, W>, request: &Request) {
+    for rule in &request.one_of {
+        json.member(ONE, &[Item::Natural(*rule as u64)]);
+    }
+    if request.are_more {
+        json.member(ONE, &[Item::NaturalIf(None)]);
+    }
+}
+
+/// Whether a list has entries that stand for several changes.
+fn is_reduced(values: &[Changes], field: usize) -> bool {
+    match values.get(field) {
+        Some(list) => list.entries().iter().any(|entry| entry.changes > 1),
+        None => false,
+    }
+}
+
+const VALUE: &[&str] = &["[", ",", ",", "]"];
+
+/// The newest values of a field.
+fn put_newest<W: Write>(json: &mut Json<'_, W>, values: &[ValueFrom]) {
+    for from in values {
+        let items = [
+            Item::Natural(from.place.record),
+            Item::Time(from.place.time),
+            Item::NumberIf(from.value),
+        ];
+        json.member(VALUE, &items);
+    }
+}
+
+/// The newest values of the fields of a request whose lists don't have each value.
+fn put_around<W: Write>(json: &mut Json<'_, W>, around: &[FieldValues], values: &[Changes]) {
+    for newest in around {
+        if is_reduced(values, newest.field) {
+            json.member(AROUND, &[Item::Natural(newest.field as u64)]);
+            json.open(",[");
+            put_newest(json, newest.values.as_slice());
+            json.text("]]");
+        }
+    }
+}
+
+const ONE: &[&str] = &[""];
+
+const AROUND: &[&str] = &["[", ""];
+
 /// The comparisons of the rule of a request.
 fn parts_of<'a>(account: &'a Account<'_>, request: &Request) -> &'a [Part] {
     match request.rule {
@@ -69,7 +120,12 @@ const REQUEST: &[&str] = &[
 ];
 
 /// A request, with the samples that counted.
-fn put_request<W: Write>(json: &mut Json<'_, W>, account: &Account<'_>, request: &Request) {
+fn put_request<W: Write>(
+    json: &mut Json<'_, W>,
+    account: &Account<'_>,
+    values: &[Changes],
+    request: &Request,
+) {
     let items = [
         Item::Natural(request.packet),
         Item::Natural(request.place.record),
@@ -80,31 +136,39 @@ fn put_request<W: Write>(json: &mut Json<'_, W>, account: &Account<'_>, request:
         Item::Natural(request.count as u64),
         Item::NaturalIf(request.event),
         hold(request.hold()),
-        Item::Natural(request.counted as u64),
+        Item::NumberIf(request.counted.map(i64::from)),
     ];
     json.member(REQUEST, &items);
-    json.open(",\"samples\":[");
+    json.open(",\"one_of\":[");
+    put_one_of(json, request);
+    json.open("],\"samples\":[");
     put_samples(json, parts_of(account, request), request.samples.as_slice());
+    json.open("],\"around\":[");
+    put_around(json, request.around.as_slice(), values);
     json.text("]}")
 }
 
 /// Requests, in order.
-fn put_some<W: Write>(json: &mut Json<'_, W>, account: &Account<'_>, requests: &[Request]) {
+fn put_some<W: Write>(
+    json: &mut Json<'_, W>,
+    account: &Account<'_>,
+    values: &[Changes],
+    requests: &[Request],
+) {
     for request in requests {
-        put_request(json, account, request);
+        put_request(json, account, values, request);
     }
 }
 
 /// All requests that are kept, the newest last.
-fn put_requests<W: Write>(json: &mut Json<'_, W>, account: &Account<'_>) {
+fn put_requests<W: Write>(json: &mut Json<'_, W>, account: &Account<'_>, values: &[Changes]) {
     let requests = account.sending.requests();
     let (from, before) = requests.last();
-    put_some(json, account, requests.first());
-    put_some(json, account, from);
-    put_some(json, account, before);
-    match account.sending.newest() {
-        Some(request) => { put_request(json, account, request) }
-        None => {}
+    put_some(json, account, values, requests.first());
+    put_some(json, account, values, from);
+    put_some(json, account, values, before);
+    if let Some(request) = account.sending.newest() {
+        put_request(json, account, values, request);
     }
 }
 
@@ -144,8 +208,8 @@ pub fn put_left<W: Write>(json: &mut Json<'_, W>, left: Option<Left>) {
 }
 
 /// Requests and events, with how many are left out.
-pub fn put_sent<W: Write>(json: &mut Json<'_, W>, account: &Account<'_>) {
-    put_requests(json, account);
+pub fn put_sent<W: Write>(json: &mut Json<'_, W>, account: &Account<'_>, values: &[Changes]) {
+    put_requests(json, account, values);
     json.text("],\"requests_left_out\":");
     put_left(json, account.sending.requests().omission());
     json.open(",\"events\":[");

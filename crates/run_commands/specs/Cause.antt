@@ -12,15 +12,13 @@ use Rattle.run_stepper.specs.declared.ending.Ending.{Ending}
 use Rattle.run_stepper.specs.declared.ending.Ending.TheVariants as ending
 use Rattle.run_page.specs.declared.error.ReportError.{ReportError}
 use Rattle.run_page.specs.declared.error.ReportError.TheVariants as page
-use Rattle.run_comparison.specs.declared.comparison.Compared.{Compared}
 use Rattle.run_comparison.specs.declared.error.ComparisonError.{ComparisonError}
 use Rattle.run_comparison.specs.declared.error.ComparisonError.TheVariants as comparison
 use Rattle.run_comparison.specs.declared.error.Which.{Which}
 use Rattle.run_comparison.specs.declared.error.Which.TheVariants as which
-use Rattle.run_comparison.specs.declared.counts.LineCounts.{LineCounts}
 use Rattle.run_comparison.specs.declared.stop.Stop.{Stop}
 use Rattle.run_comparison.specs.declared.stop.Stop.TheVariants as stop
-use Rattle.scenario_trial.specs.declared.trial.TrialOutcome.{TrialOutcome}
+use Rattle.scenario_trial.specs.declared.trial.Tried.{Tried}
 use Rattle.scenario_trial.specs.declared.error.TrialError.{TrialError}
 use Rattle.scenario_trial.specs.declared.error.TrialError.TheVariants as trial
 use Rattle.scenario_trial.specs.declared.expectation_lines.ReadError.{ReadError}
@@ -73,6 +71,7 @@ IsOfComparison files (comparison.Rules which error) read written found = found �
 IsOfComparison files comparison.Memory read written found = found ≡ fault.Memory
 IsOfComparison files comparison.Read read written found = found ≡ fault_of_device files.stream read
 IsOfComparison files comparison.Bound read written found = found ≡ fault.Stream files.stream run.ReadBound
+IsOfComparison files comparison.Uneven read written found = found ≡ fault.Stream files.stream run.ReadBound
 IsOfComparison files comparison.Write read written found = IsOfWrite written found
 
 -- the fault for a scenario with an invalid line in a rule text's words
@@ -103,16 +102,21 @@ IsOfTrial script rules (trial.Unsettled n) noted found = IsToldFault found
 IsOfTrial script rules trial.Memory noted found = found ≡ fault.Memory
 IsOfTrial script rules trial.Write noted found = IsOfWrite noted found
 
--- the result of a comparison: a fault with the place and the reason if the stream in a file with this name ends early, else a fault if
--- the runs differ
-abbrev pub answer_by_stop : Bor (List ℕ) → LineCounts → Option Stop → Result (Unit {0}) Fault
-answer_by_stop name counts (Some (stop.NoText n text)) = Err (fault.TextMissing name n text)
-answer_by_stop name counts (Some (stop.NoRecord n)) = Err (fault.Stream name (run.BadRecord n))
-answer_by_stop name counts (Some (stop.Cut n)) = Err (fault.Stream name (run.Truncated n))
-answer_by_stop name counts None = if nat_lt 0 counts.old || nat_lt 0 counts.new then Err fault.Differs else Ok tt
+-- why both runs ended before the stream did; `missing` is a text that a bad record names and that isn't given
+abbrev pub stop_of : Ending → (missing : Option ℕ) → Option Stop
+stop_of (ending.NoRecord n) (Some text) = Some (stop.NoText n text)
+stop_of (ending.NoRecord n) None = Some (stop.NoRecord n)
+stop_of (ending.Cut n) missing = Some (stop.Cut n)
+stop_of (ending.Whole records) missing = None
+stop_of ending.Bound missing = None
 
-abbrev pub answer_of_comparison : Bor (List ℕ) → Compared → Result (Unit {0}) Fault
-answer_of_comparison name found = answer_by_stop name found.counts found.stop
+-- the result of a comparison: a fault with the place and the reason if the stream in a file with this name ends early; else one if the
+-- comparison fails; else one if in one of the runs nothing was sampled
+abbrev pub answer_of_comparison : Bor (List ℕ) → Option Stop → (fails is_sampled : Bool) → Result (Unit {0}) Fault
+answer_of_comparison name (Some (stop.NoText n text)) fails is_sampled = Err (fault.TextMissing name n text)
+answer_of_comparison name (Some (stop.NoRecord n)) fails is_sampled = Err (fault.Stream name (run.BadRecord n))
+answer_of_comparison name (Some (stop.Cut n)) fails is_sampled = Err (fault.Stream name (run.Truncated n))
+answer_of_comparison name None fails is_sampled = if fails then Err fault.Differs else if not is_sampled then Err fault.NotSampled else Ok tt
 
 abbrev pub named_fault : Option (Bor (List ℕ)) → ℕ → CompileError → Fault
 named_fault (Some name) text error = fault.Rules name error
@@ -137,9 +141,10 @@ IsAnswered rules (Err (run.Write sent)) read (Some kind) missing (Err found) = I
 IsAnswered rules (Err (run.BadRecord n)) read written (Some text) (Err found) = IsOfMissing n text found
 IsAnswered rules (Err error) read written missing answer = answer ≡ Err (fault.Run error)
 
--- the result of a trial: a fault if an expectation isn't met, or, in a strict trial, if there is a warning
-abbrev pub ending_of : TrialOutcome → Bool → Result (Unit {0}) Fault
-ending_of outcome is_strict =
-    if nat_lt 0 outcome.tried.unmet then Err fault.Unmet
-    else if is_strict && not (length outcome.warnings.items == 0) then Err fault.Warned
+-- the result of a trial: a fault if an expectation isn't met; in a strict trial, if there is a warning; or if no rule was sampled
+abbrev pub ending_of : Tried → (is_sampled is_warned is_strict : Bool) → Result (Unit {0}) Fault
+ending_of tried is_sampled is_warned is_strict =
+    if nat_lt 0 tried.unmet then Err fault.Unmet
+    else if is_strict && is_warned then Err fault.Warned
+    else if not is_sampled then Err fault.NotSampled
     else Ok tt

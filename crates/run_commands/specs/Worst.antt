@@ -3,13 +3,14 @@ use Rattle.std.specs.Prelude.{◌≡◌, ◌≤◌, ◌⊎◌, ◌==◌, if◌th
 use Rattle.tool_faults.specs.declared.fault.Fault.{Fault}
 use Rattle.tool_faults.specs.declared.fault.Fault.TheVariants as fault
 
--- how bad a status is: 5 memory, 3 a file or a device, 4 a stream, any other, 0
+-- how bad a status is: 5 memory, 3 a file or a device, 4 a stream, any other, 6 nothing sampled, 0
 abbrev pub badness : ℕ → ℕ
 badness status =
-    if status == 5 then 4
-    else (if status == 3 then 3
-    else (if status == 4 then 2
-    else (if status == 0 then 0 else 1)))
+    if status == 5 then 5
+    else (if status == 3 then 4
+    else (if status == 4 then 3
+    else (if status == 6 then 1
+    else (if status == 0 then 0 else 2))))
 
 -- it is one of two statuses, and no other is worse
 abbrev pub IsWorse : (one other result : ℕ) → Type 0

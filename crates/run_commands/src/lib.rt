@@ -12,7 +12,7 @@ mod times;
 mod trying;
 mod worst;
 
-pub use crate::comparing::compare;
+pub use crate::comparing::{CompareOptions, ComparedFiles, compare};
 pub use crate::live::run;
 pub use crate::report::make_page;
 pub use crate::scenario::make_stream;

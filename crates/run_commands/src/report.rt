@@ -8,7 +8,7 @@ use crate::times::{PageTimes, part_of};
 use flight_core::RunError;
 use lc_model::Reading;
 use program_io::{Noting, Why, begin, check_page_place, discard, fault_of, keep, reason_for};
-use run_page::{Part, Progress, ReportError, Run, Source, write_page};
+use run_page::{MadePage, Part, Progress, ReportError, Run, Source, write_page};
 use run_stepper::Ending;
 use schedules::Schedule;
 use std::alloc::{AllocError, Global};
@@ -95,7 +95,7 @@ pub fn failed_file<'a>(name: &'a str, kind: Option<ErrorKind>) -> Fault<'a>
     }
 }
 
-/// Writes and flushes the page. Returns how the run ended.
+/// Writes and flushes the page. Returns how the run ended, and what it looked at.
 fn write_to<R: Eprint, I: Read + Drop, F: Write + Drop>(
     alloc: Global,
     schedule: &Schedule,
@@ -104,7 +104,7 @@ fn write_to<R: Eprint, I: Read + Drop, F: Write + Drop>(
     input: I,
     file: F,
     told: &mut ProgressLine<'_, R>,
-) -> Result<Ending, ReportError> {
+) -> Result<MadePage, ReportError> {
     let mut reader = Reading::new(input);
     let Ok(mut out) = BufWriter::new(alloc, file) else {
         return Err(ReportError::Memory);
@@ -112,9 +112,9 @@ fn write_to<R: Eprint, I: Read + Drop, F: Write + Drop>(
     let written = write_page(alloc, schedule, run, part, &mut reader, &mut out, told);
     let flushed = out.flush();
     let (_file, _unwritten) = out.into_parts();
-    let ending = written?;
+    let written = written?;
     flushed?;
-    Ok(ending)
+    Ok(written)
 }
 
 /// The fault for bad record `n` of the stream in a file with this name. `missing` is the number of the rule text that the record names,
@@ -188,16 +188,16 @@ fn put_page<'a, R: Files + Eprint + AllocGlobal, I: Read + Drop>(
     stream: &'a str,
     page: &'a str,
     rules: &[&'a str],
-) -> Result<Ending, Fault<'a>> {
+) -> Result<MadePage, Fault<'a>> {
     let rt = told.rt;
     let mut draft = begin(rt, page).map_err(|fault| fault_at(page, fault))?;
     let (read, wrote) = (Cell::new(None), Cell::new(None));
     let input = Noting::new(input, &read);
     let output = Noting::new(&mut draft.file, &wrote);
     match write_to(rt.alloc(), plan, run, part, input, output, told) {
-        Ok(ending) => {
+        Ok(written) => {
             keep(rt, draft).map_err(|fault| fault_at(page, fault))?;
-            Ok(ending)
+            Ok(written)
         }
         Err(error) => {
             discard(rt, draft);
@@ -209,8 +209,9 @@ fn put_page<'a, R: Files + Eprint + AllocGlobal, I: Read + Drop>(
 
 /// Runs rule texts over a stream and writes the page of the run, or of the part that the options name, which replaces the old page at
 /// the end. The stream is read in pieces. Errors: `Stream` with the place for a stream that ends early, and `TextNotGiven` for one that
-/// brings a text that isn't given, after the page is made; with any other fault the old file stays. `File` also for an old file that is
-/// no page. Progress goes to standard error if `is_watched`.
+/// brings a text that isn't given, after the page is made, and then `NotSampled` if no rule was sampled; with any other fault the old file
+/// stays. `File` also for an old file that is no page. Warnings about what the run looked at go to standard error, and progress if
+/// `is_watched`.
 pub fn make_page<'a, R: Files + Eprint + AllocGlobal>(
     rt: &R,
     schedule: &'a str,
@@ -248,6 +249,13 @@ pub fn make_page<'a, R: Files + Eprint + AllocGlobal>(
     told.next = told.part();
     let missing = Cell::new(None);
     let input = TextNoting::new(rt.alloc(), input, sources.len(), &missing)?;
-    let ending = put_page(&mut told, &plan, &run, part, input, stream, page, rules)?;
-    answer_of(stream, ending, missing.get())
+    let written = put_page(&mut told, &plan, &run, part, input, stream, page, rules)?;
+    for warning in &written.warnings {
+        let _said = eprintln!(rt; "{warning}");
+    }
+    answer_of(stream, written.ending, missing.get())?;
+    if written.samples == 0 {
+        return Err(Fault::NotSampled);
+    }
+    Ok(())
 }

@@ -8,12 +8,16 @@ use crate::worst::{reported, worst_of};
 use diagnostics::{Message, around, warnings_page_of};
 use program_io::Noting;
 use rpn_compiler::RuleText;
+use run_account::{AccountWarning, RunAccount, WarningLine};
 use run_stepper::{RunInputs, read_texts};
 use scenario_errors::LineError;
-use scenario_trial::{TrialError, TrialOutcome, TrialWarning, try_scenario};
+use scenario_trial::{
+    TrialError, TrialOutcome, TrialWarning, Tried, account_of_script, try_scenario,
+};
 use script_errors::script_warnings;
 use std::alloc::{AllocError, Global};
 use std::cell::Cell;
+use std::fmt::{self, Display, Formatter};
 use std::fs::Files;
 use std::io::{Eprint, ErrorKind, Write};
 use tool_faults::{
@@ -211,6 +215,27 @@ fn with_messages(
     Ok(told)
 }
 
+/// The line, without its end, that a script's run sampled nothing; empty if it sampled something.
+#[derive(Clone, Copy)]
+struct SampledNothing<'a, 's> {
+    name: &'a str,
+    account: &'a RunAccount<'s>,
+}
+
+impl Display for SampledNothing<'_, '_> {
+    fn fmt<W: fmt::Write>(&self, f: &mut Formatter<W>) -> fmt::Result {
+        if self.account.samples() > 0 {
+            return Ok(());
+        }
+        let line = WarningLine {
+            account: self.account,
+            texts: &[],
+            warning: AccountWarning::NothingSampled,
+        };
+        writeln!(f, "{}: {line}", self.name)
+    }
+}
+
 /// Writes the warnings about a script, a file's name and text, and those of its trial with these rule texts, to standard error. Returns
 /// whether there are warnings about the script itself.
 fn warn<R: Eprint + AllocGlobal>(
@@ -218,32 +243,58 @@ fn warn<R: Eprint + AllocGlobal>(
     script: (&str, &[u8]),
     texts: &[&[u8]],
     warnings: &[TrialWarning],
+    account: &RunAccount<'_>,
 ) -> Result<bool, AllocError> {
     let (name, text) = script;
     let told = script_warnings(rt.alloc(), text)?;
     let has_own = !told.is_empty();
     let told = with_messages(rt.alloc(), told, text, texts, warnings)?;
     let page = warnings_page_of(rt.alloc(), name, text, told.as_slice())?;
-    let _said = eprint!(rt; "{page}");
+    let _said = eprint!(rt; "{page}{}", SampledNothing { name, account });
     Ok(has_own)
 }
 
-/// The result of a trial: `Unmet` before `Warned`. A warning is a fault only if the trial is strict.
-fn ending_of(outcome: &TrialOutcome, strict: bool) -> Result<(), Fault<'static>>
-    ensures { result ≡ ending_of outcome.now strict }
+/// The result of a trial, by whether a rule was sampled and whether there are warnings about its script: `Unmet` before `Warned` before
+/// `NotSampled`. A warning is a fault only if the trial is strict.
+fn ending_of(
+    tried: Tried,
+    is_sampled: bool,
+    is_warned: bool,
+    strict: bool,
+) -> Result<(), Fault<'static>>
+    ensures { result ≡ ending_of tried is_sampled is_warned strict }
 {
-    if outcome.tried.unmet > 0 {
+    if tried.unmet > 0 {
         return Err(Fault::Unmet);
     }
-    if strict && !outcome.warnings.is_empty() {
+    if strict && is_warned {
         return Err(Fault::Warned);
+    }
+    if !is_sampled {
+        return Err(Fault::NotSampled);
     }
     Ok(())
 }
 
+/// The result of a trial whose run reached the script's end, after its warnings are written to standard error.
+fn result_of<R: Eprint + AllocGlobal>(
+    rt: &R,
+    script: (&str, &[u8]),
+    plan: RunInputs<'_>,
+    outcome: &TrialOutcome,
+    account: &RunAccount<'_>,
+    strict: bool,
+) -> Result<(), Fault<'static>> {
+    let warnings = outcome.warnings.as_slice();
+    let has_own = warn(rt, script, plan.texts, warnings, account)?;
+    let is_warned = has_own || !warnings.is_empty();
+    ending_of(outcome.tried, account.samples() > 0, is_warned, strict)
+}
+
 /// Runs rule texts over the stream of a script, and lists its unmet expectations, or all packets of the run if it has no expectations.
 /// Warnings go to standard error. `rules` are the names of the texts' files. Errors: `Unmet`; `Warned` if the trial is strict and there
-/// are warnings; `Lines` for a refused script or a stopped run; and the faults of the script's file, of texts and of the output.
+/// are warnings; `NotSampled`; `Lines` for a refused script or a stopped run; and the faults of the script's file, of texts and of the
+/// output.
 fn try_script<'a, R: Files + Eprint + AllocGlobal, W: Write>(
     rt: &R,
     script: &'a str,
@@ -255,18 +306,21 @@ fn try_script<'a, R: Files + Eprint + AllocGlobal, W: Write>(
     let text = read(rt, script, LONGEST_WHOLE)?;
     let kind = Cell::new(None);
     let mut noted = Noting::new(out, &kind);
-    match try_scenario(rt.alloc(), script, text.as_slice(), plan, &mut noted) {
-        Ok(outcome) => {
+    let tried = try_scenario(rt.alloc(), script, text.as_slice(), plan, &mut noted);
+    let looked = account_of_script(rt.alloc(), text.as_slice(), plan);
+    match (tried, looked) {
+        (Ok(outcome), Ok(account)) => {
             listing_result(noted.flush())?;
-            let warnings = outcome.warnings.as_slice();
-            let has_own = warn(rt, (script, text.as_slice()), plan.texts, warnings)?;
-            ending_of(&outcome, strict)?;
-            if strict && has_own {
-                return Err(Fault::Warned);
-            }
-            Ok(())
+            result_of(
+                rt,
+                (script, text.as_slice()),
+                plan,
+                &outcome,
+                &account,
+                strict,
+            )
         }
-        Err(error) => Err(trial_fault(
+        (Err(error), _) | (Ok(_), Err(error)) => Err(trial_fault(
             rt.alloc(),
             (script, text.as_slice()),
             rules,

@@ -5,16 +5,17 @@ ghost use Rattle.run_commands.specs.Worst.{IsWorse, IsWorst, answer_by, badness}
 
 use tool_faults::Fault;
 
-/// How bad a status is: worst is 5 (memory), then 3 (a file or a device), 4 (a stream), any other, and 0.
+/// How bad a status is: worst is 5 (memory), then 3 (a file or a device), 4 (a stream), any other, 6 (nothing was sampled), and 0.
 fn badness(status: u8) -> u8
     ensures { result ≡ badness status }
 {
     match status {
-        5 => 4,
-        3 => 3,
-        4 => 2,
+        5 => 5,
+        3 => 4,
+        4 => 3,
+        6 => 1,
         0 => 0,
-        _ => 1,
+        _ => 2,
     }
 }
 

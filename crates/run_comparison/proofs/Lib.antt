@@ -1,6 +1,6 @@
-pub mod Coming
-pub mod OneHost
-pub mod BothHosts
 pub mod Packets
-pub mod Counting
-pub mod Words
+pub mod Lists
+pub mod Asking
+pub mod Finding
+pub mod Runs
+pub mod Same

@@ -1,6 +1,7 @@
-pub mod Difference
-pub mod Compared
-pub mod Counted
-pub mod Coming
-pub mod Course
-pub mod Naming
+pub mod Errors
+pub mod Meaning
+pub mod Order
+pub mod Met
+pub mod Asked
+pub mod Comparing
+pub mod Failing

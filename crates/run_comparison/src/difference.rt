@@ -1,35 +1,39 @@
-//! The lines that one list has and another hasn't.
+//! In what a record's requests, or its events, differ.
 
-ghost use Rattle.std.specs.Prelude.{◌≡◌, ◌<◌, length, IfOk, IfSome};
-ghost use Rattle.run_comparison.specs.Difference.{only_in, place_of};
-
+use crate::meaning::{Meaning, Sort, meanings_of};
+use crate::met::MetRecord;
+use crate::order::{are_same, only_in};
 use std::alloc::{AllocError, Global};
 
-/// The place of the first line that is this one.
-fn place_of(line: &[u8], lines: &[&[u8]]) -> Option<usize>
-    ensures place { result ≡ place_of line.now lines.now }
-    ensures inside { IfSome result (λ place. place < length lines.now) }
-{
-    lines.iter().position(|other| line == *other)
+/// The requests, or the events, of a record in both runs: all of them, those of one run alone, and whether the others come in another
+/// order.
+#[derive(Drop)]
+pub struct Difference<'r> {
+    pub old: Vec<Meaning<'r>>,
+    pub new: Vec<Meaning<'r>>,
+    pub only_old: Vec<Meaning<'r>>,
+    pub only_new: Vec<Meaning<'r>>,
+    pub is_reordered: bool,
 }
 
-/// The lines of these, in order, that aren't among those: each of those stands for one of these. Out of memory is the only error.
-pub fn only_in<'a>(
+/// In what the requests, or the events, among the packets of a record differ. Out of memory is the only error.
+pub fn difference_in<'r>(
     alloc: Global,
-    these: &[&'a [u8]],
-    those: &[&'a [u8]],
-) -> Result<Vec<&'a [u8]>, AllocError>
-    ensures { IfOk result (λ only. only.items ≡ only_in these.now those.now) }
-{
-    let mut left = Vec::from_slice(alloc, those)?;
-    let mut only = Vec::new(alloc);
-    for line in these {
-        match place_of(line, left.as_slice()) {
-            Some(place) => {
-                let _met = left.remove(place);
-            }
-            None => only.push(*line)?,
-        }
-    }
-    Ok(only)
+    met: &'r MetRecord,
+    sort: Sort,
+) -> Result<Difference<'r>, AllocError> {
+    let old = meanings_of(alloc, met.old.as_slice(), sort)?;
+    let new = meanings_of(alloc, met.new.as_slice(), sort)?;
+    let only_old = only_in(alloc, old.as_slice(), new.as_slice())?;
+    let only_new = only_in(alloc, new.as_slice(), old.as_slice())?;
+    let common_old = only_in(alloc, old.as_slice(), only_old.as_slice())?;
+    let common_new = only_in(alloc, new.as_slice(), only_new.as_slice())?;
+    let is_reordered = !are_same(common_old.as_slice(), common_new.as_slice());
+    Ok(Difference {
+        old,
+        new,
+        only_old,
+        only_new,
+        is_reordered,
+    })
 }

@@ -1,11 +1,11 @@
 //! Why there is no comparison.
 
 ghost use Rattle.std.specs.Prelude.{◌≡◌};
-ghost use Rattle.run_comparison.specs.Coming.{IsOwn};
+ghost use Rattle.run_comparison.specs.Errors.{IsOwn, of_watch};
 ghost use Rattle.run_comparison.specs.declared.error.ComparisonError.TheVariants.{Memory};
 
 use rpn_compiler::CompileError;
-use run_stepper::CourseError;
+use run_stepper::{CourseError, WatchError};
 use std::alloc::{AllocError, AllocFailed};
 use std::io::{self, ErrorKind};
 use thiserror::Error;
@@ -37,6 +37,9 @@ pub enum ComparisonError {
     /// The comparison can't be written.
     #[error("a write failed")]
     Write,
+    /// The runs don't have as many texts.
+    #[error("the runs do not have as many rule texts")]
+    Uneven,
 }
 
 /// Which text it is that has this number in the run of another one.
@@ -47,35 +50,8 @@ fn which_of(first: Which, text: usize) -> Which {
     Which::Further(text - 1)
 }
 
-/// Which text it is that has this number among the old one, the further ones and the new one, which is the last.
-fn which_given(last: usize, text: usize) -> Which {
-    if text == last {
-        return Which::New;
-    }
-    which_of(Which::Old, text)
-}
-
 impl ComparisonError {
-    /// Why the text of this number is not read, among the old one, the further ones and the new one.
-    pub(crate) fn of_text(last: usize, text: usize, error: CourseError) -> ComparisonError {
-        match error {
-            CourseError::Rules { text: _, error } => ComparisonError::Rules {
-                which: which_given(last, text),
-                error,
-            },
-            CourseError::Memory => ComparisonError::Memory,
-        }
-    }
-
-    /// Why these texts are not read: the old one, the further ones and the new one.
-    pub(crate) fn of_texts(last: usize, error: CourseError) -> ComparisonError {
-        match error {
-            CourseError::Rules { text, error: _ } => ComparisonError::of_text(last, text, error),
-            CourseError::Memory => ComparisonError::Memory,
-        }
-    }
-
-    /// Why there is no course of this text, and of the further ones behind it.
+    /// Why there is no course of this text, and of the further ones after it.
     pub(crate) fn of(first: Which, error: CourseError) -> ComparisonError {
         match error {
             CourseError::Rules { text, error } => ComparisonError::Rules {
@@ -111,6 +87,19 @@ impl From<io::Error> for ComparisonError {
             ComparisonError::Memory
         } else {
             ComparisonError::Write
+        }
+    }
+}
+
+impl From<WatchError> for ComparisonError {
+    ghost from_gives = { λ error e. e ≡ of_watch error };
+
+    fn from(error: WatchError) -> ComparisonError {
+        match error {
+            WatchError::Memory => ComparisonError::Memory,
+            WatchError::Read => ComparisonError::Read,
+            WatchError::Write => ComparisonError::Write,
+            WatchError::Bound => ComparisonError::Bound,
         }
     }
 }

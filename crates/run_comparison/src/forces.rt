@@ -1,68 +1,30 @@
-//! Which of the given rule texts is in force in each of the two runs.
-
-ghost use Rattle.std.specs.Prelude.{◌≡◌};
-ghost use Rattle.run_comparison.specs.Coming.{hosts_in};
-ghost use Rattle.run_comparison.specs.Naming.{forces_at, forces_in, naming, nowhere};
+//! Which of the run's texts was in force in each run before a record.
 
 use lc_model::mids;
 use lc_model::packet::{first_packet, padded_message_id};
 use lc_model::stream::HEADER;
-use rpn_compiler::TablePair;
 use run_stepper::Stepping;
 
-/// The text in force in each of the two runs, by its number from 0 among the given ones; none where it is none of them.
-#[derive(Clone, Copy)]
+/// Which of the run's texts is in force in each run, by its number from 0; none where it is none of them.
+#[derive(Clone, Copy, Debug, PartialEq, Eq)]
 pub struct Forces {
     pub old: Option<usize>,
     pub new: Option<usize>,
 }
 
-impl Forces {
-    /// None of the given texts.
-    pub fn nowhere() -> Forces
-        ensures { result ≡ nowhere }
-    {
-        Forces {
-            old: None,
-            new: None,
-        }
-    }
-
-    /// The texts that give the lines of a record the names of their rules, by which runs have lines: those in force, unless a run with
-    /// lines has none. Then both have none, so that no name is compared with a number.
-    pub fn of_names(self, has_old: bool, has_new: bool) -> Forces
-        ensures { result ≡ naming self has_old has_new }
-    {
-        if has_old && self.old.is_none() || has_new && self.new.is_none() {
-            return Forces::nowhere();
-        }
-        self
-    }
-}
-
 /// The texts in force in both runs, as they are now.
-pub fn forces_in(pairs: &[TablePair], old: &Stepping, new: &Stepping) -> Forces
-    ensures { result ≡ forces_in pairs.now (hosts_in old.now new.now) }
-{
+fn forces_in(old: &Stepping, new: &Stepping) -> Forces {
     Forces {
-        old: old.text_in_force(pairs),
-        new: new.text_in_force(pairs),
+        old: old.own_text_in_force(),
+        new: new.own_text_in_force(),
     }
 }
 
-/// The texts in force at the record that both runs handled last: those before it, if they are given, else those after it.
-pub fn forces_at(
-    pairs: &[TablePair],
-    before: Option<Forces>,
-    old: &Stepping,
-    new: &Stepping,
-) -> Forces
-    ensures { result ≡ forces_at pairs.now before (hosts_in old.now new.now) }
-{
-    match before {
-        Some(forces) => forces,
-        None => forces_in(pairs, old, new),
-    }
+/// The texts in force before the next record, as far as they are known. They are asked for only while they may change, since that takes time.
+#[derive(Clone, Copy)]
+pub struct ForcesBefore {
+    /// The texts, if they may change with the record.
+    known: Option<Forces>,
 }
 
 /// Whether a record brings an order to the table services: with the next housekeeping other tables may come into force. (An order that
@@ -78,19 +40,42 @@ fn brings_order(record: &[u8]) -> bool {
 /// Whether the Limit Checker's housekeeping is among packets that follow one another.
 fn has_housekeeping(packets: &[u8]) -> bool {
     let mut rest = packets;
-    while let Some((packet, behind)) = first_packet(rest) {
+    while let Some((packet, others)) = first_packet(rest) {
         if padded_message_id(packet) == mids::LC_HOUSEKEEPING {
             return true;
         }
-        rest = behind;
+        rest = others;
     }
     false
 }
 
-/// Whether the tables in force stay as they are until the next order: no order came, or both Limit Checkers sent housekeeping after it.
-pub fn stay_settled(are_settled: bool, old: &Stepping, new: &Stepping) -> bool {
-    if are_settled {
-        return !brings_order(old.last_record());
+impl ForcesBefore {
+    /// Before the first record.
+    pub fn new() -> ForcesBefore {
+        ForcesBefore { known: None }
     }
-    has_housekeeping(old.packets()) && has_housekeeping(new.packets())
+
+    /// The texts in force before the record that both runs handled last.
+    pub fn forces(self, old: &Stepping, new: &Stepping) -> Forces {
+        match self.known {
+            Some(forces) => forces,
+            None => forces_in(old, new),
+        }
+    }
+
+    /// The texts known before the record after that. The tables in force stay as they are from the housekeeping of both Limit Checkers
+    /// until the next order.
+    pub fn after(self, old: &Stepping, new: &Stepping) -> ForcesBefore {
+        let are_settled = if self.known.is_none() {
+            !brings_order(old.last_record())
+        } else {
+            has_housekeeping(old.packets()) && has_housekeeping(new.packets())
+        };
+        let known = if are_settled {
+            None
+        } else {
+            Some(forces_in(old, new))
+        };
+        ForcesBefore { known }
+    }
 }

@@ -2,7 +2,7 @@
 const COLUMNS = ['packet', 'second', 'utc', 'record', 'kind', 'rule', 'sender', 'id', 'sequence', 'count', 'text'];
 
 function csvCells(item) {
-  const rule = item.rule === null ? '' : nameIn(textAt(item.at.record), item.rule);
+  const rule = item.request ? whoOf(item.request) : item.rule === null ? '' : nameIn(textAt(item.at.record), item.rule);
   return [item.packet, secondOf(item.at.time), instantOf(item.at.time), item.at.record, item.kind, rule, item.sender ?? '',
     item.id ?? '', item.request?.sequence ?? '', item.request?.count ?? '', item.says ?? ''];
 }

@@ -25,6 +25,13 @@ function nameOf(number) {
   return names.length ? names.join(' / ') : `rule ${number}`;
 }
 
+// Who made a request: a rule, or one of several.
+function whoOf({ rule, one_of, text }) {
+  if (rule !== null) return nameIn(text, rule);
+  if (!one_of.length) return 'unknown rule';
+  return `one of ${one_of.map(each => (each === null ? 'others' : nameIn(text, each))).join(', ')}`;
+}
+
 // The name of a rule in the text that was in force, else all its names; of tables that are of no text its number.
 const nameIn = (text, number) => ruleIn(text, number)?.name ?? (text === null ? `rule ${number} of tables of no text` : nameOf(number));
 
@@ -43,24 +50,35 @@ function withEnds(list, end = END) {
 // Where the Limit Checker is disabled: it samples no rule there.
 const disabledParts = withEnds(run.mode).filter(({ entry }) => entry[2] === 'disabled');
 
-// The parts of a span: those in which the Limit Checker is disabled, and the others. One entry of several changes stays whole.
-function cut(span) {
-  const cuts = disabledParts.flatMap(({ from, to }) => [from, to])
-    .filter(({ record }) => span.changes === 1 && span.from.record < record && record < span.to.record);
+// Where a sample of a rule was due and none came. An entry of several gaps has samples between them.
+const gapsOf = rule => run.sampling[rule].gaps.map(([record, time, last, end, count]) => (
+  { from: { record, time }, to: last >= END.record ? END : { record: last, time: end }, count }));
+
+const isBefore = (one, other) => one.record < other.record || (one.record === other.record && one.time < other.time);
+const isWithin = ({ from, to }, part) => !isBefore(from, part.from) && !isBefore(part.to, to);
+
+// The parts of a span: those in which its rule isn't sampled, and the others. One entry of several changes stays whole.
+function cut(span, parts) {
+  const cuts = parts.flatMap(({ from, to }) => [from, to]).filter(place => span.changes === 1 && isBefore(span.from, place) && isBefore(place, span.to))
+    .sort((one, other) => (isBefore(one, other) ? -1 : 1));
   return [span.from, ...cuts].map((from, index) => ({ ...span, from, to: cuts[index] ?? span.to }));
 }
 
 // Why a rule isn't sampled in a span, or nothing where it is.
-function pauseOf({ from, to, results, states }) {
+function pauseOf(span, gaps) {
+  const { results, states } = span;
   if (results === 1) return '';
   if (states && !(states & 3)) return states === 4 ? 'disabled' : states === 8 ? 'off for good' : 'not sampled';
-  return disabledParts.some(part => part.from.record <= from.record && to.record <= part.to.record) ? 'LC disabled' : '';
+  if (disabledParts.some(part => isWithin(span, part))) return 'LC disabled';
+  const gap = gaps.find(part => isWithin(span, part));
+  return gap ? gap.count > 1 ? 'hardly sampled' : 'no sample' : '';
 }
 
-function spansOf(list) {
-  return withEnds(list).map(({ entry, from, to }) => ({
+function spansOf(rule) {
+  const gaps = gapsOf(rule);
+  return withEnds(run.lanes[rule]).map(({ entry, from, to }) => ({
     from, to, results: entry[2], states: entry[3], changes: entry.length > 4 ? entry[4] : 1,
-  })).flatMap(cut).map(span => ({ ...span, pause: pauseOf(span) }));
+  })).flatMap(span => cut(span, [...disabledParts, ...gaps])).map(span => ({ ...span, pause: pauseOf(span, gaps) }));
 }
 
 // What stands in a list from a record on: the last entry that doesn't begin after it.

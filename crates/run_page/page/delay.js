@@ -30,10 +30,10 @@ function releaseAfter(rule, record, until) {
 function releaseWords(request, name, record) {
   const place = releaseAfter(request.rule, record, request.record - 1);
   const command = place && run.commands.find(([other]) => other === place.record);
-  if (command) return ` The command “${command[2]}” ended that, ${at(place)}.`;
+  if (command) return ` The command “${command[2]}” ended that, ${near(place)}.`;
   const last = run.commands.findLast(([other, , says]) => other > record && other < request.record && [`state ${name} active`, 'mode active'].includes(says));
-  if (last) return ` The last command “${last[2]}” before this request came ${at(placeOf(last))}.`;
-  return place ? ` That ended ${at(place)}.` : ' What ended that is not on this page.';
+  if (last) return ` The last command “${last[2]}” before this request came ${near(placeOf(last))}.`;
+  return place ? ` That ended ${near(place)}.` : ' What ended that is not on this page.';
 }
 
 // One sentence, and one on what ended it; none where the request came as early as it could.
@@ -46,7 +46,7 @@ function delayOf(request, rule) {
   const before = run.requests.findLast(other => other.packet < request.packet && other.rule === request.rule && other.text === request.text
     && first && other.record >= first[0]);
   if (before) {
-    return `It had requested sequence ${before.sequence} in this row of failures already, ${at(before)}, and was passive after that.`
+    return `It had requested sequence ${before.sequence} in this row of failures already, ${near(before)}, and was passive after that.`
       + releaseWords(request, rule.name, before.record);
   }
   const sample = sampleOf(request, number);
@@ -55,6 +55,6 @@ function delayOf(request, rule) {
   const last = sample[0] - 1;
   const passive = modeAt(last) === 'passive' ? 'the mode' : stateAt(request.rule, last) === 'passive' ? 'the rule' : '';
   if (!passive) return unknown;
-  return `It did not request at the ${nth}, ${at(placeOf(sample))}, because ${passive} was passive then.`
+  return `It did not request at the ${nth}, ${near(placeOf(sample))}, because ${passive} was passive then.`
     + releaseWords(request, rule.name, last);
 }

@@ -5,7 +5,7 @@ let drawn = 0;
 
 function matches(item, wanted) {
   if (wanted.kind && item.kind !== wanted.kind) return false;
-  if (wanted.rule !== '' && item.rule !== Number(wanted.rule)) return false;
+  if (wanted.rule !== '' && item.rule !== Number(wanted.rule) && !item.request?.one_of.includes(Number(wanted.rule))) return false;
   const lane = item.rule === null ? undefined : lanes[item.rule];
   if (wanted.failed && lane && !lane.failed) return false;
   return !wanted.words || `${whatOf(item)} ${lane?.words ?? ''}`.toLowerCase().includes(wanted.words);
@@ -40,8 +40,8 @@ function find() {
 
 function makeTableRow(item) {
   const row = make('tr', item.packet === chosen ? 'chosen' : '', undefined, { role: 'row', 'data-packet': item.packet });
-  const label = item.rule === null ? 'show' : nameIn(textAt(item.at.record), item.rule);
-  const link = makeBroken('button', item.rule === null ? 'unprinted' : '', label, { type: 'button', 'aria-label': `${label}: packet ${item.packet} in the lanes` });
+  const label = item.request ? whoOf(item.request) : item.rule === null ? 'show' : nameIn(textAt(item.at.record), item.rule);
+  const link = makeBroken('button', item.rule === null && !item.request ? 'unprinted' : '', label, { type: 'button', 'aria-label': `${label}: packet ${item.packet} in the lanes` });
   link.addEventListener('click', () => showInLanes(item));
   const rule = make('td', 'rule');
   rule.append(link);

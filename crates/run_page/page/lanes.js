@@ -104,8 +104,8 @@ function drawOthers() {
   if (others.length) timer = setTimeout(drawOthers, 20);
 }
 
-function makeLane(list, rule, items) {
-  const lane = { ...makeRow(nameOf(rule), true), rule, spans: spansOf(list), items };
+function makeLane(rule, items) {
+  const lane = { ...makeRow(nameOf(rule), true), rule, spans: spansOf(rule), items };
   // The event that goes with a request is the request's, and no mark of its own.
   const own = new Set(items.filter(item => item.request).map(item => item.request.event));
   lane.marks = items.filter(item => !own.has(item.packet));
@@ -183,6 +183,8 @@ function makeLanes() {
   makeBands();
   makeMarks('commands', 'commands', commands, ['commands']);
   makeMarks('others', 'other events', byRule.get(null) ?? [], ['events']);
-  run.lanes.forEach((list, rule) => makeLane(list, rule, byRule.get(rule) ?? []));
+  run.lanes.forEach((list, rule) => makeLane(rule, byRule.get(rule) ?? []));
+  // Those that failed come first.
+  byId('lanes').append(...[...lanes].sort((one, other) => other.failed - one.failed).map(lane => lane.row));
   drawings.push(drawLanes);
 }

@@ -28,12 +28,14 @@ function tellFigures() {
   byId('figures').append(
     figure('records', all.records, `${all.telemetry} telemetry, ${all.ticks} ticks, ${all.commands} commands, ${all.files} files`),
     figure('packets written', all.packets, `${all.housekeeping} housekeeping${all.other ? `, ${all.other} others` : ''}`),
-    figure('requests', all.requests, `of ${run.requests_left_out ? 'at least ' : ''}${counted(new Set(run.requests.map(request => request.rule)).size, 'rule')}`),
+    figure('requests', all.requests, `of ${run.requests_left_out || run.requests.some(request => request.rule === null) ? 'at least ' : ''}${counted(new Set(run.requests.map(request => request.rule).filter(rule => rule !== null)).size, 'rule')}`),
+    figure('samples', run.samples, `of ${counted(run.lanes.length, 'rule')}${run.account.steps_back ? `; ${counted(run.account.steps_back, 'step')} back in time` : ''}`),
     figure('events', events, LEVELS.map(level => `${all[level]} ${level}`).join(', ')));
 }
 
 function tellFiles() {
   byId('program').textContent = `Made by ${run.program}.`;
+  document.title = `${run.files.at(-1).name.split('/').at(-1)}: run of the Limit Checker`;
   for (const file of run.files) {
     const row = make('tr');
     const sum = make('td');

@@ -162,12 +162,25 @@ function sampleMarks(plot, width) {
   });
 }
 
+// The newest values before the rule's requests, where the list of the field does not have each value.
+function aroundShapes(plot, width) {
+  return plot.lane.items.filter(item => item.request).map(({ request }) => {
+    const [, values] = request.around.find(([field]) => field === plot.field) ?? [0, []];
+    const known = values.filter(([record, , value]) => value !== null && record >= FIRST);
+    if (!known.length) return '';
+    const points = known.map(([record, time, value]) => [sharePixels({ record, time }, width), heightOf(plot, value)]);
+    const steps = points.map(([x, y], index) => (index ? `H${x}V${y}` : `M${x} ${y}`)).join('');
+    const dots = points.map(([x, y]) => `M${x} ${y}h0`).join('');
+    return `<path class="line" d="${steps}H${sharePixels(request, width)}"/><path class="dots" d="${dots}"/>`;
+  }).join('');
+}
+
 function drawPlot(plot) {
   const width = plot.track.clientWidth || 1;
   [plot.low, plot.high] = boundsOf(plot);
   plot.told.textContent = plot.values;
   const drawing = make('div', 'drawing', undefined, { 'aria-hidden': 'true' });
-  drawing.innerHTML = `<svg viewBox="0 0 ${width} ${HEIGHT}" preserveAspectRatio="none">${limitShapes(plot, width)}${valueShapes(plot, width)}</svg>`;
+  drawing.innerHTML = `<svg viewBox="0 0 ${width} ${HEIGHT}" preserveAspectRatio="none">${limitShapes(plot, width)}${valueShapes(plot, width)}${aroundShapes(plot, width)}</svg>`;
   const marks = sampleMarks(plot, width);
   plot.track.drawn = marks.map(({ x, y, item }) => ({ left: x, right: x, top: y, item }));
   redraw(plot.track, [drawing, ...limitLabels(plot, width, marks), ...marks, ...readingOf(plot, width)]);

@@ -31,16 +31,17 @@ function conditionOf(rule) {
 }
 
 // The comparisons of one sample, each with the value that it met.
-function partsTable(rule, [, time, parts]) {
+function partsTable(rule, [, time, parts], before) {
   const table = make('table');
   const head = make('tr');
   head.append(make('th', '', 'comparison'), make('th', 'number', 'value'), make('th', '', 'age'), make('th', '', 'holds'));
   table.append(head);
   parts.forEach(([value, record, since, verdict], index) => {
     const [field, operator, number] = rule.comparisons[index];
-    const age = record === null ? 'no packet taken' : `${decimal(time - since)} s, record\u00a0${record}`;
+    const same = record !== null && before?.[2][index]?.[1] === record ? ', as before' : '';
+    const age = record === null ? 'no packet taken' : `${decimal(time - since)} s, record\u00a0${record}${same}`;
     const holds = { true: '✔ true', false: '✘ false' }[verdict] ?? verdict;
-    const row = make('tr');
+    const row = make('tr', verdict === 'true' ? 'holding' : '');
     row.append(makeBroken('td', '', `${run.fields[field].name} ${operator}\u00a0${number}`),
       make('td', 'number', record === null ? '–' : valueText(field, value)), make('td', age.length < 18 ? 'whole' : '', age), make('td', 'holds', holds));
     table.append(row);
@@ -52,8 +53,14 @@ function partsTable(rule, [, time, parts]) {
 function sampleHeading(request, index) {
   const shown = request.samples.length;
   const number = index < shown - Math.min(3, shown) ? index + 1 : request.counted - (shown - 1 - index);
-  const [record, time] = request.samples[index];
-  return `Failed sample ${number} of ${request.counted}: ${sinceStart(time)} s, record ${record}`;
+  const which = request.counted === null ? '' : ` ${number} of ${request.counted}`;
+  return `Failed sample${which}: ${near(placeOf(request.samples[index]))}${isOverSame(request, index) ? ', over the same packets as the one before it' : ''}`;
+}
+
+// Whether a sample met the same packets as the one before it.
+function isOverSame({ samples }, index) {
+  const records = sample => sample[2].map(part => part[1]).join();
+  return index > 0 && records(samples[index]) === records(samples[index - 1]);
 }
 
 // Whether the event that goes with a request was sent, and why not.
@@ -62,26 +69,31 @@ function eventWords(request, level) {
   return { type: ` was not sent: events of ${level} are off.`, filter: ' was not sent: held back by a filter.' }[request.held] ?? ' was not sent.';
 }
 
+// How often a rule failed before a request.
+function failedIn({ counted: count }) {
+  return count === null ? 'failed in several samples of this record, of which the number is not known' : count === 1 ? 'failed in 1 sample' : `failed in ${count} samples in a row`;
+}
+
 // The whole answer: rule, condition, and the failed samples with what each comparison met.
 function whyOf(request) {
   const rule = ruleIn(request.text, request.rule);
   const article = make('article');
   const place = `Sequence ${request.sequence} was requested ${at(request)}, packet ${request.packet}, count ${request.count}.`;
   if (!rule) {
-    const who = request.rule === null ? 'Which rule requested it is not known.' : `Rule ${request.rule} failed in ${counted(request.counted, 'sample')} in a row.`;
+    const none = request.one_of.length ? `${whoOf(request).replace('one of', 'One of')} requested it: which one is not known.` : 'Which rule requested it is not known.';
+    const who = request.rule === null ? none : `Rule ${request.rule} ${failedIn(request)}.`;
     const why = request.text === null ? 'The tables in force were of none of the texts, so its condition is not known.' : '';
     const event = request.rule === null ? '' : ` Its event${eventWords(request, 'its type')}`;
     article.append(makeBroken('p', '', place), make('p', '', `${who} ${why}${event}`));
     return article;
   }
-  const row = request.counted === 1 ? '1 sample' : `${request.counted} samples in a row`;
   const needs = request.counted === rule.fails ? ', as many as it needs' : `; it needs ${rule.fails}`;
-  article.append(makeBroken('p', '', place), makeBroken('p', '', `${rule.name} (rule ${request.rule}) failed in ${row}${needs}. ${delayOf(request, rule)}`),
+  article.append(makeBroken('p', '', place), makeBroken('p', '', `${rule.name} (rule ${request.rule}) ${failedIn(request)}${needs}. ${delayOf(request, rule)}`),
     conditionOf(rule), makeBroken('p', 'soft', `In ${textName(request.text)}. Its event, ${rule.level} ${rule.event} “${rule.says}”${eventWords(request, `type ${rule.level}`)}`));
   const samples = make('div', 'samples');
   samples.append(...request.samples.map((sample, index) => {
     const part = make('section');
-    part.append(make('h4', '', sampleHeading(request, index)), partsTable(rule, sample));
+    part.append(make('h4', '', sampleHeading(request, index)), partsTable(rule, sample, request.samples[index - 1]));
     return part;
   }));
   article.append(samples);
@@ -109,7 +121,8 @@ const rowLink = item => linkTo(`packet ${item.packet} in the table`, () => showR
 function showItem(item) {
   if (item.packet) choose(item.packet);
   if (item.request) {
-    showAfter(rowOf(item), `Why sequence ${item.request.sequence}?`, whyOf(item.request), rowLink(item));
+    const level = ruleIn(item.request.text, item.request.rule)?.level;
+    showAfter(rowOf(item), `Why sequence ${item.request.sequence}?${level ? ` (${SHAPES[level]} ${level})` : ''}`, whyOf(item.request), rowLink(item));
     return;
   }
   const [title, links] = item.kind === 'command' ? ['command', []] : [`${item.kind} event`, [rowLink(item)]];
@@ -119,7 +132,7 @@ function showItem(item) {
 // Several marks that are drawn as one: each has its own button, and all are zoomed to.
 function showItems(items) {
   if (items.length === 1) { showItem(items[0]); return; }
-  const links = items.slice(0, 200).map(item => linkTo(`${SHAPES[item.kind]} ${itemName(item)}`, () => showItem(item)));
+  const links = items.slice(0, 200).map(item => linkTo(`${SHAPES[item.kind]} ${itemName(item, near)}`, () => showItem(item)));
   const rest = items.length > links.length ? [make('p', 'soft', `and ${items.length - links.length} more: zoom to see them`)] : [];
   showAfter(rowOf(items[0]), `${items.length} ${items[0].kind === 'command' ? 'commands' : 'requests and events'}`,
     linkTo('zoom to these', () => zoomTo(items[0].at, items.at(-1).at)), ...links, ...rest);
@@ -129,7 +142,7 @@ function showItems(items) {
 function showSpan(lane, cell) {
   const text = textAt(cell.from.record);
   const inForce = ruleIn(text, lane.rule);
-  const parts = cell.parts.slice(0, 200).map(part => makeBroken('p', '', spanName(lane.rule, part)));
+  const parts = cell.parts.slice(0, 200).map(part => makeBroken('p', '', spanName(lane.rule, part, near)));
   const rest = cell.parts.length > 200 ? [make('p', 'soft', `and ${cell.parts.length - 200} more: zoom to see them`)] : [];
   const reduced = cell.parts.some(part => part.changes > 1)
     ? [make('p', 'soft', 'A number of changes stands for changes that are not on this page one by one.'), ...moreAbout(cell.from, cell.to)] : [];

@@ -34,13 +34,16 @@ function when(place) {
   return `${sinceStart(place.time)} s (second ${secondOf(place.time)}${instant && ', ' + instant})`;
 }
 
+// The same without the second and the instant, where these stand above.
+const near = place => `${sinceStart(place.time)} s, record ${place.record}`;
+
 const at = place => when(place).replace(/\)$/, `, record ${place.record})`);
 
 // How long a span lasts, from where to where.
-function during({ from, to }) {
-  if (to === END) return `from ${at(from)} to the end`;
-  if (to.record === from.record) return `within record ${from.record}, ${at(from)}`;
-  return `from ${at(from)} to ${at(to)}`;
+function during({ from, to }, words = at) {
+  if (to === END) return `from ${words(from)} to the end`;
+  if (to.record === from.record) return `within record ${from.record}, ${words(from)}`;
+  return `from ${words(from)} to ${words(to)}`;
 }
 
 function resultWords(bits) {
@@ -50,18 +53,18 @@ function resultWords(bits) {
 const stateWords = bits => wordsOf(bits, STATES).map(word => (word === 'off' ? 'off for good' : word)).join(' and ');
 
 // What a span, or several that are drawn as one, says to a person who can't see it.
-function spanName(rule, span) {
+function spanName(rule, span, words = at) {
   const [worst, ...others] = resultWords(span.results);
   const states = stateWords(span.states);
   const also = others.length ? `, also ${others.join(', ')}` : '';
   const changes = span.changes > 1 ? `, ${span.changes} changes` : '';
-  const pause = span.pause === 'LC disabled' ? 'not sampled while the Limit Checker is disabled, last result ' : span.pause ? 'not sampled, last result ' : '';
-  return `${nameOf(rule)}: ${pause}${span.changes > 1 ? 'worst ' : ''}${worst}${also}${states && ', ' + states}${changes}, ${during(span)}`;
+  const pause = span.pause === 'no sample' ? 'no sample came though it was due, last result ' : span.pause === 'hardly sampled' ? 'several times no sample came though it was due, last result ' : span.pause === 'LC disabled' ? 'not sampled while the Limit Checker is disabled, last result ' : span.pause ? 'not sampled, last result ' : '';
+  return `${nameOf(rule)}: ${pause}${span.changes > 1 ? 'worst ' : ''}${worst}${also}${states && ', ' + states}${changes}, ${during(span, words)}`;
 }
 
-function itemName(item) {
-  if (item.kind === 'command') return `command ${item.says}, ${at(item.at)}`;
+function itemName(item, words = at) {
+  if (item.kind === 'command') return `command ${item.says}, ${words(item.at)}`;
   const what = item.request ? `request of sequence ${item.request.sequence}` : `${item.kind} event ${whatOf(item)}`;
-  const rule = item.rule === null ? '' : ` of ${nameIn(textAt(item.at.record), item.rule)}`;
-  return `${what}${rule}, ${at(item.at)}, packet ${item.packet}`;
+  const rule = item.request ? ` of ${whoOf(item.request)}` : item.rule === null ? '' : ` of ${nameIn(textAt(item.at.record), item.rule)}`;
+  return `${what}${rule}, ${words(item.at)}, packet ${item.packet}`;
 }

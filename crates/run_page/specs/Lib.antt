@@ -1,4 +1,1 @@
-pub mod Coming
-pub mod Model
-pub mod Part
-pub mod Times
+pub mod Reading

@@ -1,9 +1,7 @@
 //! The Limit Checker's mode and rules after a record.
 
-ghost use Rattle.std.specs.Prelude.{◌≡◌, ◌<◌, true, false, [], None, Some, IsTrue, IfOk, OnOk, length, map, slice_get};
-ghost use Rattle.flight_profile.specs.Checkers.{engine_among};
-ghost use Rattle.run_stepper.specs.Stepping.{IsAtRest, host_in};
-ghost use Rattle.run_page.specs.Model.{mode_of, stand_of, stands_of};
+ghost use Rattle.std.specs.Prelude.{◌<◌, length};
+ghost use Rattle.run_stepper.specs.Stepping.{IsAtRest};
 
 use lc_model::LcMode;
 use limit_engine::Engine;
@@ -25,7 +23,6 @@ pub struct Behind {
 /// The result, state and failures of a rule of an engine.
 fn stand_in(checker: &Engine, rule: usize) -> Stand
     requires { rule < length checker.now.points }
-    ensures { slice_get (map stand_of checker.now.points) rule ≡ Some result }
 {
     let standing = checker.standing(rule);
     Stand {
@@ -36,10 +33,7 @@ fn stand_in(checker: &Engine, rule: usize) -> Stand
 }
 
 /// Appends all rules of an engine. The only error is a lack of memory.
-fn stands_in(checker: &Engine, rules: &mut Vec<Stand>) -> Result<(), AllocError>
-    requires { rules.old.items ≡ [] }
-    ensures { OnOk result (rules.new.items ≡ map stand_of checker.now.points) }
-{
+fn stands_in(checker: &Engine, rules: &mut Vec<Stand>) -> Result<(), AllocError> {
     for rule in 0..checker.rule_count() {
         rules.push(stand_in(checker, rule))?;
     }
@@ -47,16 +41,12 @@ fn stands_in(checker: &Engine, rules: &mut Vec<Stand>) -> Result<(), AllocError>
 }
 
 /// Whether two rules have the same result, state and failures.
-fn is_same(one: Stand, other: Stand) -> bool
-    ensures { IsTrue result → one ≡ other }
-{
+fn is_same(one: Stand, other: Stand) -> bool {
     one.result == other.result && one.state == other.state && one.fails == other.fails
 }
 
 /// Whether the rules of an engine are these.
-fn is_standing(checker: &Engine, rules: &[Stand]) -> bool
-    ensures { IsTrue result → rules.now ≡ map stand_of checker.now.points }
-{
+fn is_standing(checker: &Engine, rules: &[Stand]) -> bool {
     if rules.len() != checker.rule_count() {
         return false;
     }
@@ -70,9 +60,7 @@ fn is_standing(checker: &Engine, rules: &[Stand]) -> bool
 
 impl Behind {
     /// The state before the first record.
-    pub fn new(alloc: Global) -> Behind
-        ensures { result.looked ≡ false }
-    {
+    pub fn new(alloc: Global) -> Behind {
         Behind {
             mode: None,
             rules: Vec::new(alloc),
@@ -81,13 +69,7 @@ impl Behind {
     }
 
     /// Takes that no Limit Checker runs. Returns whether the rules changed, or this is the first look.
-    fn look_at_none(&mut self) -> bool
-        ensures mode { self.new.mode ≡ None }
-        ensures rules { self.new.rules.items ≡ [] }
-        ensures same { result ≡ false → self.new.rules.items ≡ self.old.rules.items }
-        ensures looked { result ≡ false → self.old.looked ≡ true }
-        ensures now { self.new.looked ≡ true }
-    {
+    fn look_at_none(&mut self) -> bool {
         let is_new = !self.looked || !self.rules.is_empty();
         self.mode = None;
         self.rules.clear();
@@ -96,14 +78,7 @@ impl Behind {
     }
 
     /// Takes the mode and rules of an engine. Returns whether the rules changed, or this is the first look.
-    fn look_at(&mut self, checker: &Engine) -> Result<bool, AllocError>
-        ensures mode { OnOk result (self.new.mode ≡ Some checker.now.mode) }
-        ensures rules { OnOk result (self.new.rules.items ≡ map stand_of checker.now.points) }
-        ensures same { IfOk result
-            (λ is_new. is_new ≡ false → self.new.rules.items ≡ self.old.rules.items) }
-        ensures looked { IfOk result (λ is_new. is_new ≡ false → self.old.looked ≡ true) }
-        ensures now { OnOk result (self.new.looked ≡ true) }
-    {
+    fn look_at(&mut self, checker: &Engine) -> Result<bool, AllocError> {
         self.mode = Some(checker.mode());
         if self.looked && is_standing(checker, self.rules.as_slice()) {
             return Ok(false);
@@ -118,14 +93,6 @@ impl Behind {
     /// lack of memory.
     pub fn look(&mut self, stepping: &Stepping) -> Result<bool, AllocError>
         requires { IsAtRest stepping.now }
-        ensures mode { OnOk result (self.new.mode ≡
-            mode_of (engine_among (host_in stepping.now).host.seats)) }
-        ensures rules { OnOk result (self.new.rules.items ≡
-            stands_of (engine_among (host_in stepping.now).host.seats)) }
-        ensures same { IfOk result
-            (λ is_new. is_new ≡ false → self.new.rules.items ≡ self.old.rules.items) }
-        ensures looked { IfOk result (λ is_new. is_new ≡ false → self.old.looked ≡ true) }
-        ensures now { OnOk result (self.new.looked ≡ true) }
     {
         match stepping.checker() {
             Some(checker) => self.look_at(checker),

@@ -1,15 +1,12 @@
 //! The times of records.
 
-ghost use Rattle.std.specs.Prelude.{◌≡◌, ◌<◌, ◌^◌, ◌==◌, ◌-ℤ◌, pos, if◌then◌else◌};
-ghost use Rattle.run_page.specs.Times.{ticks_of};
-
 use lc_model::SUBSECONDS;
 use lc_model::stream::{HEADER, moment_of};
 use run_summary::Place;
 
 /// The times of the records so far, in 1/65,536 s.
 #[derive(Clone, Copy)]
-pub struct Clock {
+pub struct RecordClock {
     /// The time of the first record.
     pub start: u64,
     /// The time of the newest record less that of the first.
@@ -20,11 +17,13 @@ pub struct Clock {
     pub is_anew: bool,
 }
 
+/// A time as a signed number.
+pub fn signed(ticks: u64) -> i64 {
+    i64::try_from(ticks).unwrap_or(i64::MAX)
+}
+
 /// The time of a record in 1/65,536 s; 0 if its header is cut short.
-pub fn ticks_in(record: &[u8]) -> u64
-    ensures ticks { result ≡ ticks_of record.now }
-    ensures small { result < 2 ^ 48 }
-{
+pub fn ticks_in(record: &[u8]) -> u64 {
     if record.len() < HEADER {
         return 0;
     }
@@ -33,20 +32,14 @@ pub fn ticks_in(record: &[u8]) -> u64
 }
 
 /// One time less another.
-fn difference(one: u64, other: u64) -> i64
-    requires one { one < 2 ^ 48 }
-    requires other { other < 2 ^ 48 }
-    ensures { result ≡ pos one -ℤ pos other }
-{
-    one as i64 - other as i64
+fn difference(one: u64, other: u64) -> i64 {
+    signed(one).saturating_sub(signed(other))
 }
 
-impl Clock {
+impl RecordClock {
     /// The clock before the first record.
-    pub fn new() -> Clock
-        ensures { result.start ≡ 0 }
-    {
-        Clock {
+    pub fn new() -> RecordClock {
+        RecordClock {
             start: 0,
             end: 0,
             is_ordered: true,
@@ -55,22 +48,13 @@ impl Clock {
     }
 
     /// Begins anew: the order of records counts from the next one on.
-    pub fn begin_anew(&mut self)
-        ensures { self.new.start ≡ self.old.start }
-    {
+    pub fn begin_anew(&mut self) {
         self.is_ordered = true;
         self.is_anew = true;
     }
 
     /// Takes the time of the record with this number, counted from 1. Returns its place.
-    pub fn next(&mut self, number: u64, ticks: u64) -> Place
-        requires ticks { ticks < 2 ^ 48 }
-        requires start { self.old.start < 2 ^ 48 }
-        ensures start { self.new.start ≡ (if number == 1 then ticks else self.old.start) }
-        ensures small { self.new.start < 2 ^ 48 }
-        ensures number { result.«record» ≡ number }
-        ensures time { result.time ≡ pos ticks -ℤ pos self.new.start }
-    {
+    pub fn next(&mut self, number: u64, ticks: u64) -> Place {
         if number == 1 {
             self.start = ticks;
         }

@@ -1,15 +1,10 @@
 //! The entries that lists get at a place.
 
-ghost use Rattle.std.specs.Prelude.{◌≡◌};
-ghost use Rattle.run_page.specs.Model.{stood, valued};
-
 use bounded_history::{Content, Entry};
 use run_summary::{Met, Place, Stand};
 
 /// The entry of a field that has this value from this place on. Without a value its least number is greater than its greatest.
-pub fn value_entry(place: Place, met: Met) -> Entry
-    ensures { result ≡ valued place met.value }
-{
+pub fn value_entry(place: Place, met: Met) -> Entry {
     let (low, high) = match met.value {
         Some(value) => (value, value),
         None => (i64::MAX, i64::MIN),
@@ -28,9 +23,7 @@ pub fn value_entry(place: Place, met: Met) -> Entry
 }
 
 /// The entry of a rule that has this result and state from this place on.
-pub fn stand_entry(place: Place, stand: Stand) -> Entry
-    ensures { result ≡ stood place stand }
-{
+pub fn stand_entry(place: Place, stand: Stand) -> Entry {
     Entry {
         from: place.record,
         time: place.time,

@@ -1,11 +1,9 @@
 //! The errors of writing a page.
 
-ghost use Rattle.std.specs.Prelude.{◌≡◌};
-ghost use Rattle.run_page.specs.Coming.{IsOwn, of_course};
-ghost use Rattle.run_page.specs.declared.error.ReportError.TheVariants.{Memory};
+ghost use Rattle.std.specs.Prelude.{⊤};
 
 use rpn_compiler::CompileError;
-use run_stepper::CourseError;
+use run_stepper::{CourseError, WatchError};
 use std::alloc::{AllocError, AllocFailed};
 use std::io::{self, ErrorKind};
 use thiserror::Error;
@@ -31,7 +29,7 @@ pub enum ReportError {
 }
 
 impl From<CourseError> for ReportError {
-    ghost from_gives = { λ error e. e ≡ of_course error };
+    ghost from_gives = { λ _ _. ⊤ };
 
     fn from(error: CourseError) -> ReportError {
         match error {
@@ -41,8 +39,21 @@ impl From<CourseError> for ReportError {
     }
 }
 
+impl From<WatchError> for ReportError {
+    ghost from_gives = { λ _ _. ⊤ };
+
+    fn from(error: WatchError) -> ReportError {
+        match error {
+            WatchError::Memory => ReportError::Memory,
+            WatchError::Read => ReportError::Read,
+            WatchError::Write => ReportError::Write,
+            WatchError::Bound => ReportError::Bound,
+        }
+    }
+}
+
 impl From<AllocError> for ReportError {
-    ghost from_gives = { λ _ e. e ≡ Memory };
+    ghost from_gives = { λ _ _. ⊤ };
 
     fn from(_error: AllocError) -> ReportError {
         ReportError::Memory
@@ -50,7 +61,7 @@ impl From<AllocError> for ReportError {
 }
 
 impl<T: Drop> From<AllocFailed<T>> for ReportError {
-    ghost from_gives = { λ _ e. e ≡ Memory };
+    ghost from_gives = { λ _ _. ⊤ };
 
     fn from(_error: AllocFailed<T>) -> ReportError {
         ReportError::Memory
@@ -58,7 +69,7 @@ impl<T: Drop> From<AllocFailed<T>> for ReportError {
 }
 
 impl From<io::Error> for ReportError {
-    ghost from_gives = { λ _ e. IsOwn e };
+    ghost from_gives = { λ _ _. ⊤ };
 
     fn from(error: io::Error) -> ReportError {
         if error.kind() == ErrorKind::OutOfMemory {

@@ -1,13 +1,17 @@
-//! Reads a stream, and counts and hashes its bytes.
+//! Counts and hashes the bytes of a stream.
 
-ghost use Rattle.std.specs.Prelude.{◌≡◌, ◌<◌, ◌≤◌, ℕ, List, [], false, true, length, take, IfOk, OnOk};
+ghost use Rattle.std.specs.Prelude.{◌≡◌, ◌<◌, ◌++◌, ℕ, List, [], length, OnOk};
 ghost use Rattle.sha2.specs.Sha256.{sha256};
-ghost use Rattle.sha2.specs.Hashers.{Holds256};
-ghost use Rattle.run_page.specs.Coming.{Took, TookAll};
+ghost use Rattle.run_account.specs.Clock.{capped};
+ghost use Rattle.run_stepper.specs.Watching.{MeetsEnd};
+ghost use Rattle.run_page.specs.Reading.{HasRead, ReadsRest};
 
 use crate::error::ReportError;
+use lc_model::stream::PIECE;
 use lc_model::{ByteSource, DeviceFault};
+use run_stepper::Ending;
 use sha2::{Digest, Sha256};
+use std::alloc::Global;
 
 /// The bytes of a stream read so far.
 #[derive(Drop)]
@@ -16,8 +20,6 @@ pub struct Intake {
     pub count: u64,
     /// The SHA-256 of the bytes so far.
     pub hasher: Sha256,
-    /// Whether the stream's end was reached.
-    pub is_ended: bool,
 }
 
 /// The size and the hash of a whole stream.
@@ -32,40 +34,21 @@ pub struct Taken {
 impl Intake {
     /// The state before the first read.
     pub fn new() -> Intake
-        ensures count { result.count ≡ 0 }
-        ensures hasher { Holds256 result.hasher [] }
-        ensures open { result.is_ended ≡ false }
+        ensures { HasRead result [] }
     {
         Intake {
             count: 0,
             hasher: Sha256::new(),
-            is_ended: false,
         }
     }
 
-    /// Reads a piece into the front of `room`. Returns its length in bytes; 0 at the stream's end. Error: `Read` if the read fails.
-    pub fn take_piece<R: ByteSource>(
-        &mut self,
-        room: &mut [u8],
-        reader: &mut R,
-    ) -> Result<usize, ReportError>
-        requires some { 0 < length room.old }
-        requires open { self.old.is_ended ≡ false }
-        ensures room { length room.new ≡ length room.old }
-        ensures fits { IfOk result (λ count. count ≤ length room.old) }
-        ensures took { IfOk result (λ count. Took (R.source reader.old).rest
-            (R.source reader.new).rest self.old self.new (take count room.new)) }
-        ensures ended { IfOk result (λ count. count ≡ 0 → self.new.is_ended ≡ true) }
+    /// Takes a piece.
+    pub fn take(&mut self, piece: &[u8])
+        ensures { (front : List ℕ) → HasRead self.old front →
+            HasRead self.new (front ++ piece.now) }
     {
-        match reader.read(room) {
-            Ok(count) => {
-                self.hasher.update(&room[..count]);
-                self.count = self.count.saturating_add(count as u64);
-                self.is_ended = count == 0;
-                Ok(count)
-            }
-            Err(DeviceFault) => Err(ReportError::Read),
-        }
+        self.hasher.update(piece);
+        self.count = self.count.saturating_add(piece.len() as u64);
     }
 
     /// Reads the rest of the stream. Errors: `Read` if a read fails, and `Bound` after the greatest number of reads.
@@ -75,22 +58,44 @@ impl Intake {
         reader: &mut R,
     ) -> Result<(), ReportError>
         requires some { 0 < length room.old }
-        ensures { OnOk result (TookAll (R.source reader.old).rest
-            (R.source reader.new).rest self.old self.new) }
+        ensures { (front : List ℕ) → HasRead self.old front → OnOk result
+            (ReadsRest (R.source reader.old).rest (R.source reader.new).rest front self.new) }
     {
         for _ in 0..u64::MAX {
-            if self.is_ended {
-                return Ok(());
+            match reader.read(room) {
+                Ok(0) => return Ok(()),
+                Ok(count) => self.take(&room[..count]),
+                Err(DeviceFault) => return Err(ReportError::Read),
             }
-            self.take_piece(room, reader)?;
         }
         Err(ReportError::Bound)
     }
 
+    /// Reads the rest of a stream whose records ended so. Errors: `Memory`; those of `take_rest`.
+    pub fn finish<R: ByteSource>(
+        &mut self,
+        alloc: Global,
+        ending: Ending,
+        reader: &mut R,
+    ) -> Result<(), ReportError>
+        requires { MeetsEnd ending (R.source reader.old).rest }
+        ensures { (front : List ℕ) → HasRead self.old front → OnOk result
+            (ReadsRest (R.source reader.old).rest (R.source reader.new).rest front self.new) }
+    {
+        match ending {
+            Ending::NoRecord { .. } => {
+                let mut room = vec![in alloc; 0; PIECE]?;
+                self.take_rest(room.as_mut_slice(), reader)
+            }
+            Ending::Whole { .. } | Ending::Cut { .. } | Ending::Bound => Ok(()),
+        }
+    }
+
     /// Returns the size and the hash of the bytes that were read.
     pub fn into_taken(self) -> Taken
-        ensures bytes { result.bytes ≡ self.count }
-        ensures digest { (stream : List ℕ) → Holds256 self.hasher stream →
+        ensures bytes { (stream : List ℕ) → HasRead self stream →
+            result.bytes ≡ capped (length stream) }
+        ensures digest { (stream : List ℕ) → HasRead self stream →
             result.digest ≡ sha256 stream }
     {
         Taken {

@@ -2,14 +2,14 @@
 //! HTML, style and script, which tools/gate/page_constants makes from page/.
 #![tactic(auto)]
 
-mod arriving;
 mod behind;
 mod clock;
 mod entry;
 mod error;
 mod intake;
-pub mod laws;
+mod lanes;
 mod lists;
+mod observer;
 mod page_front;
 mod page_script_0;
 mod page_script_1;
@@ -19,6 +19,7 @@ mod part;
 mod progress;
 mod report;
 mod running;
+mod sampling;
 mod shown_part;
 mod telling;
 
@@ -27,7 +28,7 @@ pub use intake::Taken;
 pub use page_json::{Run, Source};
 pub use part::{Part, WHOLE};
 pub use progress::{Progress, Silent};
-pub use report::write_page;
-pub use running::tell_run;
+pub use report::{MadePage, write_page};
+pub use running::{PageRun, watch_run};
 pub use shown_part::{PartStart, ShownPart};
 pub use telling::Telling;

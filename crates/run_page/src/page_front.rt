@@ -120,6 +120,7 @@ color:var(--error-ink);border-color:var(--error);z-index:2;}
 .cell.active{border-bottom:4px solid var(--ink);}
 .cell.passive{border-bottom:4px dashed var(--held);}
 .cell.mixed{border-bottom:5px double var(--ink);}
+tr.holding td{font-weight:600;}
 .cell.paused,.cell.mode_disabled{
 background:repeating-linear-gradient(135deg,var(--box) 0 6px,var(--line) 6px 8px);color:var(--ink);font-weight:400;
 border:1px dotted var(--edge);height:26px;line-height:23px;z-index:0;}
@@ -243,7 +244,7 @@ thead{display:table-header-group;}
 <span><i class="cell error active">error</i> upright stripes</span>
 <span><i class="cell none active">none</i> no result yet</span>
 <span><i class="cell absent"></i> no such rule in force</span>
-<span><i class="cell pass paused">off</i> grey: not sampled (rule disabled or off for good, or LC disabled)</span>
+<span><i class="cell pass paused">off</i> grey: not sampled (rule disabled or off for good, LC disabled, or no sample came though it was due)</span>
 <span><i class="cell fail active many passes">FAIL</i> dots above: several changes, the worst is shown; a strip below it: it passed, too</span>
 <span><i class="cell pass active"></i> rule active</span>
 <span><i class="cell pass passive">P</i> passive</span>

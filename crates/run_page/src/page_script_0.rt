@@ -21,6 +21,11 @@ function nameOf(number) {
 const names = [...new Set(rulesOf(number).map(rule => rule.name))];
 return names.length ? names.join(' / ') : `rule ${number}`;
 }
+function whoOf({ rule, one_of, text }) {
+if (rule !== null) return nameIn(text, rule);
+if (!one_of.length) return 'unknown rule';
+return `one of ${one_of.map(each => (each === null ? 'others' : nameIn(text, each))).join(', ')}`;
+}
 const nameIn = (text, number) => ruleIn(text, number)?.name ?? (text === null ? `rule ${number} of tables of no text` : nameOf(number));
 const textName = text => {
 const file = run.files.filter(each => each.role === 'rules')[text];
@@ -32,20 +37,28 @@ entry, from: placeOf(entry), to: index + 1 < list.length ? placeOf(list[index + 
 }));
 }
 const disabledParts = withEnds(run.mode).filter(({ entry }) => entry[2] === 'disabled');
-function cut(span) {
-const cuts = disabledParts.flatMap(({ from, to }) => [from, to])
-.filter(({ record }) => span.changes === 1 && span.from.record < record && record < span.to.record);
+const gapsOf = rule => run.sampling[rule].gaps.map(([record, time, last, end, count]) => (
+{ from: { record, time }, to: last >= END.record ? END : { record: last, time: end }, count }));
+const isBefore = (one, other) => one.record < other.record || (one.record === other.record && one.time < other.time);
+const isWithin = ({ from, to }, part) => !isBefore(from, part.from) && !isBefore(part.to, to);
+function cut(span, parts) {
+const cuts = parts.flatMap(({ from, to }) => [from, to]).filter(place => span.changes === 1 && isBefore(span.from, place) && isBefore(place, span.to))
+.sort((one, other) => (isBefore(one, other) ? -1 : 1));
 return [span.from, ...cuts].map((from, index) => ({ ...span, from, to: cuts[index] ?? span.to }));
 }
-function pauseOf({ from, to, results, states }) {
+function pauseOf(span, gaps) {
+const { results, states } = span;
 if (results === 1) return '';
 if (states && !(states & 3)) return states === 4 ? 'disabled' : states === 8 ? 'off for good' : 'not sampled';
-return disabledParts.some(part => part.from.record <= from.record && to.record <= part.to.record) ? 'LC disabled' : '';
+if (disabledParts.some(part => isWithin(span, part))) return 'LC disabled';
+const gap = gaps.find(part => isWithin(span, part));
+return gap ? gap.count > 1 ? 'hardly sampled' : 'no sample' : '';
 }
-function spansOf(list) {
-return withEnds(list).map(({ entry, from, to }) => ({
+function spansOf(rule) {
+const gaps = gapsOf(rule);
+return withEnds(run.lanes[rule]).map(({ entry, from, to }) => ({
 from, to, results: entry[2], states: entry[3], changes: entry.length > 4 ? entry[4] : 1,
-})).flatMap(cut).map(span => ({ ...span, pause: pauseOf(span) }));
+})).flatMap(span => cut(span, [...disabledParts, ...gaps])).map(span => ({ ...span, pause: pauseOf(span, gaps) }));
 }
 const entryAt = (list, record) => list[list.findLastIndex(entry => entry[0] <= record)];
 function textAt(record) {
@@ -94,29 +107,30 @@ function when(place) {
 const instant = instantOf(place.time);
 return `${sinceStart(place.time)} s (second ${secondOf(place.time)}${instant && ', ' + instant})`;
 }
+const near = place => `${sinceStart(place.time)} s, record ${place.record}`;
 const at = place => when(place).replace(/\)$/, `, record ${place.record})`);
-function during({ from, to }) {
-if (to === END) return `from ${at(from)} to the end`;
-if (to.record === from.record) return `within record ${from.record}, ${at(from)}`;
-return `from ${at(from)} to ${at(to)}`;
+function during({ from, to }, words = at) {
+if (to === END) return `from ${words(from)} to the end`;
+if (to.record === from.record) return `within record ${from.record}, ${words(from)}`;
+return `from ${words(from)} to ${words(to)}`;
 }
 function resultWords(bits) {
 return wordsOf(bits, RESULTS).map(word => RESULT_WORDS[word] ?? word);
 }
 const stateWords = bits => wordsOf(bits, STATES).map(word => (word === 'off' ? 'off for good' : word)).join(' and ');
-function spanName(rule, span) {
+function spanName(rule, span, words = at) {
 const [worst, ...others] = resultWords(span.results);
 const states = stateWords(span.states);
 const also = others.length ? `, also ${others.join(', ')}` : '';
 const changes = span.changes > 1 ? `, ${span.changes} changes` : '';
-const pause = span.pause === 'LC disabled' ? 'not sampled while the Limit Checker is disabled, last result ' : span.pause ? 'not sampled, last result ' : '';
-return `${nameOf(rule)}: ${pause}${span.changes > 1 ? 'worst ' : ''}${worst}${also}${states && ', ' + states}${changes}, ${during(span)}`;
+const pause = span.pause === 'no sample' ? 'no sample came though it was due, last result ' : span.pause === 'hardly sampled' ? 'several times no sample came though it was due, last result ' : span.pause === 'LC disabled' ? 'not sampled while the Limit Checker is disabled, last result ' : span.pause ? 'not sampled, last result ' : '';
+return `${nameOf(rule)}: ${pause}${span.changes > 1 ? 'worst ' : ''}${worst}${also}${states && ', ' + states}${changes}, ${during(span, words)}`;
 }
-function itemName(item) {
-if (item.kind === 'command') return `command ${item.says}, ${at(item.at)}`;
+function itemName(item, words = at) {
+if (item.kind === 'command') return `command ${item.says}, ${words(item.at)}`;
 const what = item.request ? `request of sequence ${item.request.sequence}` : `${item.kind} event ${whatOf(item)}`;
-const rule = item.rule === null ? '' : ` of ${nameIn(textAt(item.at.record), item.rule)}`;
-return `${what}${rule}, ${at(item.at)}, packet ${item.packet}`;
+const rule = item.request ? ` of ${whoOf(item.request)}` : item.rule === null ? '' : ` of ${nameIn(textAt(item.at.record), item.rule)}`;
+return `${what}${rule}, ${words(item.at)}, packet ${item.packet}`;
 }
 function knownPlaces() {
 const lists = [...run.lanes, ...run.fields.map(field => field.values), run.tables, run.mode, run.commands, run.events.map(event => event.slice(1)),
@@ -367,18 +381,4 @@ lanes.addEventListener('wheel', zoomByWheel, { passive: false });
 const MINUTE = 60, HOUR = 3600, DAY = 86400;
 const CLOCK_STEPS = [1, 2, 5, 10, 15, 30, MINUTE, 2 * MINUTE, 5 * MINUTE, 10 * MINUTE, 15 * MINUTE, 30 * MINUTE,
 HOUR, 2 * HOUR, 3 * HOUR, 6 * HOUR, 12 * HOUR, DAY];
-function stepFrom(least) {
-if (view.unit === 'record') least = Math.max(1, least);
-if (view.unit === 'utc' && least > DAY) return DAY * Math.ceil(least / DAY);
-if (view.unit === 'utc' && least > 0.5) return CLOCK_STEPS.find(step => step >= least);
-const power = 10 ** Math.floor(Math.log10(least));
-return [1, 2, 5, 10].map(times => times * power).find(step => step >= least * 0.999);
-}
-function originOf() {
-if (view.unit === 'second') return run.start / TICKS;
-if (view.unit === 'utc') return run.start / TICKS + Date.parse(run.epoch) / 1000;
-return 0;
-}
-function numberText(number, step) {
-const digits = Math.max(0, Math.min(5, -Math.floor(Math.log10(step) + 1e-9)));
 "#;

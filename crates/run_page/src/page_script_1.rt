@@ -1,7 +1,21 @@
 //! The page behind its data, part 1. Written by tools/gate/page_constants.
 
 /// The page behind its data, part 1.
-pub const TEXT: &str = r#"if (view.unit === 'utc') return clockText(number, step, digits);
+pub const TEXT: &str = r#"function stepFrom(least) {
+if (view.unit === 'record') least = Math.max(1, least);
+if (view.unit === 'utc' && least > DAY) return DAY * Math.ceil(least / DAY);
+if (view.unit === 'utc' && least > 0.5) return CLOCK_STEPS.find(step => step >= least);
+const power = 10 ** Math.floor(Math.log10(least));
+return [1, 2, 5, 10].map(times => times * power).find(step => step >= least * 0.999);
+}
+function originOf() {
+if (view.unit === 'second') return run.start / TICKS;
+if (view.unit === 'utc') return run.start / TICKS + Date.parse(run.epoch) / 1000;
+return 0;
+}
+function numberText(number, step) {
+const digits = Math.max(0, Math.min(5, -Math.floor(Math.log10(step) + 1e-9)));
+if (view.unit === 'utc') return clockText(number, step, digits);
 return (view.unit === 'start' ? '+' : '') + number.toFixed(view.unit === 'record' ? 0 : digits);
 }
 function clockText(number, step, digits) {
@@ -204,8 +218,8 @@ function drawOthers() {
 others.splice(0, 8).forEach(drawLane);
 if (others.length) timer = setTimeout(drawOthers, 20);
 }
-function makeLane(list, rule, items) {
-const lane = { ...makeRow(nameOf(rule), true), rule, spans: spansOf(list), items };
+function makeLane(rule, items) {
+const lane = { ...makeRow(nameOf(rule), true), rule, spans: spansOf(rule), items };
 const own = new Set(items.filter(item => item.request).map(item => item.request.event));
 lane.marks = items.filter(item => !own.has(item.packet));
 lane.failed = lane.spans.some(span => span.results & 32);
@@ -275,7 +289,8 @@ makeAxis();
 makeBands();
 makeMarks('commands', 'commands', commands, ['commands']);
 makeMarks('others', 'other events', byRule.get(null) ?? [], ['events']);
-run.lanes.forEach((list, rule) => makeLane(list, rule, byRule.get(rule) ?? []));
+run.lanes.forEach((list, rule) => makeLane(rule, byRule.get(rule) ?? []));
+byId('lanes').append(...[...lanes].sort((one, other) => other.failed - one.failed).map(lane => lane.row));
 drawings.push(drawLanes);
 }
 const COMPARE = {
@@ -366,19 +381,4 @@ return [low - room, high + room];
 function makePlot(lane, field) {
 const { name, values, packets } = run.fields[field];
 const plot = { row: make('div', 'row plot'), track: make('div', 'track'), field, lane, parts: limitPartsOf(lane.rule, field) };
-plot.steps = stepsOf(field);
-plot.told = make('div');
-const label = makeBroken('div', 'name', name);
-label.append(plot.told, make('div', '', `${packets} packets`));
-if (plot.parts.some(part => !isAlone(part.rule))) label.append(make('div', '', 'shade: this field’s part only'));
-plot.row.append(label, plot.track);
-plot.track.tabIndex = 0;
-plot.track.setAttribute('role', 'slider');
-plot.track.setAttribute('aria-label', `${name}: ${values.length} values; arrows go from one to the next`);
-listenToPlot(plot);
-tappable(plot.track, near => showItems([...new Set(near.map(({ item }) => item))]));
-return plot;
-}
-const sharePixels = (place, width) => Math.max(-10, Math.min(width + 10, shareOf(place) * width));
-const heightOf = (plot, value) => EDGE + (plot.high - value) / (plot.high - plot.low) * (HEIGHT - 2 * EDGE);
 "#;

@@ -1,7 +1,22 @@
 //! The page behind its data, part 2. Written by tools/gate/page_constants.
 
 /// The page behind its data, part 2.
-pub const TEXT: &str = r#"function limitShapes(plot, width) {
+pub const TEXT: &str = r#"plot.steps = stepsOf(field);
+plot.told = make('div');
+const label = makeBroken('div', 'name', name);
+label.append(plot.told, make('div', '', `${packets} packets`));
+if (plot.parts.some(part => !isAlone(part.rule))) label.append(make('div', '', 'shade: this field’s part only'));
+plot.row.append(label, plot.track);
+plot.track.tabIndex = 0;
+plot.track.setAttribute('role', 'slider');
+plot.track.setAttribute('aria-label', `${name}: ${values.length} values; arrows go from one to the next`);
+listenToPlot(plot);
+tappable(plot.track, near => showItems([...new Set(near.map(({ item }) => item))]));
+return plot;
+}
+const sharePixels = (place, width) => Math.max(-10, Math.min(width + 10, shareOf(place) * width));
+const heightOf = (plot, value) => EDGE + (plot.high - value) / (plot.high - plot.low) * (HEIGHT - 2 * EDGE);
+function limitShapes(plot, width) {
 return plot.parts.map(part => {
 const [left, right] = [part.from, part.to].map(place => sharePixels(place, width));
 const wide = Math.max(0, right - left);
@@ -89,12 +104,23 @@ mark.style.top = mark.y + 'px';
 return mark;
 });
 }
+function aroundShapes(plot, width) {
+return plot.lane.items.filter(item => item.request).map(({ request }) => {
+const [, values] = request.around.find(([field]) => field === plot.field) ?? [0, []];
+const known = values.filter(([record, , value]) => value !== null && record >= FIRST);
+if (!known.length) return '';
+const points = known.map(([record, time, value]) => [sharePixels({ record, time }, width), heightOf(plot, value)]);
+const steps = points.map(([x, y], index) => (index ? `H${x}V${y}` : `M${x} ${y}`)).join('');
+const dots = points.map(([x, y]) => `M${x} ${y}h0`).join('');
+return `<path class="line" d="${steps}H${sharePixels(request, width)}"/><path class="dots" d="${dots}"/>`;
+}).join('');
+}
 function drawPlot(plot) {
 const width = plot.track.clientWidth || 1;
 [plot.low, plot.high] = boundsOf(plot);
 plot.told.textContent = plot.values;
 const drawing = make('div', 'drawing', undefined, { 'aria-hidden': 'true' });
-drawing.innerHTML = `<svg viewBox="0 0 ${width} ${HEIGHT}" preserveAspectRatio="none">${limitShapes(plot, width)}${valueShapes(plot, width)}</svg>`;
+drawing.innerHTML = `<svg viewBox="0 0 ${width} ${HEIGHT}" preserveAspectRatio="none">${limitShapes(plot, width)}${valueShapes(plot, width)}${aroundShapes(plot, width)}</svg>`;
 const marks = sampleMarks(plot, width);
 plot.track.drawn = marks.map(({ x, y, item }) => ({ left: x, right: x, top: y, item }));
 redraw(plot.track, [drawing, ...limitLabels(plot, width, marks), ...marks, ...readingOf(plot, width)]);
@@ -180,10 +206,10 @@ return changes.sort((one, other) => one.record - other.record)
 function releaseWords(request, name, record) {
 const place = releaseAfter(request.rule, record, request.record - 1);
 const command = place && run.commands.find(([other]) => other === place.record);
-if (command) return ` The command “${command[2]}” ended that, ${at(place)}.`;
+if (command) return ` The command “${command[2]}” ended that, ${near(place)}.`;
 const last = run.commands.findLast(([other, , says]) => other > record && other < request.record && [`state ${name} active`, 'mode active'].includes(says));
-if (last) return ` The last command “${last[2]}” before this request came ${at(placeOf(last))}.`;
-return place ? ` That ended ${at(place)}.` : ' What ended that is not on this page.';
+if (last) return ` The last command “${last[2]}” before this request came ${near(placeOf(last))}.`;
+return place ? ` That ended ${near(place)}.` : ' What ended that is not on this page.';
 }
 function delayOf(request, rule) {
 const number = rule.fails;
@@ -194,7 +220,7 @@ const first = request.samples[0];
 const before = run.requests.findLast(other => other.packet < request.packet && other.rule === request.rule && other.text === request.text
 && first && other.record >= first[0]);
 if (before) {
-return `It had requested sequence ${before.sequence} in this row of failures already, ${at(before)}, and was passive after that.`
+return `It had requested sequence ${before.sequence} in this row of failures already, ${near(before)}, and was passive after that.`
 + releaseWords(request, rule.name, before.record);
 }
 const sample = sampleOf(request, number);
@@ -202,7 +228,7 @@ if (!sample || sample[0] <= FIRST) return unknown;
 const last = sample[0] - 1;
 const passive = modeAt(last) === 'passive' ? 'the mode' : stateAt(request.rule, last) === 'passive' ? 'the rule' : '';
 if (!passive) return unknown;
-return `It did not request at the ${nth}, ${at(placeOf(sample))}, because ${passive} was passive then.`
+return `It did not request at the ${nth}, ${near(placeOf(sample))}, because ${passive} was passive then.`
 + releaseWords(request, rule.name, last);
 }
 let chosen = null; // the packet that is marked in the table
@@ -230,16 +256,17 @@ const line = make('p', '', 'fails when ');
 line.append(make('code', '', rule.condition));
 return line;
 }
-function partsTable(rule, [, time, parts]) {
+function partsTable(rule, [, time, parts], before) {
 const table = make('table');
 const head = make('tr');
 head.append(make('th', '', 'comparison'), make('th', 'number', 'value'), make('th', '', 'age'), make('th', '', 'holds'));
 table.append(head);
 parts.forEach(([value, record, since, verdict], index) => {
 const [field, operator, number] = rule.comparisons[index];
-const age = record === null ? 'no packet taken' : `${decimal(time - since)} s, record\u00a0${record}`;
+const same = record !== null && before?.[2][index]?.[1] === record ? ', as before' : '';
+const age = record === null ? 'no packet taken' : `${decimal(time - since)} s, record\u00a0${record}${same}`;
 const holds = { true: '✔ true', false: '✘ false' }[verdict] ?? verdict;
-const row = make('tr');
+const row = make('tr', verdict === 'true' ? 'holding' : '');
 row.append(makeBroken('td', '', `${run.fields[field].name} ${operator}\u00a0${number}`),
 make('td', 'number', record === null ? '–' : valueText(field, value)), make('td', age.length < 18 ? 'whole' : '', age), make('td', 'holds', holds));
 table.append(row);
@@ -249,32 +276,39 @@ return table;
 function sampleHeading(request, index) {
 const shown = request.samples.length;
 const number = index < shown - Math.min(3, shown) ? index + 1 : request.counted - (shown - 1 - index);
-const [record, time] = request.samples[index];
-return `Failed sample ${number} of ${request.counted}: ${sinceStart(time)} s, record ${record}`;
+const which = request.counted === null ? '' : ` ${number} of ${request.counted}`;
+return `Failed sample${which}: ${near(placeOf(request.samples[index]))}${isOverSame(request, index) ? ', over the same packets as the one before it' : ''}`;
+}
+function isOverSame({ samples }, index) {
+const records = sample => sample[2].map(part => part[1]).join();
+return index > 0 && records(samples[index]) === records(samples[index - 1]);
 }
 function eventWords(request, level) {
 if (request.event !== null) return `, packet ${request.event}.`;
 return { type: ` was not sent: events of ${level} are off.`, filter: ' was not sent: held back by a filter.' }[request.held] ?? ' was not sent.';
+}
+function failedIn({ counted: count }) {
+return count === null ? 'failed in several samples of this record, of which the number is not known' : count === 1 ? 'failed in 1 sample' : `failed in ${count} samples in a row`;
 }
 function whyOf(request) {
 const rule = ruleIn(request.text, request.rule);
 const article = make('article');
 const place = `Sequence ${request.sequence} was requested ${at(request)}, packet ${request.packet}, count ${request.count}.`;
 if (!rule) {
-const who = request.rule === null ? 'Which rule requested it is not known.' : `Rule ${request.rule} failed in ${counted(request.counted, 'sample')} in a row.`;
+const none = request.one_of.length ? `${whoOf(request).replace('one of', 'One of')} requested it: which one is not known.` : 'Which rule requested it is not known.';
+const who = request.rule === null ? none : `Rule ${request.rule} ${failedIn(request)}.`;
 const why = request.text === null ? 'The tables in force were of none of the texts, so its condition is not known.' : '';
 const event = request.rule === null ? '' : ` Its event${eventWords(request, 'its type')}`;
 article.append(makeBroken('p', '', place), make('p', '', `${who} ${why}${event}`));
 return article;
 }
-const row = request.counted === 1 ? '1 sample' : `${request.counted} samples in a row`;
 const needs = request.counted === rule.fails ? ', as many as it needs' : `; it needs ${rule.fails}`;
-article.append(makeBroken('p', '', place), makeBroken('p', '', `${rule.name} (rule ${request.rule}) failed in ${row}${needs}. ${delayOf(request, rule)}`),
+article.append(makeBroken('p', '', place), makeBroken('p', '', `${rule.name} (rule ${request.rule}) ${failedIn(request)}${needs}. ${delayOf(request, rule)}`),
 conditionOf(rule), makeBroken('p', 'soft', `In ${textName(request.text)}. Its event, ${rule.level} ${rule.event} “${rule.says}”${eventWords(request, `type ${rule.level}`)}`));
 const samples = make('div', 'samples');
 samples.append(...request.samples.map((sample, index) => {
 const part = make('section');
-part.append(make('h4', '', sampleHeading(request, index)), partsTable(rule, sample));
+part.append(make('h4', '', sampleHeading(request, index)), partsTable(rule, sample, request.samples[index - 1]));
 return part;
 }));
 article.append(samples);
@@ -297,7 +331,8 @@ const rowLink = item => linkTo(`packet ${item.packet} in the table`, () => showR
 function showItem(item) {
 if (item.packet) choose(item.packet);
 if (item.request) {
-showAfter(rowOf(item), `Why sequence ${item.request.sequence}?`, whyOf(item.request), rowLink(item));
+const level = ruleIn(item.request.text, item.request.rule)?.level;
+showAfter(rowOf(item), `Why sequence ${item.request.sequence}?${level ? ` (${SHAPES[level]} ${level})` : ''}`, whyOf(item.request), rowLink(item));
 return;
 }
 const [title, links] = item.kind === 'command' ? ['command', []] : [`${item.kind} event`, [rowLink(item)]];
@@ -305,7 +340,7 @@ showAfter(rowOf(item), title, makeBroken('p', '', itemName(item)), ...links);
 }
 function showItems(items) {
 if (items.length === 1) { showItem(items[0]); return; }
-const links = items.slice(0, 200).map(item => linkTo(`${SHAPES[item.kind]} ${itemName(item)}`, () => showItem(item)));
+const links = items.slice(0, 200).map(item => linkTo(`${SHAPES[item.kind]} ${itemName(item, near)}`, () => showItem(item)));
 const rest = items.length > links.length ? [make('p', 'soft', `and ${items.length - links.length} more: zoom to see them`)] : [];
 showAfter(rowOf(items[0]), `${items.length} ${items[0].kind === 'command' ? 'commands' : 'requests and events'}`,
 linkTo('zoom to these', () => zoomTo(items[0].at, items.at(-1).at)), ...links, ...rest);
@@ -313,7 +348,7 @@ linkTo('zoom to these', () => zoomTo(items[0].at, items.at(-1).at)), ...links, .
 function showSpan(lane, cell) {
 const text = textAt(cell.from.record);
 const inForce = ruleIn(text, lane.rule);
-const parts = cell.parts.slice(0, 200).map(part => makeBroken('p', '', spanName(lane.rule, part)));
+const parts = cell.parts.slice(0, 200).map(part => makeBroken('p', '', spanName(lane.rule, part, near)));
 const rest = cell.parts.length > 200 ? [make('p', 'soft', `and ${cell.parts.length - 200} more: zoom to see them`)] : [];
 const reduced = cell.parts.some(part => part.changes > 1)
 ? [make('p', 'soft', 'A number of changes stands for changes that are not on this page one by one.'), ...moreAbout(cell.from, cell.to)] : [];
@@ -326,7 +361,7 @@ let found = []; // the rows that the filter lets through
 let drawn = 0;
 function matches(item, wanted) {
 if (wanted.kind && item.kind !== wanted.kind) return false;
-if (wanted.rule !== '' && item.rule !== Number(wanted.rule)) return false;
+if (wanted.rule !== '' && item.rule !== Number(wanted.rule) && !item.request?.one_of.includes(Number(wanted.rule))) return false;
 const lane = item.rule === null ? undefined : lanes[item.rule];
 if (wanted.failed && lane && !lane.failed) return false;
 return !wanted.words || `${whatOf(item)} ${lane?.words ?? ''}`.toLowerCase().includes(wanted.words);
@@ -346,39 +381,4 @@ const hit = new Set(found.map(item => item.rule));
 for (const lane of lanes) {
 lane.row.hidden = !laneMatches(lane, wanted, hit);
 if (lane.row.hidden) openLane(lane, false);
-}
-if (byId('panel').previousElementSibling?.hidden) closePanel();
-const shown = lanes.filter(lane => !lane.row.hidden).length;
-byId('shown').textContent = `${shown} of ${lanes.length} rules shown.`;
-byId('rows_shown').textContent = [`${found.length} of ${sent.length} requests and events`, ...stretches.map(leftOutWords)].join('; ');
-drawn = 0;
-byId('rows').replaceChildren();
-drawRows(MORE);
-drawSoon();
-}
-function makeTableRow(item) {
-const row = make('tr', item.packet === chosen ? 'chosen' : '', undefined, { role: 'row', 'data-packet': item.packet });
-const label = item.rule === null ? 'show' : nameIn(textAt(item.at.record), item.rule);
-const link = makeBroken('button', item.rule === null ? 'unprinted' : '', label, { type: 'button', 'aria-label': `${label}: packet ${item.packet} in the lanes` });
-link.addEventListener('click', () => showInLanes(item));
-const rule = make('td', 'rule');
-rule.append(link);
-row.append(make('td', 'number', item.packet), make('td', 'number', secondOf(item.at.time)), make('td', 'instant', instantOf(item.at.time)),
-make('td', 'number narrow', item.at.record), make('td', `whole kind ink_${item.kind}`, `${SHAPES[item.kind]} ${item.kind}`), rule, makeBroken('td', 'what', whatOf(item)));
-for (const cell of row.children) cell.setAttribute('role', 'cell');
-return row;
-}
-function drawRows(count) {
-const next = found.slice(drawn, drawn + count);
-byId('rows').append(...next.map(makeTableRow));
-drawn += next.length;
-byId('more').hidden = drawn >= found.length;
-byId('more').textContent = `${found.length - drawn} more`;
-}
-const atTheEnd = new IntersectionObserver(entries => {
-if (!entries.at(-1).isIntersecting || drawn >= found.length) return;
-drawRows(MORE);
-atTheEnd.unobserve(byId('more'));
-atTheEnd.observe(byId('more'));
-}, { rootMargin: '600px' });
 "#;

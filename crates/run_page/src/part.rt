@@ -1,8 +1,5 @@
 //! The part of a run that a page shows.
 
-ghost use Rattle.std.specs.Prelude.{◌≡◌};
-ghost use Rattle.run_page.specs.Part.{is_after, is_before, is_from, is_left_for, is_until, phase_after};
-
 /// The times of a part of a run, in 1/65,536 s since second 0: it has the records from the first one at `from` or later, up to the next one
 /// at `until` or later, which isn't in it.
 #[derive(Clone, Copy)]
@@ -32,9 +29,7 @@ pub enum Phase {
 
 impl Part {
     /// Whether a record of this time may begin the part.
-    fn is_from(self, ticks: u64) -> bool
-        ensures { result ≡ is_from self.from ticks }
-    {
+    fn is_from(self, ticks: u64) -> bool {
         match self.from {
             None => true,
             Some(from) => from <= ticks,
@@ -42,9 +37,7 @@ impl Part {
     }
 
     /// Whether a record of this time ends the part.
-    fn is_until(self, ticks: u64) -> bool
-        ensures { result ≡ is_until self.until ticks }
-    {
+    fn is_until(self, ticks: u64) -> bool {
         match self.until {
             None => false,
             Some(until) => until <= ticks,
@@ -52,9 +45,7 @@ impl Part {
     }
 
     /// The phase at a record of this time; `phase` is that at the record before it.
-    pub fn phase_after(self, phase: Phase, ticks: u64) -> Phase
-        ensures { result ≡ phase_after self phase ticks }
-    {
+    pub fn phase_after(self, phase: Phase, ticks: u64) -> Phase {
         match phase {
             Phase::Before => if !self.is_from(ticks) {
                 Phase::Before
@@ -75,9 +66,7 @@ impl Part {
 
 impl Phase {
     /// Whether the part hasn't begun.
-    pub fn is_before(self) -> bool
-        ensures { result ≡ is_before self }
-    {
+    pub fn is_before(self) -> bool {
         match self {
             Phase::Before => true,
             Phase::Inside => false,
@@ -86,9 +75,7 @@ impl Phase {
     }
 
     /// Whether the part begins, or is passed, if the next phase is this one.
-    pub fn is_left_for(self, next: Phase) -> bool
-        ensures { result ≡ is_left_for self next }
-    {
+    pub fn is_left_for(self, next: Phase) -> bool {
         match self {
             Phase::Before => !next.is_before(),
             Phase::Inside => false,
@@ -97,9 +84,7 @@ impl Phase {
     }
 
     /// Whether the part is over.
-    pub fn is_after(self) -> bool
-        ensures { result ≡ is_after self }
-    {
+    pub fn is_after(self) -> bool {
         match self {
             Phase::Before => false,
             Phase::Inside => false,

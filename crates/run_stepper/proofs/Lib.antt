@@ -6,3 +6,6 @@ pub mod Output
 pub mod TextsRead
 pub mod Stepped
 pub mod Walking
+pub mod Passing
+pub mod Pieces
+pub mod Shown

@@ -3,3 +3,4 @@ pub mod Stepping
 pub mod Trace
 pub mod Steps
 pub mod Walk
+pub mod Watching

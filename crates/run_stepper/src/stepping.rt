@@ -8,13 +8,14 @@ ghost use Rattle.flight_core.specs.Records.{most_held, taken_of};
 ghost use Rattle.run_stepper.specs.declared.error.CourseError.TheVariants.{Memory};
 ghost use Rattle.run_stepper.specs.Events.{is_type_of_checker_on};
 ghost use Rattle.flight_profile.specs.Force.{text_in_force};
-ghost use Rattle.flight_profile.specs.Checkers.{engine_among};
+ghost use Rattle.flight_profile.specs.Checkers.{engine_among, slot_among};
 ghost use Rattle.run_stepper.specs.Stepping.{BeginsWith, GoesOn, HandlesAlone, HasHandled, HasStepped, IsAtRest, IsRefusal, host_in, refusal_of, written_by};
+ghost use Rattle.run_stepper.specs.Watching.{IsNew};
 
 use crate::error::CourseError;
 use crate::handled::Handled;
 use flight_core::{FedHost, Halt, RunError};
-use flight_profile::{Member, engine_on, own_stock, text_in_force};
+use flight_profile::{Member, engine_on, own_stock, slot_on, text_in_force};
 use lc_model::{ByteSink, DeviceFault, EventKind};
 use limit_engine::Engine;
 use rpn_compiler::TablePair;
@@ -69,6 +70,7 @@ impl Stepping {
         ensures ready { IfOk result IsAtRest }
         ensures begun { IfOk result
             (λ it. BeginsWith (sources_of texts.now) schedule.now (host_in it)) }
+        ensures new { IfOk result (λ it. IsNew (host_in it)) }
         ensures refused { IfErr result (IsRefusal (sources_of texts.now)) }
     {
         let stock = own_stock(alloc, schedule)?;
@@ -164,6 +166,30 @@ impl Stepping {
         ensures { result ≡ text_in_force pairs.now (executive_in (host_in self.now).host) }
     {
         text_in_force(self.fed.host(), pairs)
+    }
+
+    /// The table files of the rule texts, in order.
+    pub fn files(&self) -> &[TablePair]
+        ensures { result.now ≡ (host_in self.now).files }
+    {
+        self.fed.files()
+    }
+
+    /// The number, from 0, of the rule text in force among the run's own texts: the first whose images are the active ones of both
+    /// tables. None if the tables in force are of none of them.
+    pub fn own_text_in_force(&self) -> Option<usize>
+        ensures { result ≡ text_in_force (host_in self.now).files
+            (executive_in (host_in self.now).host) }
+    {
+        text_in_force(self.fed.host(), self.fed.files())
+    }
+
+    /// The slot of the schedule, from 0, that the next tick publishes. None if no scheduler runs.
+    pub fn next_slot(&self) -> Option<usize>
+        requires { IsAtRest self.now }
+        ensures { result ≡ slot_among (host_in self.now).host.seats }
+    {
+        slot_on(self.fed.host())
     }
 
     /// Whether events of this type are on for the Limit Checker; false if none is registered.

@@ -1,15 +1,6 @@
 //! The account of a run, taken record by record. Its memory doesn't grow with the run.
 
-ghost use Rattle.std.specs.Prelude.{◌≡◌, IfOk, List, OnOk, map, replicate, ℕ};
-ghost use Rattle.rpn_compiler.specs.TextParts.{AreTextsOf, items_in};
-ghost use Rattle.run_summary.specs.Account.{account_of, before_with, begun_anew, brought_by, come, enforced_so, left_by, rows_with, sampled, shown, stood_again, stood_so};
-ghost use Rattle.run_summary.specs.Brought.{brings_of};
-ghost use Rattle.run_summary.specs.Plans.{parts_by, planned_at};
-ghost use Rattle.run_summary.specs.Run.{TellsNothing};
-ghost use Rattle.run_summary.specs.Samples.{no_row};
-ghost use Rattle.run_summary.specs.Standing.{absent};
-ghost use Rattle.run_summary.specs.Texts.{most_rules};
-
+use crate::asking::has_asked;
 use crate::bands::{Bands, How};
 use crate::brought::{Brought, read_record};
 use crate::ends::Ends;
@@ -17,6 +8,7 @@ use crate::figures::Figures;
 use crate::holds::{ALL_ON, TypesOn};
 use crate::place::{ABSENT, Place, Stand, stand_in};
 use crate::plans::{Part, RulePlans, parts_at, plans_of};
+use crate::recent::{Recent, drop_values, no_values, take_values};
 use crate::samples::FailRun;
 use crate::seen::{Seen, all_unseen, count_all_anew, forget_all, see_all};
 use crate::sent::Sending;
@@ -37,6 +29,7 @@ pub struct Account<'a> {
     pub lanes: usize,
     /// What is known of each field that the texts' rules compare.
     pub seen: Vec<Seen<'a>>,
+    pub(crate) recent: Vec<Recent>,
     pub(crate) rows: Vec<FailRun>,
     /// The rules before the newest record.
     pub(crate) before: Vec<Stand>,
@@ -52,9 +45,7 @@ pub struct Account<'a> {
 }
 
 /// The number of rules in the text with the most rules.
-fn most_rules(texts: &[RuleText<'_>]) -> usize
-    ensures { result ≡ most_rules (map items_in texts.now) }
-{
+fn most_rules(texts: &[RuleText<'_>]) -> usize {
     let mut most = 0usize;
     for text in texts {
         most = most.max(rule_count(text));
@@ -63,9 +54,7 @@ fn most_rules(texts: &[RuleText<'_>]) -> usize
 }
 
 /// Empty rows of failures for `lanes` rules. The only error is a lack of memory.
-fn no_rows(alloc: Global, lanes: usize) -> Result<Vec<FailRun>, AllocError>
-    ensures { IfOk result (λ rows. rows.items ≡ replicate lanes no_row) }
-{
+fn no_rows(alloc: Global, lanes: usize) -> Result<Vec<FailRun>, AllocError> {
     let mut rows = Vec::new(alloc);
     for _ in 0..lanes {
         rows.push(FailRun::new(alloc))?;
@@ -74,9 +63,7 @@ fn no_rows(alloc: Global, lanes: usize) -> Result<Vec<FailRun>, AllocError>
 }
 
 /// `ABSENT` for `lanes` rules. The only error is a lack of memory.
-fn no_stands(alloc: Global, lanes: usize) -> Result<Vec<Stand>, AllocError>
-    ensures { IfOk result (λ stands. stands.items ≡ replicate lanes absent) }
-{
+fn no_stands(alloc: Global, lanes: usize) -> Result<Vec<Stand>, AllocError> {
     let mut stands = Vec::new(alloc);
     for _ in 0..lanes {
         stands.push(ABSENT)?;
@@ -92,22 +79,21 @@ fn take_rows(
     plans: &[RulePlans],
     text: Option<usize>,
     seen: &[Seen<'_>],
+    before: &[Stand],
+    is_sampled: bool,
     rows: &mut Vec<FailRun>,
-) -> Result<(), AllocError>
-    ensures { OnOk result (rows.new.items ≡
-        rows_with place stands.now plans.now text seen.now 0 rows.old.items) }
-{
+) -> Result<(), AllocError> {
     for rule in 0..rows.len() {
         let parts = parts_at(plans, text, rule);
-        rows[rule].take(alloc, place, stand_in(stands, rule), parts, seen)?;
+        let stand = stand_in(stands, rule);
+        let is_asked = is_sampled && has_asked(stand, stand_in(before, rule));
+        rows[rule].take(alloc, place, stand, is_asked, parts, seen)?;
     }
     Ok(())
 }
 
 /// Stores the rules' results and states, one by one.
-fn take_stands(stands: &[Stand], before: &mut [Stand])
-    ensures { before.new ≡ before_with stands.now 0 before.old }
-{
+fn take_stands(stands: &[Stand], before: &mut [Stand]) {
     for rule in 0..before.len() {
         before[rule] = stand_in(stands, rule);
     }
@@ -115,22 +101,21 @@ fn take_stands(stands: &[Stand], before: &mut [Stand])
 
 impl<'a> Account<'a> {
     /// The account before the first record of a run of these texts. The only error is a lack of memory.
-    pub fn new(alloc: Global, texts: Vec<RuleText<'a>>) -> Result<Account<'a>, AllocError>
-        ensures { (sources : List (List ℕ)) → AreTextsOf sources texts.entry.items →
-            IfOk result (λ it. TellsNothing sources (account_of it)) }
-    {
+    pub fn new(alloc: Global, texts: Vec<RuleText<'a>>) -> Result<Account<'a>, AllocError> {
         let fields = fields_of(alloc, texts.as_slice())?;
         let lanes = most_rules(texts.as_slice());
         let plans = plans_of(alloc, texts.as_slice(), fields.as_slice())?;
         let rows = no_rows(alloc, lanes)?;
         let before = no_stands(alloc, lanes)?;
         let seen = all_unseen(alloc, fields.as_slice())?;
+        let recent = no_values(alloc, fields.len())?;
         Ok(Account {
             alloc,
             texts,
             plans,
             lanes,
             seen,
+            recent,
             rows,
             before,
             bands: Bands::new(alloc),
@@ -142,57 +127,48 @@ impl<'a> Account<'a> {
     }
 
     /// The comparisons of the rule with this number in the text with this number, from left to right; empty if there is no such rule.
-    pub fn parts(&self, text: Option<usize>, rule: usize) -> &[Part]
-        ensures { result.now ≡ parts_by (planned_at (account_of self.now).plans text rule) }
-    {
+    pub fn parts(&self, text: Option<usize>, rule: usize) -> &[Part] {
         parts_at(self.plans.as_slice(), text, rule)
     }
 
     /// Takes a record: counts and keeps what it brings. Call it before `show`, `sample`, `write` and `stand` for that record. `Seen::come_in`
-    /// then has the field values that it brought (`laws::fields_that_come`). The only error is a lack of memory.
-    pub fn add_record(&mut self, bytes: &[u8], place: Place) -> Result<(), AllocError>
-        ensures { OnOk result (account_of self.new ≡ come bytes.now place (account_of self.old)) }
-    {
+    /// then has the field values that it brought. The only error is a lack of memory.
+    pub fn add_record(&mut self, bytes: &[u8], place: Place) -> Result<(), AllocError> {
         let brings = read_record(bytes);
         self.figures.take(brings);
         if brings.is_uplink() {
             let text = self.bands.text();
             keep_uplink(self.alloc, &mut self.uplinks, place, text, bytes)?;
         }
-        self.bring(brings, place);
-        Ok(())
+        self.bring(brings, place)
     }
 
     /// Keeps what a record brings. The mode is that after the record before, since no telemetry changes it.
-    fn bring(&mut self, brings: Brought<'_>, place: Place)
-        ensures { account_of self.new ≡
-            brought_by (brings_of brings.entry) place (account_of self.old) }
-    {
+    fn bring(&mut self, brings: Brought<'_>, place: Place) -> Result<(), AllocError> {
         match brings {
             Brought::Telemetry(packet) => {
                 let is_taken = self.bands.is_watching();
                 see_all(&mut self.seen, packet, place, is_taken);
+                take_values(self.seen.as_slice(), place, &mut self.recent)
             }
-            Brought::Tick => {}
-            Brought::Command => {}
-            Brought::File => {}
+            Brought::Tick | Brought::Command | Brought::File => Ok(()),
         }
     }
 
     /// Takes what the host shows after the record: the number of the text in force, and the types of events that are on for the Limit
     /// Checker. Call it after `add_record` and before `sample` and `write` where `is_asked` says so.
-    pub fn show(&mut self, force: Option<usize>, types: TypesOn)
-        ensures { account_of self.new ≡ shown force types (account_of self.old) }
-    {
+    pub fn show(&mut self, force: Option<usize>, types: TypesOn) {
         self.types = types;
         self.bands.show(force);
     }
 
-    /// Takes the record's samples, by the rules after it. Call it before `write`. The only error is a lack of memory.
-    pub fn sample(&mut self, place: Place, stands: &[Stand]) -> Result<(), AllocError>
-        ensures { OnOk result (account_of self.new ≡
-            sampled place stands.now (account_of self.old)) }
-    {
+    /// Takes the record's samples, by the rules after it; `is_sampled`: whether it requested any. Call it before `write`. The only error is a lack of memory.
+    pub fn sample(
+        &mut self,
+        place: Place,
+        stands: &[Stand],
+        is_sampled: bool,
+    ) -> Result<(), AllocError> {
         let text = self.bands.text();
         take_rows(
             self.alloc,
@@ -201,23 +177,20 @@ impl<'a> Account<'a> {
             self.plans.as_slice(),
             text,
             self.seen.as_slice(),
+            self.before.as_slice(),
+            is_sampled,
             &mut self.rows,
         )
     }
 
     /// Takes that tables came into force, and clears what comparisons meet. The only error is a lack of memory.
-    pub(crate) fn enforce(&mut self, place: Place, how: How) -> Result<(), AllocError>
-        ensures { OnOk result (account_of self.new ≡
-            enforced_so place how (account_of self.old)) }
-    {
+    pub(crate) fn enforce(&mut self, place: Place, how: How) -> Result<(), AllocError> {
         forget_all(&mut self.seen);
         self.bands.enforce(place, how)
     }
 
     /// Takes a change of the tables in force that no packet of the record reported.
-    fn take_left(&mut self, place: Place, how: Option<How>) -> Result<(), AllocError>
-        ensures { OnOk result (account_of self.new ≡ left_by how place (account_of self.old)) }
-    {
+    fn take_left(&mut self, place: Place, how: Option<How>) -> Result<(), AllocError> {
         match how {
             None => self.bands.begin(place),
             Some(how) => self.enforce(place, how),
@@ -230,20 +203,14 @@ impl<'a> Account<'a> {
         place: Place,
         mode: Option<LcMode>,
         stands: &[Stand],
-    ) -> Result<(), AllocError>
-        ensures { OnOk result (account_of self.new ≡
-            stood_so place mode stands.now (account_of self.old)) }
-    {
+    ) -> Result<(), AllocError> {
         take_stands(stands, &mut self.before);
         self.stand_again(place, mode)
     }
 
     /// Takes the mode after a record that left all rules as they were. Then `sample` would do nothing, and `stand` would do the same as
-    /// this (`laws::rules_that_stand_as_before`). The only error is a lack of memory.
-    pub fn stand_again(&mut self, place: Place, mode: Option<LcMode>) -> Result<(), AllocError>
-        ensures { OnOk result (account_of self.new ≡
-            stood_again place mode (account_of self.old)) }
-    {
+    /// this. The only error is a lack of memory.
+    pub fn stand_again(&mut self, place: Place, mode: Option<LcMode>) -> Result<(), AllocError> {
         let how = self.bands.how_left(mode);
         self.take_left(place, how)?;
         self.bands.take_mode(place, mode)
@@ -251,10 +218,9 @@ impl<'a> Account<'a> {
 
     /// Begins a part of a run: drops the requests, events, commands and changes so far, and keeps what is known. The figures and the
     /// packets of fields count the part alone, but the number of packets that the run wrote goes on.
-    pub fn begin_anew(&mut self)
-        ensures { account_of self.new ≡ begun_anew (account_of self.old) }
-    {
+    pub fn begin_anew(&mut self) {
         count_all_anew(&mut self.seen);
+        drop_values(&mut self.recent);
         let packets = self.figures.packets;
         self.sending = Sending::new(self.alloc);
         self.uplinks = Ends::new(self.alloc, UPLINKS, UPLINKS);

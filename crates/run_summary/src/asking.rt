@@ -1,150 +1,236 @@
 //! Finds the rule that made a request, and the samples that counted for it.
 
-ghost use Rattle.std.specs.Prelude.{◌≡◌, ◌==◌, IfOk, OnOk, Some, option_map};
-ghost use Rattle.std.specs.List.{list_any};
-ghost use Rattle.packet_listing.specs.Told.{told_in, told_of};
-ghost use Rattle.run_summary.specs.Asking.{asking_by, counted_by, first_asking, given_with, has_asked, may_ask, may_still_ask, named_by, own_rule, row_asked, rule_named};
-ghost use Rattle.run_summary.specs.Packets.{packets_of};
-
-use crate::about::rule_of;
-use crate::place::{ACTIVE, FAIL, PASSIVE, Stand, stand_in};
-use crate::plans::{RulePlans, may_request};
+use crate::about::{number_behind, rule_of};
+use crate::place::{ACTIVE, PASSIVE, Stand, stand_in};
+use crate::plans::{RulePlans, may_request, planned_at};
 use crate::samples::{FailRun, Sample};
 use crate::sent::{FIRST_RULE_EVENT, Sending};
 use lc_model::packet::first_packet;
 use packet_listing::{Event, Sent, read_packet};
 use std::alloc::{AllocError, Global};
 
-/// The rules before and after a record, the rules of all texts, and the number of the text in force, if it is known.
+/// The most rules that are kept of those that may have made a request.
+pub const MOST_MAY: usize = 8;
+
+/// A request among the packets of a record: its sequence, and what the rule's event after it names, if it came.
 #[derive(Clone, Copy)]
-pub(crate) struct Around<'a> {
-    pub(crate) plans: &'a [RulePlans],
-    pub(crate) text: Option<usize>,
-    pub(crate) before: &'a [Stand],
-    pub(crate) stands: &'a [Stand],
+pub(crate) struct Ask {
+    pub(crate) sequence: u16,
+    /// The rule that the next packet names.
+    pub(crate) named: Option<usize>,
+    /// The failures in a row that the next packet names.
+    pub(crate) fails: Option<u16>,
 }
 
-/// Whether a rule became passive by a failure: it was active before, and is passive and failed now.
-fn has_asked(now: Stand, before: Stand) -> bool
-    ensures { result ≡ has_asked now before }
-{
-    now.state == PASSIVE && (now.result == FAIL && before.state == ACTIVE)
+/// What a record tells of its requests.
+#[derive(Drop)]
+pub(crate) struct Asks {
+    pub(crate) all: Vec<Ask>,
+    /// The rules that were active before the record and are passive after it, in order, if they are exactly those that made its requests.
+    pub(crate) askers: Option<Vec<usize>>,
+    /// Whether the record had one sample, so that the requests came in the order of their rules.
+    pub(crate) is_in_order: bool,
 }
 
-/// Whether a rule may have made a request for this sequence.
-fn may_ask(around: Around<'_>, sequence: u16, rule: usize) -> bool
-    ensures { result ≡ may_ask around.entry.plans.now around.entry.text
-        around.entry.before.now around.entry.stands.now sequence rule }
-{
-    has_asked(stand_in(around.stands, rule), stand_in(around.before, rule))
-        && may_request(around.plans, around.text, rule, sequence)
+/// The rule that made a request, or those that may have made it.
+#[derive(Drop)]
+pub(crate) struct Askers {
+    pub(crate) rule: Option<usize>,
+    pub(crate) one_of: Vec<usize>,
+    /// Whether there are more than these.
+    pub(crate) are_more: bool,
 }
 
-/// The rule that an event names, if it is a rule's own.
-fn own_rule(event: Event<'_>) -> Option<usize>
-    ensures { result ≡ own_rule event.entry.sender.now event.entry.id event.entry.text.now }
-{
-    if event.id >= FIRST_RULE_EVENT {
-        return rule_of(event.sender, event.id, event.text);
-    }
-    None
+/// Whether a rule was active before a record and is passive after it.
+pub(crate) fn has_asked(now: Stand, before: Stand) -> bool {
+    now.state == PASSIVE && before.state == ACTIVE
 }
 
-/// The rule that the content of a packet names, if it is a rule's own event.
-fn named_by(sent: Sent<'_>) -> Option<usize>
-    ensures { result ≡ named_by (Some (told_of sent.entry)) }
-{
-    match sent {
-        Sent::Request(_) => None,
-        Sent::Event(event) => own_rule(event),
-        Sent::Housekeeping { .. } => None,
-    }
-}
-
-/// The rule that a packet names, if it is a rule's own event.
-fn named_in(packet: &[u8]) -> Option<usize>
-    ensures { result ≡ named_by (told_in packet.now) }
-{
-    match read_packet(packet) {
+/// The number of failures in a row that a rule's own event has in its text.
+fn fails_in(text: &[u8]) -> Option<u16> {
+    match number_behind(b", FailCount = ", text) {
+        Some(fails) => u16::try_from(fails).ok(),
         None => None,
-        Some(sent) => named_by(sent),
     }
 }
 
-/// The rule that the first of these packets names, if that is a rule's own event.
-pub(crate) fn rule_named(packets: &[u8]) -> Option<usize>
-    ensures { result ≡ rule_named (packets_of packets.now) }
-{
-    match first_packet(packets) {
-        None => None,
-        Some((packet, _)) => named_in(packet),
+/// The rule that a rule's own event names, and its failures in a row.
+fn own_rule(event: Event<'_>) -> (Option<usize>, Option<u16>) {
+    if event.id < FIRST_RULE_EVENT {
+        return (None, None);
+    }
+    match rule_of(event.sender, event.id, event.text) {
+        Some(rule) => (Some(rule), fails_in(event.text)),
+        None => (None, None),
     }
 }
 
-/// Whether a rule is one of those that have an earlier request in the record.
-fn is_given(given: &[usize], rule: usize) -> bool
-    ensures { result ≡ list_any (◌==◌ rule) given.now }
-{
-    given.iter().any(|other| rule == *other)
+/// The request for this sequence, which these packets of the record follow.
+fn ask_of(sequence: u16, behind: &[u8]) -> Ask {
+    let (named, fails) = match first_packet(behind) {
+        None => (None, None),
+        Some((packet, _)) => match read_packet(packet) {
+            Some(Sent::Event(event)) => own_rule(event),
+            _ => (None, None),
+        },
+    };
+    Ask {
+        sequence,
+        named,
+        fails,
+    }
 }
 
-/// Whether a rule may have made a request for this sequence, and has no earlier request in the record.
-fn may_still_ask(around: Around<'_>, given: &[usize], sequence: u16, rule: usize) -> bool
-    ensures { result ≡ may_still_ask around.entry.plans.now around.entry.text
-        around.entry.before.now around.entry.stands.now given.now sequence rule }
-{
-    may_ask(around, sequence, rule) && !is_given(given, rule)
+/// The requests among the packets of a record. The only error is a lack of memory.
+pub(crate) fn asks_in(alloc: Global, packets: &[u8]) -> Result<Vec<Ask>, AllocError> {
+    let mut asks = Vec::new(alloc);
+    let mut rest = packets;
+    for _ in 0..packets.len() {
+        let Some((packet, behind)) = first_packet(rest) else {
+            return Ok(asks);
+        };
+        if let Some(Sent::Request(sequence)) = read_packet(packet) {
+            asks.push(ask_of(sequence, behind))?;
+        }
+        rest = behind;
+    }
+    Ok(asks)
 }
 
-/// The first of `lanes` rules that may have made a request for this sequence, and has no earlier request in the record.
-fn first_asking(around: Around<'_>, lanes: usize, given: &[usize], sequence: u16) -> Option<usize>
-    ensures { result ≡ first_asking around.entry.plans.now around.entry.text
-        around.entry.before.now around.entry.stands.now lanes given.now sequence }
-{
+/// The rules, less than `lanes`, that were active before a record and are passive after it. The only error is a lack of memory.
+pub(crate) fn askers_in(
+    alloc: Global,
+    lanes: usize,
+    before: &[Stand],
+    stands: &[Stand],
+) -> Result<Vec<usize>, AllocError> {
+    let mut askers = Vec::new(alloc);
     for rule in 0..lanes {
-        if may_still_ask(around, given, sequence, rule) {
-            return Some(rule);
+        if has_asked(stand_in(stands, rule), stand_in(before, rule)) {
+            askers.push(rule)?;
         }
     }
-    None
+    Ok(askers)
 }
 
-/// The rule that made a request for this sequence: the one that the next packet names, if it names one; else the first of `lanes` rules
-/// that may have made it, and has no earlier request in the record.
-pub(crate) fn asking(
-    around: Around<'_>,
-    lanes: usize,
-    named: Option<usize>,
-    given: &[usize],
-    sequence: u16,
-) -> Option<usize>
-    ensures { result ≡ asking_by named around.entry.plans.now around.entry.text
-        around.entry.before.now around.entry.stands.now lanes given.now sequence }
-{
-    match named {
-        None => first_asking(around, lanes, given, sequence),
-        Some(rule) => if rule < lanes && may_ask(around, sequence, rule) {
-            Some(rule)
+/// Whether one of these requests is followed by the event of a rule.
+fn is_named(asks: &[Ask], rule: usize) -> bool {
+    asks.iter().any(|ask| ask.named == Some(rule))
+}
+
+/// One rule that is known.
+fn known(alloc: Global, rule: usize) -> Askers {
+    Askers {
+        rule: Some(rule),
+        one_of: Vec::new(alloc),
+        are_more: false,
+    }
+}
+
+impl Askers {
+    /// Adds a rule that may have made the request. The only error is a lack of memory.
+    fn add(&mut self, rule: usize) -> Result<(), AllocError> {
+        if self.one_of.len() < MOST_MAY {
+            self.one_of.push(rule)?;
         } else {
-            None
+            self.are_more = true;
+        }
+        Ok(())
+    }
+
+    /// If only one rule may have made the request, it did.
+    fn settle(self) -> Askers {
+        let mut askers = self;
+        if askers.one_of.len() == 1 && !askers.are_more {
+            askers.rule = askers.one_of.pop();
+        }
+        askers
+    }
+}
+
+/// Those of the rules `from` that may have requested this sequence, and that no event names. The only error is a lack of memory.
+fn some_of(
+    alloc: Global,
+    plans: &[RulePlans],
+    text: Option<usize>,
+    asks: &[Ask],
+    sequence: u16,
+    from: &[usize],
+) -> Result<Askers, AllocError> {
+    let mut askers = Askers {
+        rule: None,
+        one_of: Vec::new(alloc),
+        are_more: false,
+    };
+    for rule in from {
+        if may_request(plans, text, *rule, sequence) && !is_named(asks, *rule) {
+            askers.add(*rule)?;
+        }
+    }
+    Ok(askers.settle())
+}
+
+/// Those of all rules of a text that request this sequence, and that no event names; none if the text isn't known. The only error is a
+/// lack of memory.
+fn any_of(
+    alloc: Global,
+    plans: &[RulePlans],
+    text: Option<usize>,
+    asks: &[Ask],
+    sequence: u16,
+    lanes: usize,
+) -> Result<Askers, AllocError> {
+    let mut rules = Vec::new(alloc);
+    for rule in 0..lanes {
+        if planned_at(plans, text, rule).is_some() {
+            rules.push(rule)?;
+        }
+    }
+    some_of(alloc, plans, text, asks, sequence, rules.as_slice())
+}
+
+/// The request of this number in its record; one for sequence 0 if there is none.
+pub(crate) fn ask_at(asks: &Asks, number: usize) -> Ask {
+    match asks.all.get(number) {
+        Some(ask) => *ask,
+        None => Ask {
+            sequence: 0,
+            named: None,
+            fails: None,
         },
     }
 }
 
-/// Adds the rule of a request, if it is known, to those that have one in the record. The only error is a lack of memory.
-pub(crate) fn give(given: &mut Vec<usize>, rule: Option<usize>) -> Result<(), AllocError>
-    ensures { OnOk result (given.new.items ≡ given_with rule given.old.items) }
-{
-    if let Some(rule) = rule {
-        given.push(rule)?;
+/// The rule that made the request of this number in its record: the one that the rule's event after it names; or by the order of the
+/// rules, if the record had one sample; or the only one that may have. Else those that may have. The only error is a lack of memory.
+pub(crate) fn askers_of(
+    alloc: Global,
+    plans: &[RulePlans],
+    text: Option<usize>,
+    lanes: usize,
+    asks: &Asks,
+    number: usize,
+) -> Result<Askers, AllocError> {
+    let all = asks.all.as_slice();
+    let Some(ask) = all.get(number) else {
+        return any_of(alloc, plans, None, all, 0, 0);
+    };
+    if let Some(rule) = ask.named {
+        return Ok(known(alloc, rule));
     }
-    Ok(())
+    let Some(from) = &asks.askers else {
+        return any_of(alloc, plans, text, all, ask.sequence, lanes);
+    };
+    match from.get(number) {
+        Some(rule) if asks.is_in_order && may_request(plans, text, *rule, ask.sequence) => {
+            Ok(known(alloc, *rule))
+        }
+        _ => some_of(alloc, plans, text, all, ask.sequence, from.as_slice()),
+    }
 }
 
 /// The row of failures of a rule, if there is one.
-pub(crate) fn row_asked(rows: &[FailRun], rule: Option<usize>) -> Option<&FailRun>
-    ensures { option_map (λ row. row.now) result ≡ row_asked rule rows.now }
-{
+pub(crate) fn row_asked(rows: &[FailRun], rule: Option<usize>) -> Option<&FailRun> {
     match rule {
         None => None,
         Some(rule) => rows.get(rule),
@@ -152,9 +238,7 @@ pub(crate) fn row_asked(rows: &[FailRun], rule: Option<usize>) -> Option<&FailRu
 }
 
 /// A copy of the samples. The only error is a lack of memory.
-fn copy_samples(alloc: Global, samples: &[Sample]) -> Result<Vec<Sample>, AllocError>
-    ensures { IfOk result (λ copies. copies.items ≡ samples.now) }
-{
+fn copy_samples(alloc: Global, samples: &[Sample]) -> Result<Vec<Sample>, AllocError> {
     let mut copies = Vec::new(alloc);
     for sample in samples {
         copies.push(sample.same(alloc)?)?;
@@ -162,25 +246,21 @@ fn copy_samples(alloc: Global, samples: &[Sample]) -> Result<Vec<Sample>, AllocE
     Ok(copies)
 }
 
-/// The number of samples that counted, and the samples themselves if there is room for them and the text in force is known. The only
-/// error is a lack of memory.
-pub(crate) fn count_samples(
+/// The samples that counted, if there is room for them and the text in force is known. The only error is a lack of memory.
+pub(crate) fn samples_of(
     alloc: Global,
     row: Option<&FailRun>,
     text: Option<usize>,
     sending: &mut Sending,
-) -> Result<(u16, Vec<Sample>), AllocError>
-    ensures { IfOk result (λ told. counted_by (option_map (λ row. row.now) row.entry) text sending.old ≡
-        record { counted = told.0; samples = told.1.items; sending = sending.new }) }
-{
+) -> Result<Vec<Sample>, AllocError> {
     match row {
-        None => Ok((0, Vec::new(alloc))),
+        None => Ok(Vec::new(alloc)),
         Some(row) => {
             let is_room = sending.take_parts(row.samples());
             if is_room && text.is_some() {
-                return Ok((row.fails(), copy_samples(alloc, row.samples())?));
+                return copy_samples(alloc, row.samples());
             }
-            Ok((row.fails(), Vec::new(alloc)))
+            Ok(Vec::new(alloc))
         }
     }
 }

@@ -1,12 +1,8 @@
 //! The tables in force and the Limit Checker's mode, over the run.
 
-ghost use Rattle.std.specs.Prelude.{◌≡◌, OnOk};
-ghost use Rattle.run_summary.specs.Bands.{bands_anew, begun, enforced, has_changed, how_left, how_unsaid, in_mode, is_none_in_force, is_text, is_watching, mode_number, mode_told, nothing_in_force, text_enforced, told_again, told_more};
-
 use crate::place::Place;
 use lc_model::LcMode;
 use std::alloc::{AllocError, Global};
-use std::marker::Model;
 
 /// The most entries of a band.
 const MOST: usize = 500;
@@ -24,9 +20,7 @@ pub enum How {
 
 impl How {
     /// Whether no tables are in force.
-    fn is_none_in_force(self) -> bool
-        ensures { result ≡ is_none_in_force self }
-    {
+    fn is_none_in_force(self) -> bool {
         match self {
             How::None => true,
             How::Started => false,
@@ -56,9 +50,7 @@ pub struct ModeFrom {
 }
 
 /// Whether two texts are the same, or both are unknown.
-fn is_text(one: Option<usize>, other: Option<usize>) -> bool
-    ensures { result ≡ is_text one other }
-{
+fn is_text(one: Option<usize>, other: Option<usize>) -> bool {
     match one {
         None => other.is_none(),
         Some(one) => match other {
@@ -69,9 +61,7 @@ fn is_text(one: Option<usize>, other: Option<usize>) -> bool
 }
 
 /// The text in force if tables came into force so, and the host shows this one after them.
-fn text_enforced(how: How, force: Option<usize>) -> Option<usize>
-    ensures { result ≡ text_enforced how force }
-{
+fn text_enforced(how: How, force: Option<usize>) -> Option<usize> {
     match how {
         How::None => None,
         How::Started => force,
@@ -80,9 +70,7 @@ fn text_enforced(how: How, force: Option<usize>) -> Option<usize>
 }
 
 /// How tables came into force that no packet reported, by the mode before the record.
-fn how_unsaid(mode: Option<LcMode>) -> How
-    ensures { result ≡ how_unsaid mode }
-{
+fn how_unsaid(mode: Option<LcMode>) -> How {
     match mode {
         None => How::Started,
         Some(_) => How::Adopted,
@@ -90,9 +78,7 @@ fn how_unsaid(mode: Option<LcMode>) -> How
 }
 
 /// Appends an entry; in the last place `untold`, which ends the list. The only error is a lack of memory.
-fn tell_more<T: Copy>(all: &mut Vec<T>, told: T, untold: T) -> Result<(), AllocError>
-    ensures { OnOk result (all.new.items ≡ told_more told untold all.old.items) }
-{
+fn tell_more<T: Copy>(all: &mut Vec<T>, told: T, untold: T) -> Result<(), AllocError> {
     let count = all.len() + 1;
     if count < MOST {
         all.push(told)?;
@@ -103,16 +89,14 @@ fn tell_more<T: Copy>(all: &mut Vec<T>, told: T, untold: T) -> Result<(), AllocE
 }
 
 /// A number for each mode, and for no Limit Checker.
-fn mode_number(mode: Option<LcMode>) -> u16
-    ensures { result ≡ mode_number mode }
-{
+fn mode_number(mode: Option<LcMode>) -> u16 {
     match mode {
         None => 0,
         Some(mode) => mode.code(),
     }
 }
 
-/// The changes of tables and modes over a run. Contracts see all (`InForce`).
+/// The changes of tables and modes over a run.
 #[derive(Drop)]
 pub struct Bands {
     tables: Vec<TablesFrom>,
@@ -123,25 +107,8 @@ pub struct Bands {
     mode: Option<LcMode>,
 }
 
-impl Model for Bands {
-    ghost use Rattle.run_summary.specs.Bands.{InForce};
-
-    ghost Value = { InForce };
-
-    ghost view = { λ b. record {
-      tables = b.tables.items;
-      modes = b.modes.items;
-      force = b.force;
-      text = b.text;
-      how = b.how;
-      mode = b.mode;
-    } };
-}
-
 impl Bands {
-    pub(crate) fn new(alloc: Global) -> Bands
-        ensures { result ≡ nothing_in_force }
-    {
+    pub(crate) fn new(alloc: Global) -> Bands {
         Bands {
             tables: Vec::new(alloc),
             modes: Vec::new(alloc),
@@ -153,30 +120,22 @@ impl Bands {
     }
 
     /// The tables in force, from each place on, in order.
-    pub fn tables(&self) -> &[TablesFrom]
-        ensures { result.now ≡ self.now.tables }
-    {
+    pub fn tables(&self) -> &[TablesFrom] {
         self.tables.as_slice()
     }
 
     /// The Limit Checker's modes, from each place on, in order.
-    pub fn modes(&self) -> &[ModeFrom]
-        ensures { result.now ≡ self.now.modes }
-    {
+    pub fn modes(&self) -> &[ModeFrom] {
         self.modes.as_slice()
     }
 
     /// The number of the rule text in force, if it is known.
-    pub fn text(&self) -> Option<usize>
-        ensures { result ≡ self.now.text }
-    {
+    pub fn text(&self) -> Option<usize> {
         self.text
     }
 
     /// Whether the Limit Checker takes the packets that its tables watch: after the last record it runs and isn't disabled.
-    pub(crate) fn is_watching(&self) -> bool
-        ensures { result ≡ is_watching self.now.mode }
-    {
+    pub(crate) fn is_watching(&self) -> bool {
         match self.mode {
             None => false,
             Some(LcMode::Active) => true,
@@ -186,23 +145,17 @@ impl Bands {
     }
 
     /// Takes the text in force that the host shows.
-    pub(crate) fn show(&mut self, force: Option<usize>)
-        ensures { self.new ≡ record self.old { force = force } }
-    {
+    pub(crate) fn show(&mut self, force: Option<usize>) {
         self.force = force;
     }
 
     /// Whether the host showed another text than the one in force.
-    pub(crate) fn has_changed(&self) -> bool
-        ensures { result ≡ has_changed self.now }
-    {
+    pub(crate) fn has_changed(&self) -> bool {
         !is_text(self.text, self.force)
     }
 
     /// How tables came into force that no packet of the last record reported, if they did; the mode is that after the record.
-    pub(crate) fn how_left(&self, mode: Option<LcMode>) -> Option<How>
-        ensures { result ≡ how_left mode self.now }
-    {
+    pub(crate) fn how_left(&self, mode: Option<LcMode>) -> Option<How> {
         match mode {
             None => if self.how.is_none_in_force() {
                 None
@@ -218,18 +171,14 @@ impl Bands {
     }
 
     /// Takes that tables came into force, or none are. The only error is a lack of memory.
-    pub(crate) fn enforce(&mut self, place: Place, how: How) -> Result<(), AllocError>
-        ensures { OnOk result (self.new ≡ enforced place how self.old) }
-    {
+    pub(crate) fn enforce(&mut self, place: Place, how: How) -> Result<(), AllocError> {
         self.text = text_enforced(how, self.force);
         self.how = how;
         self.tell_tables(place)
     }
 
     /// Appends the tables in force. The only error is a lack of memory.
-    fn tell_tables(&mut self, place: Place) -> Result<(), AllocError>
-        ensures { OnOk result (self.new ≡ told_again place self.old) }
-    {
+    fn tell_tables(&mut self, place: Place) -> Result<(), AllocError> {
         let told = TablesFrom {
             place,
             text: self.text,
@@ -244,10 +193,7 @@ impl Bands {
     }
 
     /// Appends the mode to the band.
-    fn tell_mode(&mut self, place: Place, mode: Option<LcMode>) -> Result<(), AllocError>
-        ensures { OnOk result (self.new ≡
-            record self.old { mode = mode; modes = mode_told place mode self.old.modes }) }
-    {
+    fn tell_mode(&mut self, place: Place, mode: Option<LcMode>) -> Result<(), AllocError> {
         self.mode = mode;
         let told = ModeFrom {
             place,
@@ -258,9 +204,11 @@ impl Bands {
     }
 
     /// Takes the mode after a record; it is appended at the first record and at each change. The only error is a lack of memory.
-    pub(crate) fn take_mode(&mut self, place: Place, mode: Option<LcMode>) -> Result<(), AllocError>
-        ensures { OnOk result (self.new ≡ in_mode place mode self.old) }
-    {
+    pub(crate) fn take_mode(
+        &mut self,
+        place: Place,
+        mode: Option<LcMode>,
+    ) -> Result<(), AllocError> {
         if self.modes.len() == 0 || mode_number(self.mode) != mode_number(mode) {
             return self.tell_mode(place, mode);
         }
@@ -268,9 +216,7 @@ impl Bands {
     }
 
     /// Appends the tables in force, if nothing was appended before. The only error is a lack of memory.
-    pub(crate) fn begin(&mut self, place: Place) -> Result<(), AllocError>
-        ensures { OnOk result (self.new ≡ begun place self.old) }
-    {
+    pub(crate) fn begin(&mut self, place: Place) -> Result<(), AllocError> {
         if self.tables.len() == 0 {
             return self.tell_tables(place);
         }
@@ -278,9 +224,7 @@ impl Bands {
     }
 
     /// Drops all entries, and keeps what is in force.
-    pub(crate) fn begin_anew(&mut self)
-        ensures { self.new ≡ bands_anew self.old }
-    {
+    pub(crate) fn begin_anew(&mut self) {
         self.tables.clear();
         self.modes.clear();
     }

@@ -1,11 +1,7 @@
 //! A list of which only the first and the last items are kept.
 
-ghost use Rattle.std.specs.Prelude.{◌≡◌, ◌++◌, IfOk};
-ghost use Rattle.run_summary.specs.Ends.{added, gone, left_with, leaves, no_items};
-
 use std::alloc::{AllocError, Global};
 use std::collections::VecDeque;
-use std::marker::Model;
 
 /// The items that are left out between the first and the last.
 #[derive(Clone, Copy)]
@@ -18,7 +14,7 @@ pub struct Left {
     pub to: u64,
 }
 
-/// The first and the last items of a list, and what is left out between them. Contracts see all (`Ends`).
+/// The first and the last items of a list, and what is left out between them.
 #[derive(Drop)]
 pub struct Ends<T: Drop> {
     front: usize,
@@ -28,24 +24,8 @@ pub struct Ends<T: Drop> {
     left: Option<Left>,
 }
 
-impl<T: Drop> Model for Ends<T> {
-    ghost use Rattle.run_summary.specs.Ends.{Ends};
-
-    ghost Value = { Ends T };
-
-    ghost view = { λ e. record {
-      front = e.front;
-      back = e.back;
-      first = e.first.items;
-      last = e.last.items;
-      left = e.left;
-    } };
-}
-
 /// What is left out, with one item more of this record.
-fn left_with(left: Option<Left>, number: u64) -> Left
-    ensures { result ≡ left_with left number }
-{
+fn left_with(left: Option<Left>, number: u64) -> Left {
     match left {
         Some(left) => Left {
             count: left.count.saturating_add(1),
@@ -62,9 +42,7 @@ fn left_with(left: Option<Left>, number: u64) -> Left
 
 impl<T: Drop> Ends<T> {
     /// The ends of an empty list, which keeps at most `front` first and `back` last items.
-    pub(crate) fn new(alloc: Global, front: usize, back: usize) -> Ends<T>
-        ensures { result ≡ no_items front back }
-    {
+    pub(crate) fn new(alloc: Global, front: usize, back: usize) -> Ends<T> {
         Ends {
             front,
             back,
@@ -75,31 +53,22 @@ impl<T: Drop> Ends<T> {
     }
 
     /// The first items, in order.
-    pub fn first(&self) -> &[T]
-        ensures { result.now ≡ self.now.first }
-    {
+    pub fn first(&self) -> &[T] {
         self.first.as_slice()
     }
 
     /// The last items, in order: those of the first slice, then those of the second.
-    pub fn last(&self) -> (&[T], &[T])
-        ensures { result.0.now ++ result.1.now ≡ self.now.last }
-    {
+    pub fn last(&self) -> (&[T], &[T]) {
         self.last.as_slices()
     }
 
     /// What is left out between the first and the last; `None` if nothing is.
-    pub fn omission(&self) -> Option<Left>
-        ensures { result ≡ self.now.left }
-    {
+    pub fn omission(&self) -> Option<Left> {
         self.left
     }
 
     /// Adds an item, and returns the one that leaves the list for it. The only error is a lack of memory.
-    pub(crate) fn add(&mut self, item: T) -> Result<Option<T>, AllocError>
-        ensures goes { IfOk result (λ gone_now. gone_now ≡ gone self.old) }
-        ensures added { IfOk result (λ _. self.new ≡ added item self.old) }
-    {
+    pub(crate) fn add(&mut self, item: T) -> Result<Option<T>, AllocError> {
         if self.first.len() < self.front {
             self.first.push(item)?;
             return Ok(None);
@@ -114,9 +83,7 @@ impl<T: Drop> Ends<T> {
     }
 
     /// Counts an item of this record as left out, if there is one.
-    pub(crate) fn leave(&mut self, number: Option<u64>)
-        ensures { self.new ≡ leaves number self.old }
-    {
+    pub(crate) fn leave(&mut self, number: Option<u64>) {
         if let Some(number) = number {
             self.left = Some(left_with(self.left, number));
         }

@@ -1,9 +1,5 @@
 //! The counts of a run.
 
-ghost use Rattle.std.specs.Prelude.{◌≡◌};
-ghost use Rattle.run_summary.specs.Brought.{brings_of};
-ghost use Rattle.run_summary.specs.Figures.{none, one_more, with_event, with_record};
-
 use crate::brought::Brought;
 use lc_model::EventKind;
 
@@ -39,17 +35,13 @@ pub struct Figures {
 }
 
 /// Adds one to a count.
-pub(crate) fn count(number: &mut u64)
-    ensures { number.new ≡ one_more number.old }
-{
+pub(crate) fn count(number: &mut u64) {
     *number = number.saturating_add(1);
 }
 
 impl Figures {
     /// All counts at zero.
-    pub(crate) fn new() -> Figures
-        ensures { result ≡ none }
-    {
+    pub(crate) fn new() -> Figures {
         Figures {
             records: 0,
             telemetry: 0,
@@ -68,18 +60,14 @@ impl Figures {
     }
 
     /// All counts at zero, except the packets.
-    pub(crate) fn after(packets: u64) -> Figures
-        ensures { result ≡ record none { packets = packets } }
-    {
+    pub(crate) fn after(packets: u64) -> Figures {
         let mut figures = Figures::new();
         figures.packets = packets;
         figures
     }
 
     /// Counts a record.
-    pub(crate) fn take(&mut self, brought: Brought<'_>)
-        ensures { self.new ≡ with_record (brings_of brought.entry) self.old }
-    {
+    pub(crate) fn take(&mut self, brought: Brought<'_>) {
         count(&mut self.records);
         match brought {
             Brought::Telemetry(_) => count(&mut self.telemetry),
@@ -90,9 +78,7 @@ impl Figures {
     }
 
     /// Counts an event of this type.
-    pub(crate) fn take_event(&mut self, kind: EventKind)
-        ensures { self.new ≡ with_event kind self.old }
-    {
+    pub(crate) fn take_event(&mut self, kind: EventKind) {
         match kind {
             EventKind::Debug => count(&mut self.debug),
             EventKind::Information => count(&mut self.info),

@@ -1,8 +1,5 @@
 //! What holds back the event of a request.
 
-ghost use Rattle.std.specs.Prelude.{◌≡◌, option_map};
-ghost use Rattle.run_summary.specs.Holds.{hold_of, hold_unless, is_on};
-
 use crate::plans::RulePlan;
 use lc_model::EventKind;
 
@@ -38,9 +35,7 @@ pub(crate) const ALL_ON: TypesOn = TypesOn {
 
 impl TypesOn {
     /// Whether events of this type are on.
-    fn is_on(self, kind: EventKind) -> bool
-        ensures { result ≡ is_on kind self }
-    {
+    fn is_on(self, kind: EventKind) -> bool {
         match kind {
             EventKind::Debug => self.debug,
             EventKind::Information => self.information,
@@ -51,9 +46,7 @@ impl TypesOn {
 }
 
 /// What holds back the event of a rule if it doesn't come; `None` if the rule isn't known.
-pub(crate) fn hold_of(rule: Option<&RulePlan>, types: TypesOn) -> Option<Hold>
-    ensures { result ≡ hold_of (option_map (λ rule. rule.now) rule.entry) types }
-{
+pub(crate) fn hold_of(rule: Option<&RulePlan>, types: TypesOn) -> Option<Hold> {
     match rule {
         None => None,
         Some(rule) => if types.is_on(rule.kind()) {
@@ -65,9 +58,7 @@ pub(crate) fn hold_of(rule: Option<&RulePlan>, types: TypesOn) -> Option<Hold>
 }
 
 /// What held back an event; `None` if it came.
-pub(crate) fn hold_unless(event: Option<u64>, hold: Option<Hold>) -> Option<Hold>
-    ensures { result ≡ hold_unless event hold }
-{
+pub(crate) fn hold_unless(event: Option<u64>, hold: Option<Hold>) -> Option<Hold> {
     match event {
         None => hold,
         Some(_) => None,

@@ -1,19 +1,17 @@
 //! Takes the packets that a record led to into the account.
 
-ghost use Rattle.std.specs.Prelude.{◌≡◌, IfOk, OnOk, Some};
-ghost use Rattle.packet_listing.specs.Told.{told_of};
-ghost use Rattle.run_summary.specs.Account.{account_of, adopted_if, asked, count_of, hold_by, housekept, in_force_by, read, read_by, reading, rule_asking, said, told_by, written};
-ghost use Rattle.run_summary.specs.Asking.{rule_named};
-ghost use Rattle.run_summary.specs.Packets.{packets_of};
-
 use crate::about::{is, rule_of};
 use crate::account::Account;
-use crate::asking::{Around, asking, count_samples, give, row_asked, rule_named};
+use crate::asking::{
+    Ask, Askers, Asks, ask_at, askers_in, askers_of, asks_in, row_asked, samples_of,
+};
 use crate::bands::How;
 use crate::figures::count;
 use crate::holds::{Hold, hold_of};
-use crate::place::{Place, Stand};
+use crate::place::{Place, Stand, stand_in};
 use crate::plans::planned_at;
+use crate::recent::{FieldValues, values_around};
+use crate::samples::Sample;
 use crate::sent::{Request, SeenEvent};
 use lc_model::packet::{COUNT_END, first_packet};
 use lc_model::u16_at;
@@ -21,9 +19,7 @@ use packet_listing::{Event, Sent, read_packet};
 use std::alloc::AllocError;
 
 /// The sequence count of a packet.
-fn count_of(packet: &[u8]) -> u16
-    ensures { result ≡ count_of packet.now }
-{
+fn count_of(packet: &[u8]) -> u16 {
     if packet.len() < 4 {
         return 0;
     }
@@ -31,32 +27,66 @@ fn count_of(packet: &[u8]) -> u16
 }
 
 impl<'a> Account<'a> {
-    /// The rule that requests this sequence. Of the rules that became passive by a failure in this record and, if the text in force is
-    /// known, request this sequence in it, that is the one that the next packet names (`named`); if it names none, the first that has no
-    /// earlier request in the record (`given`).
-    fn rule_asking(
+    /// Whether tables come into force with one of these packets.
+    fn is_adoption_in(&self, packets: &[u8]) -> bool {
+        let mut rest = packets;
+        for _ in 0..packets.len() {
+            let Some((packet, behind)) = first_packet(rest) else {
+                return false;
+            };
+            let is_one = match read_packet(packet) {
+                Some(Sent::Event(event)) => is(event.sender, b"LC")
+                    && (event.id == 1 || event.id == 2),
+                Some(Sent::Housekeeping { .. }) => self.bands.has_changed(),
+                _ => false,
+            };
+            if is_one {
+                return true;
+            }
+            rest = behind;
+        }
+        false
+    }
+
+    /// The requests among the packets of a record in which this number of samples was requested, with what tells their rules. The only
+    /// error is a lack of memory.
+    fn asks(&self, packets: &[u8], stands: &[Stand], samples: usize) -> Result<Asks, AllocError> {
+        let all = asks_in(self.alloc, packets)?;
+        if all.is_empty() {
+            return Ok(Asks {
+                all,
+                askers: None,
+                is_in_order: false,
+            });
+        }
+        let askers = askers_in(self.alloc, self.lanes, self.before.as_slice(), stands)?;
+        let are_all = askers.len() == all.len() && !self.is_adoption_in(packets);
+        Ok(Asks {
+            all,
+            askers: if are_all { Some(askers) } else { None },
+            is_in_order: samples == 1,
+        })
+    }
+
+    /// How often a rule failed in a row at a request, if it is known.
+    fn fails_at(
         &self,
-        named: Option<usize>,
-        given: &[usize],
-        sequence: u16,
+        asks: &Asks,
+        ask: Ask,
+        rule: Option<usize>,
         stands: &[Stand],
-    ) -> Option<usize>
-        ensures { result ≡ rule_asking stands.now sequence
-            (reading (account_of self.now) named given.now) }
-    {
-        let around = Around {
-            plans: self.plans.as_slice(),
-            text: self.bands.text(),
-            before: self.before.as_slice(),
-            stands,
+    ) -> Option<u16> {
+        let Some(rule) = rule else {
+            return None;
         };
-        asking(around, self.lanes, named, given, sequence)
+        if ask.fails.is_some() || asks.askers.is_none() || !asks.is_in_order {
+            return ask.fails;
+        }
+        Some(stand_in(stands, rule).fails)
     }
 
     /// What holds back the event of a rule if it doesn't come, if the rule is known.
-    fn hold_by(&self, rule: Option<usize>) -> Option<Hold>
-        ensures { result ≡ hold_by rule (account_of self.now) }
-    {
+    fn hold_by(&self, rule: Option<usize>) -> Option<Hold> {
         match rule {
             None => None,
             Some(rule) => {
@@ -66,39 +96,73 @@ impl<'a> Account<'a> {
         }
     }
 
-    /// Takes a request; the next packet names this rule, if it names one. The only error is a lack of memory.
+    /// The rule that made the request of this number in its record, or those that may have.
+    fn askers(&self, asks: &Asks, number: usize) -> Result<Askers, AllocError> {
+        let plans = self.plans.as_slice();
+        askers_of(
+            self.alloc,
+            plans,
+            self.bands.text(),
+            self.lanes,
+            asks,
+            number,
+        )
+    }
+
+    /// The samples that counted for a request of this rule, if there is room for them.
+    fn samples_asked(
+        &mut self,
+        asks: &Asks,
+        rule: Option<usize>,
+    ) -> Result<Vec<Sample>, AllocError> {
+        let text = self.bands.text();
+        let certain = if asks.askers.is_some() { rule } else { None };
+        let row = row_asked(self.rows.as_slice(), certain);
+        samples_of(self.alloc, row, text, &mut self.sending)
+    }
+
+    /// The newest values of the fields that a rule compares.
+    fn values_asked(&self, rule: Option<usize>) -> Result<Vec<FieldValues>, AllocError> {
+        let parts = match rule {
+            Some(rule) => self.parts(self.bands.text(), rule),
+            None => &[],
+        };
+        values_around(self.alloc, parts, self.recent.as_slice())
+    }
+
+    /// Takes the request of this number in its record. The only error is a lack of memory.
     fn request(
         &mut self,
         packet: &[u8],
         place: Place,
-        named: Option<usize>,
-        given: &mut Vec<usize>,
-        sequence: u16,
+        asks: &Asks,
+        number: usize,
         stands: &[Stand],
-    ) -> Result<(), AllocError>
-        ensures { OnOk result (reading (account_of self.new) named given.new.items ≡
-            asked packet.now place stands.now sequence
-            (reading (account_of self.old) named given.old.items)) }
-    {
-        let rule = self.rule_asking(named, given.as_slice(), sequence, stands);
-        let text = self.bands.text();
+    ) -> Result<(), AllocError> {
+        let ask = ask_at(asks, number);
+        let askers = self.askers(asks, number)?;
+        let rule = askers.rule;
         let hold = self.hold_by(rule);
-        let row = row_asked(self.rows.as_slice(), rule);
-        let (counted, samples) = count_samples(self.alloc, row, text, &mut self.sending)?;
+        let counted = self.fails_at(asks, ask, rule, stands);
+        let samples = self.samples_asked(asks, rule)?;
+        let around = self.values_asked(rule)?;
         count(&mut self.figures.requests);
-        self.sending.request(Request {
+        let request = Request {
             packet: self.figures.packets,
             place,
             rule,
-            text,
-            sequence,
+            text: self.bands.text(),
+            sequence: ask.sequence,
             count: count_of(packet),
             event: None,
             hold,
             counted,
+            are_more: askers.are_more,
+            one_of: askers.one_of,
             samples,
-        })?;
-        give(given, rule)
+            around,
+        };
+        self.sending.request(request)
     }
 
     /// Takes the tables in force from an event with this sender, id and text, if it reports any.
@@ -108,10 +172,7 @@ impl<'a> Account<'a> {
         id: u16,
         text: &[u8],
         place: Place,
-    ) -> Result<(), AllocError>
-        ensures { OnOk result (account_of self.new ≡
-            in_force_by sender.now id text.now place (account_of self.old)) }
-    {
+    ) -> Result<(), AllocError> {
         if !is(sender, b"LC") {
             return Ok(());
         }
@@ -128,10 +189,7 @@ impl<'a> Account<'a> {
     }
 
     /// Keeps an event.
-    fn tell_event(&mut self, place: Place, event: Event<'_>) -> Result<(), AllocError>
-        ensures { OnOk result (account_of self.new ≡ told_by place event.entry.sender.now
-            event.entry.id event.entry.kind event.entry.text.now (account_of self.old)) }
-    {
+    fn tell_event(&mut self, place: Place, event: Event<'_>) -> Result<(), AllocError> {
         let number = self.figures.packets;
         let sender = Vec::from_slice(self.alloc, event.sender)?;
         let text = Vec::from_slice(self.alloc, event.text)?;
@@ -147,20 +205,14 @@ impl<'a> Account<'a> {
     }
 
     /// Takes an event. The only error is a lack of memory.
-    fn event(&mut self, place: Place, event: Event<'_>) -> Result<(), AllocError>
-        ensures { OnOk result (account_of self.new ≡ said place event.entry.sender.now
-            event.entry.id event.entry.kind event.entry.text.now (account_of self.old)) }
-    {
+    fn event(&mut self, place: Place, event: Event<'_>) -> Result<(), AllocError> {
         self.figures.take_event(event.kind);
         self.take_in_force(event.sender, event.id, event.text, place)?;
         self.tell_event(place, event)
     }
 
     /// Takes that tables were adopted, if `is_adoption`. The only error is a lack of memory.
-    fn adopt_if(&mut self, place: Place, is_adoption: bool) -> Result<(), AllocError>
-        ensures { OnOk result (account_of self.new ≡
-            adopted_if is_adoption place (account_of self.old)) }
-    {
+    fn adopt_if(&mut self, place: Place, is_adoption: bool) -> Result<(), AllocError> {
         if is_adoption {
             return self.enforce(place, How::Adopted);
         }
@@ -168,56 +220,45 @@ impl<'a> Account<'a> {
     }
 
     /// Takes a housekeeping packet, with which every adoption ends. The only error is a lack of memory.
-    fn housekeep(&mut self, place: Place) -> Result<(), AllocError>
-        ensures { OnOk result (account_of self.new ≡ housekept place (account_of self.old)) }
-    {
+    fn housekeep(&mut self, place: Place) -> Result<(), AllocError> {
         count(&mut self.figures.housekeeping);
         let has_changed = self.bands.has_changed();
         self.adopt_if(place, has_changed)
     }
 
-    /// Takes the content of a packet, which these packets of the record follow.
+    /// Takes the content of a packet. `number` counts the requests of the record before it. The only error is a lack of memory.
     fn add_sent(
         &mut self,
         sent: Sent<'_>,
         packet: &[u8],
-        behind: &[u8],
         place: Place,
-        given: &mut Vec<usize>,
+        asks: &Asks,
+        number: &mut usize,
         stands: &[Stand],
-    ) -> Result<(), AllocError>
-        ensures { let named = rule_named (packets_of behind.now) in
-            OnOk result (reading (account_of self.new) named given.new.items ≡
-            read_by (Some (told_of sent.entry)) packet.now place stands.now
-            (reading (account_of self.old) named given.old.items)) }
-    {
+    ) -> Result<(), AllocError> {
         match sent {
-            Sent::Request(sequence) => {
-                self.request(packet, place, rule_named(behind), given, sequence, stands)
+            Sent::Request(_) => {
+                let this = *number;
+                *number = this.saturating_add(1);
+                self.request(packet, place, asks, this, stands)
             }
             Sent::Event(event) => self.event(place, event),
             Sent::Housekeeping { .. } => self.housekeep(place),
         }
     }
 
-    /// Takes a packet, which these packets of the record follow. `given` are the rules of the record's requests so far. The only error is a
-    /// lack of memory.
+    /// Takes a packet. The only error is a lack of memory.
     fn read(
         &mut self,
         packet: &[u8],
-        behind: &[u8],
         place: Place,
-        given: &mut Vec<usize>,
+        asks: &Asks,
+        number: &mut usize,
         stands: &[Stand],
-    ) -> Result<(), AllocError>
-        ensures { let named = rule_named (packets_of behind.now) in
-            OnOk result (reading (account_of self.new) named given.new.items ≡
-            read packet.now place stands.now
-            (reading (account_of self.old) named given.old.items)) }
-    {
+    ) -> Result<(), AllocError> {
         count(&mut self.figures.packets);
         match read_packet(packet) {
-            Some(sent) => self.add_sent(sent, packet, behind, place, given, stands),
+            Some(sent) => self.add_sent(sent, packet, place, asks, number, stands),
             None => {
                 count(&mut self.figures.other);
                 Ok(())
@@ -225,20 +266,23 @@ impl<'a> Account<'a> {
         }
     }
 
-    /// Takes all packets that a record led to, and the rules after it. The only error is a lack of memory.
+    /// Takes all packets that a record led to, in which this number of samples was requested, and the rules after it. The only error is a
+    /// lack of memory.
     pub fn write(
         &mut self,
         packets: &[u8],
         place: Place,
         stands: &[Stand],
-    ) -> Result<(), AllocError>
-        ensures { OnOk result (account_of self.new ≡
-            written packets.now place stands.now (account_of self.old)) }
-    {
+        samples: usize,
+    ) -> Result<(), AllocError> {
+        let asks = self.asks(packets, stands, samples)?;
         let mut rest = packets;
-        let mut given = Vec::new(self.alloc);
-        while let Some((packet, behind)) = first_packet(rest) {
-            self.read(packet, behind, place, &mut given, stands)?;
+        let mut number = 0usize;
+        for _ in 0..packets.len() {
+            let Some((packet, behind)) = first_packet(rest) else {
+                return Ok(());
+            };
+            self.read(packet, place, &asks, &mut number, stands)?;
             rest = behind;
         }
         Ok(())

@@ -1,9 +1,5 @@
 //! Places in a run, and the results and states of rules there.
 
-ghost use Rattle.std.specs.Prelude.{◌≡◌};
-ghost use Rattle.run_summary.specs.Fields.{is_place};
-ghost use Rattle.run_summary.specs.Standing.{bit_of_result, bit_of_state, stand_at};
-
 use lc_model::{ApMode, ApResult};
 
 /// The place of a record in a run.
@@ -16,9 +12,7 @@ pub struct Place {
 }
 
 /// Whether two places are equal.
-pub(crate) fn is_place(one: Place, other: Place) -> bool
-    ensures { result ≡ is_place one other }
-{
+pub(crate) fn is_place(one: Place, other: Place) -> bool {
     one.record == other.record && one.time == other.time
 }
 
@@ -41,9 +35,7 @@ pub const ABSENT: Stand = Stand {
 };
 
 /// The rule with this number; `ABSENT` if there is none.
-pub fn stand_in(stands: &[Stand], rule: usize) -> Stand
-    ensures { result ≡ stand_at rule stands.now }
-{
+pub fn stand_in(stands: &[Stand], rule: usize) -> Stand {
     match stands.get(rule) {
         Some(stand) => *stand,
         None => ABSENT,
@@ -60,9 +52,7 @@ pub const ACTIVE: u8 = 1;
 pub const PASSIVE: u8 = 2;
 
 /// The bit of a result: 2 for none, then 4, 8, 16 and 32 for pass, stale, error and fail.
-pub fn result_bit(last: Option<ApResult>) -> u8
-    ensures { result ≡ bit_of_result last }
-{
+pub fn result_bit(last: Option<ApResult>) -> u8 {
     match last {
         None => 2,
         Some(ApResult::Pass) => 4,
@@ -73,9 +63,7 @@ pub fn result_bit(last: Option<ApResult>) -> u8
 }
 
 /// The bit of a state: 1, 2, 4 and 8 for active, passive, disabled and off for good.
-pub fn state_bit(state: ApMode) -> u8
-    ensures { result ≡ bit_of_state state }
-{
+pub fn state_bit(state: ApMode) -> u8 {
     match state {
         ApMode::Active => ACTIVE,
         ApMode::Passive => PASSIVE,

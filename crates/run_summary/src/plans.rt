@@ -1,17 +1,10 @@
 //! The rules of texts, with what requests and samples need of them.
 
-ghost use Rattle.std.specs.Prelude.{◌≡◌, IfOk, Some, filter_map, map, option_map, slice_get};
-ghost use Rattle.rule_parser.specs.Syntax.{rule_of};
-ghost use Rattle.run_summary.specs.Plans.{may_by, parts_by, planned_at};
-ghost use Rattle.rpn_compiler.specs.TextParts.{items_in};
-ghost use Rattle.run_summary.specs.Texts.{compared_of, comparison_of, part_in, planned_of, text_planned, texts_planned};
-
 use crate::texts::{Field, comparisons_of, field_by_name, place_of};
 use lc_model::{CmpOp, EventKind};
 use rpn_compiler::RuleText;
 use rule_parser::{Comparison, Item, RuleItem};
 use std::alloc::{AllocError, Global};
-use std::marker::Model;
 
 /// A comparison of a rule.
 #[derive(Clone, Copy)]
@@ -34,64 +27,41 @@ pub(crate) struct RulePlan {
     parts: Vec<Part>,
 }
 
-impl Model for RulePlan {
-    ghost use Rattle.run_summary.specs.Plans.{Planned};
-
-    ghost Value = { Planned };
-
-    ghost view = { λ p. record { sequence = p.sequence; kind = p.kind; parts = p.parts.items } };
-}
-
 /// The rules of a text.
 #[derive(Drop)]
 pub(crate) struct RulePlans {
     rules: Vec<RulePlan>,
 }
 
-impl Model for RulePlans {
-    ghost use Rattle.std.specs.Prelude.{List};
-    ghost use Rattle.run_summary.specs.Plans.{Planned};
-
-    ghost Value = { List Planned };
-
-    ghost view = { λ p. p.rules.items };
-}
-
 impl RulePlan {
-    fn parts(&self) -> &[Part]
-        ensures { result.now ≡ self.now.parts }
-    {
+    fn parts(&self) -> &[Part] {
         self.parts.as_slice()
     }
 
     /// The type of its event.
-    pub(crate) fn kind(&self) -> EventKind
-        ensures { result ≡ self.now.kind }
-    {
+    pub(crate) fn kind(&self) -> EventKind {
         self.kind
     }
 
     /// Whether the rule requests this sequence.
-    fn requests(&self, sequence: u16) -> bool
-        ensures { result ≡ may_by sequence (Some self.now) }
-    {
+    fn requests(&self, sequence: u16) -> bool {
         self.sequence == i64::from(sequence)
     }
 }
 
 impl RulePlans {
     /// The rule of this number.
-    fn rule(&self, number: usize) -> Option<&RulePlan>
-        ensures { option_map (λ rule. rule.now) result ≡ slice_get self.now number }
-    {
+    fn rule(&self, number: usize) -> Option<&RulePlan> {
         self.rules.get(number)
     }
 }
 
 /// The rule of this number in the text of this number.
-pub(crate) fn planned_at(plans: &[RulePlans], text: Option<usize>, rule: usize) -> Option<&RulePlan>
-    ensures { option_map (λ rule. rule.now) result ≡ planned_at plans.now text rule }
-{
+pub(crate) fn planned_at(
+    plans: &[RulePlans],
+    text: Option<usize>,
+    rule: usize,
+) -> Option<&RulePlan> {
     match text {
         None => None,
         Some(text) => match plans.get(text) {
@@ -102,9 +72,7 @@ pub(crate) fn planned_at(plans: &[RulePlans], text: Option<usize>, rule: usize) 
 }
 
 /// The comparisons of the rule of this number in the text of this number.
-pub(crate) fn parts_at(plans: &[RulePlans], text: Option<usize>, rule: usize) -> &[Part]
-    ensures { result.now ≡ parts_by (planned_at plans.now text rule) }
-{
+pub(crate) fn parts_at(plans: &[RulePlans], text: Option<usize>, rule: usize) -> &[Part] {
     match planned_at(plans, text, rule) {
         None => &[],
         Some(rule) => rule.parts(),
@@ -117,9 +85,7 @@ pub(crate) fn may_request(
     text: Option<usize>,
     rule: usize,
     sequence: u16,
-) -> bool
-    ensures { result ≡ may_by sequence (planned_at plans.now text rule) }
-{
+) -> bool {
     match planned_at(plans, text, rule) {
         None => true,
         Some(rule) => rule.requests(sequence),
@@ -127,10 +93,7 @@ pub(crate) fn may_request(
 }
 
 /// A comparison with the index of its field among these, if it names one of them.
-fn part_of(text: &RuleText<'_>, comparison: &Comparison<'_>, fields: &[Field<'_>]) -> Option<Part>
-    ensures { result ≡ part_in (items_in text.now) (map compared_of fields.now)
-        (comparison_of comparison.now) }
-{
+fn part_of(text: &RuleText<'_>, comparison: &Comparison<'_>, fields: &[Field<'_>]) -> Option<Part> {
     match field_by_name(text, comparison.field) {
         Some(field) => Some(Part {
             field: place_of(fields, &field).unwrap_or(0),
@@ -148,10 +111,7 @@ fn parts_among(
     text: &RuleText<'_>,
     comparisons: &[Comparison<'_>],
     fields: &[Field<'_>],
-) -> Result<Vec<Part>, AllocError>
-    ensures { IfOk result (λ parts. parts.items ≡ filter_map (part_in (items_in text.now)
-        (map compared_of fields.now)) (map comparison_of comparisons.now)) }
-{
+) -> Result<Vec<Part>, AllocError> {
     let mut parts = Vec::new(alloc);
     for comparison in comparisons {
         if let Some(part) = part_of(text, comparison, fields) {
@@ -167,10 +127,7 @@ fn parts_of(
     text: &RuleText<'_>,
     rule: &RuleItem<'_>,
     fields: &[Field<'_>],
-) -> Result<Vec<Part>, AllocError>
-    ensures { IfOk result (λ parts. parts.items ≡
-        (planned_of (items_in text.now) (map compared_of fields.now) (rule_of rule.now)).parts) }
-{
+) -> Result<Vec<Part>, AllocError> {
     let comparisons = comparisons_of(alloc, rule)?;
     parts_among(alloc, text, comparisons.as_slice(), fields)
 }
@@ -181,10 +138,7 @@ fn rule_plan(
     text: &RuleText<'_>,
     rule: &RuleItem<'_>,
     fields: &[Field<'_>],
-) -> Result<RulePlan, AllocError>
-    ensures { IfOk result (λ plan. plan ≡
-        planned_of (items_in text.now) (map compared_of fields.now) (rule_of rule.now)) }
-{
+) -> Result<RulePlan, AllocError> {
     Ok(RulePlan {
         sequence: rule.sequence.value,
         kind: rule.event_kind,
@@ -197,10 +151,7 @@ fn plan_of(
     alloc: Global,
     text: &RuleText<'_>,
     fields: &[Field<'_>],
-) -> Result<RulePlans, AllocError>
-    ensures { IfOk result (λ plan. plan ≡
-        text_planned (map compared_of fields.now) (items_in text.now)) }
-{
+) -> Result<RulePlans, AllocError> {
     let mut rules = Vec::new(alloc);
     for item in &text.file.items {
         if let Item::Rule(rule) = item {
@@ -215,10 +166,7 @@ pub(crate) fn plans_of(
     alloc: Global,
     texts: &[RuleText<'_>],
     fields: &[Field<'_>],
-) -> Result<Vec<RulePlans>, AllocError>
-    ensures { IfOk result (λ plans. plans.items ≡
-        texts_planned (map compared_of fields.now) (map items_in texts.now)) }
-{
+) -> Result<Vec<RulePlans>, AllocError> {
     let mut plans = Vec::new(alloc);
     for text in texts {
         plans.push(plan_of(alloc, text, fields)?)?;

@@ -1,8 +1,5 @@
 //! What is known of fields from the packets that came.
 
-ghost use Rattle.std.specs.Prelude.{◌≡◌, ◌≤◌, length, map, IfOk};
-ghost use Rattle.run_summary.specs.Fields.{all_seen, come_in, forgotten, met_of, nothing, seen_by, seen_in, uncounted, unseen};
-
 use crate::figures::count;
 use crate::place::{Place, is_place};
 use crate::texts::Field;
@@ -42,9 +39,7 @@ pub struct Seen<'a> {
 
 impl<'a> Seen<'a> {
     /// A field before its first packet.
-    fn new(field: Field<'a>) -> Seen<'a>
-        ensures { result ≡ unseen field.entry }
-    {
+    fn new(field: Field<'a>) -> Seen<'a> {
         Seen {
             field,
             packets: 0,
@@ -55,9 +50,7 @@ impl<'a> Seen<'a> {
     }
 
     /// Takes a packet of the field's message id. Comparisons meet it if the Limit Checker takes it, too.
-    fn take(&mut self, packet: &[u8], place: Place, is_taken: bool)
-        ensures { self.new ≡ seen_in packet.now place is_taken self.old }
-    {
+    fn take(&mut self, packet: &[u8], place: Place, is_taken: bool) {
         count(&mut self.packets);
         self.last = Some(place);
         self.value = value_in(&self.field, packet);
@@ -69,20 +62,15 @@ impl<'a> Seen<'a> {
         }
     }
 
-    /// Takes a packet if it has the field's message id.
-    fn see(&mut self, packet: &[u8], place: Place, is_taken: bool)
-        requires { 2 ≤ length packet.now }
-        ensures { self.new ≡ seen_by packet.now place is_taken self.old }
-    {
-        if self.field.mid == u32::from(message_id(packet)) {
+    /// Takes a packet with this message id if it is the field's.
+    fn see(&mut self, mid: u16, packet: &[u8], place: Place, is_taken: bool) {
+        if self.field.mid == u32::from(mid) {
             self.take(packet, place, is_taken);
         }
     }
 
     /// The field's value in its last packet, if that is of this place; else `None`.
-    pub fn come_in(&self, place: Place) -> Option<Met>
-        ensures { result ≡ come_in place self.now }
-    {
+    pub fn come_in(&self, place: Place) -> Option<Met> {
         match self.last {
             Some(last) if is_place(last, place) => Some(Met {
                 value: self.value,
@@ -93,18 +81,14 @@ impl<'a> Seen<'a> {
     }
 
     /// Counts the packets anew.
-    fn count_anew(&mut self)
-        ensures { self.new ≡ uncounted self.old }
-    {
+    fn count_anew(&mut self) {
         self.packets = 0;
         self.last = None;
         self.value = None;
     }
 
     /// Clears what comparisons meet.
-    fn forget(&mut self)
-        ensures { self.new ≡ forgotten self.old }
-    {
+    fn forget(&mut self) {
         self.met = NOTHING;
     }
 }
@@ -113,9 +97,7 @@ impl<'a> Seen<'a> {
 pub(crate) fn all_unseen<'a>(
     alloc: Global,
     fields: &[Field<'a>],
-) -> Result<Vec<Seen<'a>>, AllocError>
-    ensures { IfOk result (λ all. all.items ≡ map unseen fields.now) }
-{
+) -> Result<Vec<Seen<'a>>, AllocError> {
     let mut all = Vec::new(alloc);
     for field in fields {
         all.push(Seen::new(*field))?;
@@ -125,39 +107,32 @@ pub(crate) fn all_unseen<'a>(
 
 /// Takes a telemetry packet, unless the host refuses it: the fields of its message id get new values. `is_taken` says whether the Limit
 /// Checker takes the packets that it watches.
-pub(crate) fn see_all(all: &mut [Seen<'_>], packet: &[u8], place: Place, is_taken: bool)
-    ensures { all.new ≡ all_seen packet.now place is_taken all.old }
-{
-    if stream_fault(packet).is_some() {
+pub(crate) fn see_all(all: &mut [Seen<'_>], packet: &[u8], place: Place, is_taken: bool) {
+    if packet.len() < 2 || stream_fault(packet).is_some() {
         return;
     }
+    let mid = message_id(packet);
     for seen in all.iter_mut() {
-        seen.see(packet, place, is_taken);
+        seen.see(mid, packet, place, is_taken);
     }
 }
 
 /// Clears what comparisons meet of all fields.
-pub(crate) fn forget_all(all: &mut [Seen<'_>])
-    ensures { all.new ≡ map forgotten all.old }
-{
+pub(crate) fn forget_all(all: &mut [Seen<'_>]) {
     for seen in all.iter_mut() {
         seen.forget();
     }
 }
 
 /// Counts the packets of all fields anew.
-pub(crate) fn count_all_anew(all: &mut [Seen<'_>])
-    ensures { all.new ≡ map uncounted all.old }
-{
+pub(crate) fn count_all_anew(all: &mut [Seen<'_>]) {
     for seen in all.iter_mut() {
         seen.count_anew();
     }
 }
 
 /// What a comparison meets of the field with this index.
-pub(crate) fn met_of(all: &[Seen<'_>], number: usize) -> Met
-    ensures { result ≡ met_of all.now number }
-{
+pub(crate) fn met_of(all: &[Seen<'_>], number: usize) -> Met {
     match all.get(number) {
         Some(seen) => seen.met,
         None => NOTHING,

@@ -1,17 +1,12 @@
 //! What a run sent: the first and the last of its requests and events.
 
-ghost use Rattle.std.specs.Prelude.{◌≡◌, ◌+◌, ◌-◌, ◌^◌, IfOk, OnOk, Some, length, map, min, nat_le, option_map};
-ghost use Rattle.run_summary.specs.Ends.{kept};
-ghost use Rattle.run_summary.specs.Samples.{Sampled};
-ghost use Rattle.run_summary.specs.Sent.{Requested, Said, before_newest, hears, hold_told, is_own, is_rule, most_parts, nothing_sent, parts_in, parts_with, requested_more, said_more};
-
 use crate::ends::Ends;
 use crate::holds::{Hold, hold_unless};
 use crate::place::{Place, is_place};
+use crate::recent::FieldValues;
 use crate::samples::Sample;
 use lc_model::EventKind;
 use std::alloc::{AllocError, Global};
-use std::marker::Model;
 
 /// The number of first, and of last, requests and events that are kept.
 const REQUESTS: usize = 300;
@@ -24,7 +19,7 @@ const PARTS: usize = 3_072;
 /// The least number of a rule's own event.
 pub(crate) const FIRST_RULE_EVENT: u16 = 1_000;
 
-/// A request for a command sequence. Contracts see all (`Requested`).
+/// A request for a command sequence.
 #[derive(Drop)]
 pub struct Request {
     /// The number of its packet among those that the run wrote, counted from 1.
@@ -33,6 +28,10 @@ pub struct Request {
     pub place: Place,
     /// The number of the rule that made it, if it is known.
     pub rule: Option<usize>,
+    /// The rules that may have made it, if it isn't known: the first eight of them.
+    pub one_of: Vec<usize>,
+    /// Whether more than these may have made it.
+    pub are_more: bool,
     /// The number of the text in force, if it is known.
     pub text: Option<usize>,
     /// The number of the requested sequence.
@@ -42,32 +41,15 @@ pub struct Request {
     /// The packet number of the rule's event after it, if one came.
     pub event: Option<u64>,
     pub(crate) hold: Option<Hold>,
-    /// The number of samples that counted for it.
-    pub counted: u16,
+    /// The number of samples that counted for it, if it is known.
+    pub counted: Option<u16>,
     /// The first three and the last three of these samples, or none.
     pub samples: Vec<Sample>,
+    /// The newest values of the fields that the rule compares.
+    pub around: Vec<FieldValues>,
 }
 
-impl Model for Request {
-    ghost use Rattle.run_summary.specs.Sent.{Requested};
-
-    ghost Value = { Requested };
-
-    ghost view = { λ r. record {
-      packet = r.packet;
-      place = r.place;
-      rule = r.rule;
-      text = r.text;
-      sequence = r.sequence;
-      count = r.count;
-      event = r.event;
-      hold = r.hold;
-      counted = r.counted;
-      samples = r.samples.items;
-    } };
-}
-
-/// An event that a run sent. Contracts see all (`Said`).
+/// An event that a run sent.
 #[derive(Drop)]
 pub struct SeenEvent {
     /// The number of its packet among those that the run wrote, counted from 1.
@@ -86,26 +68,8 @@ pub struct SeenEvent {
     pub text: Vec<u8>,
 }
 
-impl Model for SeenEvent {
-    ghost use Rattle.run_summary.specs.Sent.{Said};
-
-    ghost Value = { Said };
-
-    ghost view = { λ t. record {
-      packet = t.packet;
-      place = t.place;
-      rule = t.rule;
-      sender = t.sender.items;
-      id = t.id;
-      kind = t.kind;
-      text = t.text.items;
-    } };
-}
-
 /// Whether two rules are the same, or both are unknown.
-fn is_rule(one: Option<usize>, other: Option<usize>) -> bool
-    ensures { result ≡ is_rule one other }
-{
+fn is_rule(one: Option<usize>, other: Option<usize>) -> bool {
     match one {
         None => other.is_none(),
         Some(one) => match other {
@@ -117,16 +81,12 @@ fn is_rule(one: Option<usize>, other: Option<usize>) -> bool
 
 impl Request {
     /// What held back the rule's event; `None` if it came, or if the rule isn't known.
-    pub fn hold(&self) -> Option<Hold>
-        ensures { result ≡ hold_told self.now }
-    {
+    pub fn hold(&self) -> Option<Hold> {
         hold_unless(self.event, self.hold)
     }
 
     /// Whether an event is the request's own.
-    fn is_own(&self, event: &SeenEvent) -> bool
-        ensures { result ≡ is_own event.now self.now }
-    {
+    fn is_own(&self, event: &SeenEvent) -> bool {
         event.id >= FIRST_RULE_EVENT
             && is_place(self.place, event.place)
             && self.event.is_none()
@@ -134,9 +94,7 @@ impl Request {
     }
 
     /// The request after this event came.
-    fn with_event(self, event: &SeenEvent) -> Request
-        ensures { result ≡ hears event.now self }
-    {
+    fn with_event(self, event: &SeenEvent) -> Request {
         let mut request = self;
         if request.is_own(event) {
             request.event = Some(event.packet);
@@ -144,25 +102,19 @@ impl Request {
         request
     }
 
-    fn record(&self) -> u64
-        ensures { result ≡ self.now.place.«record» }
-    {
+    fn record(&self) -> u64 {
         self.place.record
     }
 }
 
 impl SeenEvent {
-    fn record(&self) -> u64
-        ensures { result ≡ self.now.place.«record» }
-    {
+    fn record(&self) -> u64 {
         self.place.record
     }
 }
 
 /// The newest request after this event came.
-fn newest_with_event(newest: Option<Request>, event: &SeenEvent) -> Option<Request>
-    ensures { result ≡ option_map (hears event.now) newest }
-{
+fn newest_with_event(newest: Option<Request>, event: &SeenEvent) -> Option<Request> {
     match newest {
         None => None,
         Some(request) => Some(request.with_event(event)),
@@ -170,10 +122,7 @@ fn newest_with_event(newest: Option<Request>, event: &SeenEvent) -> Option<Reque
 }
 
 /// Adds a request. The only error is a lack of memory.
-fn keep_request(requests: &mut Ends<Request>, request: Request) -> Result<(), AllocError>
-    ensures { OnOk result (requests.new ≡
-        kept (λ (request : Requested). request.place.«record») request requests.old) }
-{
+fn keep_request(requests: &mut Ends<Request>, request: Request) -> Result<(), AllocError> {
     let number = match requests.add(request)? {
         None => None,
         Some(gone) => Some(gone.record()),
@@ -183,10 +132,7 @@ fn keep_request(requests: &mut Ends<Request>, request: Request) -> Result<(), Al
 }
 
 /// Adds an event. The only error is a lack of memory.
-fn keep_event(events: &mut Ends<SeenEvent>, event: SeenEvent) -> Result<(), AllocError>
-    ensures { OnOk result (events.new ≡
-        kept (λ (event : Said). event.place.«record») event events.old) }
-{
+fn keep_event(events: &mut Ends<SeenEvent>, event: SeenEvent) -> Result<(), AllocError> {
     let number = match events.add(event)? {
         None => None,
         Some(gone) => Some(gone.record()),
@@ -196,9 +142,7 @@ fn keep_event(events: &mut Ends<SeenEvent>, event: SeenEvent) -> Result<(), Allo
 }
 
 /// Adds the request before the newest, if there is one. The only error is a lack of memory.
-fn keep_before(requests: &mut Ends<Request>, request: Option<Request>) -> Result<(), AllocError>
-    ensures { OnOk result (requests.new ≡ before_newest request requests.old) }
-{
+fn keep_before(requests: &mut Ends<Request>, request: Option<Request>) -> Result<(), AllocError> {
     match request {
         None => Ok(()),
         Some(request) => keep_request(requests, request),
@@ -206,9 +150,7 @@ fn keep_before(requests: &mut Ends<Request>, request: Option<Request>) -> Result
 }
 
 /// The number of `Met` values in samples, at most 2^64 - 1.
-pub(crate) fn parts_in(samples: &[Sample]) -> usize
-    ensures { result ≡ min (parts_in samples.now) (2 ^ 64 - 1) }
-{
+pub(crate) fn parts_in(samples: &[Sample]) -> usize {
     let mut parts = 0usize;
     for sample in samples {
         parts = parts.saturating_add(sample.comparisons().len());
@@ -216,7 +158,7 @@ pub(crate) fn parts_in(samples: &[Sample]) -> usize
     parts
 }
 
-/// All that is kept of what was sent. Contracts see all (`Sending`).
+/// All that is kept of what was sent.
 #[derive(Drop)]
 pub struct Sending {
     requests: Ends<Request>,
@@ -225,23 +167,8 @@ pub struct Sending {
     parts: usize,
 }
 
-impl Model for Sending {
-    ghost use Rattle.run_summary.specs.Sent.{Sending};
-
-    ghost Value = { Sending };
-
-    ghost view = { λ s. record {
-      requests = s.requests;
-      newest = s.newest;
-      events = s.events;
-      parts = s.parts;
-    } };
-}
-
 impl Sending {
-    pub(crate) fn new(alloc: Global) -> Sending
-        ensures { result ≡ nothing_sent }
-    {
+    pub(crate) fn new(alloc: Global) -> Sending {
         Sending {
             requests: Ends::new(alloc, REQUESTS, REQUESTS - 1),
             newest: None,
@@ -251,50 +178,35 @@ impl Sending {
     }
 
     /// All requests except the newest.
-    pub fn requests(&self) -> &Ends<Request>
-        ensures { result.now ≡ self.now.requests }
-    {
+    pub fn requests(&self) -> &Ends<Request> {
         &self.requests
     }
 
     /// The newest request, if there is one.
-    pub fn newest(&self) -> Option<&Request>
-        ensures { option_map (λ request. request.now) result ≡ self.now.newest }
-    {
+    pub fn newest(&self) -> Option<&Request> {
         self.newest.as_ref()
     }
 
     /// The events.
-    pub fn events(&self) -> &Ends<SeenEvent>
-        ensures { result.now ≡ self.now.events }
-    {
+    pub fn events(&self) -> &Ends<SeenEvent> {
         &self.events
     }
 
     /// Takes room for these samples' `Met` values, and returns whether there is any. After it returned false once, it always does.
-    pub(crate) fn take_parts(&mut self, samples: &[Sample]) -> bool
-        ensures room { result ≡
-            nat_le (parts_with (parts_in samples.now) self.old.parts) most_parts }
-        ensures parts { self.new ≡
-            record self.old { parts = parts_with (parts_in samples.now) self.old.parts } }
-    {
+    pub(crate) fn take_parts(&mut self, samples: &[Sample]) -> bool {
         self.parts = self.parts.saturating_add(parts_in(samples)).min(PARTS + 1);
         self.parts <= PARTS
     }
 
     /// Takes a request. The only error is a lack of memory.
-    pub(crate) fn request(&mut self, request: Request) -> Result<(), AllocError>
-        ensures { OnOk result (self.new ≡ requested_more request self.old) }
-    {
+    pub(crate) fn request(&mut self, request: Request) -> Result<(), AllocError> {
         let before = self.newest.replace(request);
         keep_before(&mut self.requests, before)
     }
 
     /// Takes an event. The first event of the rule that made the newest request becomes that request's event. The only error is a lack
     /// of memory.
-    pub(crate) fn event(&mut self, event: SeenEvent) -> Result<(), AllocError>
-        ensures { OnOk result (self.new ≡ said_more event self.old) }
-    {
+    pub(crate) fn event(&mut self, event: SeenEvent) -> Result<(), AllocError> {
         self.newest = newest_with_event(self.newest.take(), &event);
         keep_event(&mut self.events, event)
     }

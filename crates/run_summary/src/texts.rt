@@ -1,13 +1,5 @@
 //! The rules of texts as a page shows them, and the fields that they compare.
 
-ghost use Rattle.std.specs.Prelude.{◌≡◌, ◌++◌, IfOk, OnOk, filter_map, length, map, nat_abs, option_map, slice_get};
-ghost use Rattle.std.specs.Option.{option_map_or};
-ghost use Rattle.lc_model.specs.Field.{full_mask};
-ghost use Rattle.lc_model.specs.Text.Meaning.{field_named};
-ghost use Rattle.rule_parser.specs.Syntax.{expression_of, field_of, name_of, rule_of};
-ghost use Rattle.rpn_compiler.specs.TextParts.{items_in};
-ghost use Rattle.run_summary.specs.Texts.{added, all_added, compared_by, compared_in, compared_in_text, compared_of, comparison_of, comparisons_in, field_compared, fields_of, is_mask, is_same, mid_named, place_of, rules_of};
-
 use lc_model::FieldType;
 use rpn_compiler::RuleText;
 use rule_lexer::TokenKind;
@@ -36,38 +28,28 @@ pub struct Field<'a> {
 }
 
 /// A number's magnitude, in 32 bits.
-fn magnitude(number: Number) -> u32
-    ensures { result ≡ nat_abs number.value }
-{
+fn magnitude(number: Number) -> u32 {
     number.value.unsigned_abs() as u32
 }
 
 /// The bits of a field that are read.
-fn bits_of(field: FieldItem<'_>) -> u32
-    ensures { result ≡
-        option_map_or (λ mask. nat_abs mask.value) field.entry.mask (full_mask field.entry.kind) }
-{
+fn bits_of(field: FieldItem<'_>) -> u32 {
     field.mask.map_or(field.kind.full_mask(), magnitude)
 }
 
 /// The number of rules in a text.
-pub fn rule_count(text: &RuleText<'_>) -> usize
-    ensures { result ≡ length (rules_of (items_in text.now)) }
-{
+pub fn rule_count(text: &RuleText<'_>) -> usize {
     let mut count = 0usize;
     for item in &text.file.items {
         if let Item::Rule(_) = item {
-            count += 1;
+            count = count.saturating_add(1);
         }
     }
     count
 }
 
 /// The rule of a text with this number, counted from 0.
-pub fn rule_at<'f, 'a>(text: &'f RuleText<'a>, number: usize) -> Option<&'f RuleItem<'a>>
-    ensures { option_map (λ rule. rule_of rule.now) result ≡
-        slice_get (rules_of (items_in text.now)) number }
-{
+pub fn rule_at<'f, 'a>(text: &'f RuleText<'a>, number: usize) -> Option<&'f RuleItem<'a>> {
     let mut left = number;
     for item in &text.file.items {
         if let Item::Rule(rule) = item {
@@ -81,9 +63,7 @@ pub fn rule_at<'f, 'a>(text: &'f RuleText<'a>, number: usize) -> Option<&'f Rule
 }
 
 /// The message id of a text's packet of this name; 0 if there is none.
-fn mid_of(text: &RuleText<'_>, name: Name<'_>) -> u32
-    ensures { result ≡ mid_named (items_in text.now) (name_of name.entry) }
-{
+fn mid_of(text: &RuleText<'_>, name: Name<'_>) -> u32 {
     for item in &text.file.items {
         if let Item::Packet(packet) = item {
             if packet.name.text == name.text {
@@ -95,10 +75,7 @@ fn mid_of(text: &RuleText<'_>, name: Name<'_>) -> u32
 }
 
 /// The field of a text that has this name.
-pub(crate) fn field_by_name<'a>(text: &RuleText<'a>, name: Name<'_>) -> Option<Field<'a>>
-    ensures { option_map compared_of result ≡ option_map (compared_in (items_in text.now))
-        (field_named (items_in text.now) (name_of name.entry)) }
-{
+pub(crate) fn field_by_name<'a>(text: &RuleText<'a>, name: Name<'_>) -> Option<Field<'a>> {
     for item in &text.file.items {
         if let Item::Field(field) = item {
             if field.name.text == name.text {
@@ -110,9 +87,7 @@ pub(crate) fn field_by_name<'a>(text: &RuleText<'a>, name: Name<'_>) -> Option<F
 }
 
 /// The field that an item of a text declares.
-fn field_of<'a>(text: &RuleText<'a>, field: FieldItem<'a>) -> Field<'a>
-    ensures { compared_of result ≡ compared_in (items_in text.now) (field_of field.entry) }
-{
+fn field_of<'a>(text: &RuleText<'a>, field: FieldItem<'a>) -> Field<'a> {
     Field {
         name: field.name.text,
         packet: field.packet.text,
@@ -159,10 +134,7 @@ fn next_token(text: &RuleText<'_>, from: usize, kind: TokenKind) -> usize {
 fn compare<'a>(
     condition: &Expression<'a>,
     found: &mut Vec<Comparison<'a>>,
-) -> Result<(), AllocError>
-    ensures { OnOk result (map comparison_of found.new.items ≡
-        map comparison_of found.old.items ++ comparisons_in (expression_of condition.now)) }
-{
+) -> Result<(), AllocError> {
     match condition {
         Expression::Compare(comparison) => {
             found.push(*comparison)?;
@@ -180,19 +152,14 @@ fn compare<'a>(
 pub(crate) fn comparisons_of<'a>(
     alloc: Global,
     rule: &RuleItem<'a>,
-) -> Result<Vec<Comparison<'a>>, AllocError>
-    ensures { IfOk result (λ found. map comparison_of found.items ≡
-        comparisons_in (rule_of rule.now).condition) }
-{
+) -> Result<Vec<Comparison<'a>>, AllocError> {
     let mut comparisons = Vec::new(alloc);
     compare(&rule.condition, &mut comparisons)?;
     Ok(comparisons)
 }
 
 /// Whether two masks are equal, or both are absent.
-fn is_mask(one: Option<i64>, other: Option<i64>) -> bool
-    ensures { result ≡ is_mask one other }
-{
+fn is_mask(one: Option<i64>, other: Option<i64>) -> bool {
     match one {
         None => other.is_none(),
         Some(one) => match other {
@@ -203,9 +170,7 @@ fn is_mask(one: Option<i64>, other: Option<i64>) -> bool
 }
 
 /// Whether two fields are the same.
-fn is_same(one: &Field<'_>, other: &Field<'_>) -> bool
-    ensures { result ≡ is_same (compared_of one.now) (compared_of other.now) }
-{
+fn is_same(one: &Field<'_>, other: &Field<'_>) -> bool {
     one.name == other.name
         && one.packet == other.packet
         && one.mid == other.mid
@@ -216,9 +181,7 @@ fn is_same(one: &Field<'_>, other: &Field<'_>) -> bool
 }
 
 /// The place of a field among others, if it is there.
-pub(crate) fn place_of(fields: &[Field<'_>], field: &Field<'_>) -> Option<usize>
-    ensures { result ≡ place_of (compared_of field.now) (map compared_of fields.now) }
-{
+pub(crate) fn place_of(fields: &[Field<'_>], field: &Field<'_>) -> Option<usize> {
     for (place, other) in fields.iter().enumerate() {
         if is_same(other, field) {
             return Some(place);
@@ -228,10 +191,7 @@ pub(crate) fn place_of(fields: &[Field<'_>], field: &Field<'_>) -> Option<usize>
 }
 
 /// Adds a field, unless it is there. Out of memory is the only error.
-fn add_field<'a>(fields: &mut Vec<Field<'a>>, field: Field<'a>) -> Result<(), AllocError>
-    ensures { OnOk result (map compared_of fields.new.items ≡
-        added (map compared_of fields.old.items) (compared_of field.entry)) }
-{
+fn add_field<'a>(fields: &mut Vec<Field<'a>>, field: Field<'a>) -> Result<(), AllocError> {
     if place_of(fields.as_slice(), &field).is_none() {
         fields.push(field)?;
     }
@@ -243,11 +203,7 @@ fn add_fields<'a>(
     text: &RuleText<'a>,
     comparisons: &[Comparison<'a>],
     fields: &mut Vec<Field<'a>>,
-) -> Result<(), AllocError>
-    ensures { OnOk result (map compared_of fields.new.items ≡
-        all_added (map compared_of fields.old.items) (filter_map
-        (field_compared (items_in text.now)) (map comparison_of comparisons.now))) }
-{
+) -> Result<(), AllocError> {
     for comparison in comparisons {
         if let Some(field) = field_by_name(text, comparison.field) {
             add_field(fields, field)?;
@@ -262,11 +218,7 @@ fn add_rule<'a>(
     text: &RuleText<'a>,
     rule: &RuleItem<'a>,
     fields: &mut Vec<Field<'a>>,
-) -> Result<(), AllocError>
-    ensures { OnOk result (map compared_of fields.new.items ≡
-        all_added (map compared_of fields.old.items)
-        (compared_by (items_in text.now) (rule_of rule.now))) }
-{
+) -> Result<(), AllocError> {
     let comparisons = comparisons_of(alloc, rule)?;
     add_fields(text, comparisons.as_slice(), fields)
 }
@@ -276,10 +228,7 @@ fn add_text<'a>(
     alloc: Global,
     text: &RuleText<'a>,
     fields: &mut Vec<Field<'a>>,
-) -> Result<(), AllocError>
-    ensures { OnOk result (map compared_of fields.new.items ≡
-        all_added (map compared_of fields.old.items) (compared_in_text (items_in text.now))) }
-{
+) -> Result<(), AllocError> {
     for item in &text.file.items {
         if let Item::Rule(rule) = item {
             add_rule(alloc, text, rule, fields)?;
@@ -292,10 +241,7 @@ fn add_text<'a>(
 pub(crate) fn fields_of<'a>(
     alloc: Global,
     texts: &[RuleText<'a>],
-) -> Result<Vec<Field<'a>>, AllocError>
-    ensures { IfOk result (λ fields. map compared_of fields.items ≡
-        fields_of (map items_in texts.now)) }
-{
+) -> Result<Vec<Field<'a>>, AllocError> {
     let mut fields = Vec::new(alloc);
     for text in texts {
         add_text(alloc, text, &mut fields)?;

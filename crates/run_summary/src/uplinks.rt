@@ -1,16 +1,10 @@
 //! The ground commands, files and halves of rule texts that a stream brings: the first and the last of them.
 
-ghost use Rattle.std.specs.Prelude.{◌≡◌, ◌≤◌, IfOk, OnOk, length};
-ghost use Rattle.std.specs.List.{position_or_len};
-ghost use Rattle.run_summary.specs.Ends.{kept};
-ghost use Rattle.run_summary.specs.Uplinks.{Uplinked, behind_space, command_bytes, is_space, listed, record_of, uplink_of, without_last};
-
 use crate::ends::Ends;
 use crate::place::Place;
 use lc_model::packet::LONGEST_PACKET;
 use lc_model::stream::HEADER;
 use std::alloc::{AllocError, Global};
-use std::marker::Model;
 use stream_script::write_listing_from;
 
 /// The number of first, and of last, uplinks that are kept.
@@ -19,7 +13,7 @@ pub(crate) const UPLINKS: usize = 300;
 /// The most bytes of a record that brings a command.
 const LONGEST: usize = HEADER + LONGEST_PACKET;
 
-/// A record that brings a ground command, a file or a half of a rule text. Contracts see all (`Uplinked`).
+/// A record that brings a ground command, a file or a half of a rule text.
 #[derive(Drop)]
 pub struct Uplink {
     /// Its place.
@@ -32,55 +26,31 @@ pub struct Uplink {
     pub listed: Vec<u8>,
 }
 
-impl Model for Uplink {
-    ghost use Rattle.run_summary.specs.Uplinks.{Uplinked};
-
-    ghost Value = { Uplinked };
-
-    ghost view = { λ u. record {
-      place = u.place;
-      text = u.text;
-      bytes = u.bytes.items;
-      listed = u.listed.items;
-    } };
-}
-
 /// The number of bytes before the first space.
-fn space_place(text: &[u8]) -> usize
-    ensures place { result ≡ position_or_len is_space text.now }
-    ensures inside { result ≤ length text.now }
-{
+fn space_place(text: &[u8]) -> usize {
     text.iter().take_while(|byte| **byte != b' ').count()
 }
 
 /// What follows the first space.
-fn behind_space(text: &[u8]) -> &[u8]
-    ensures { result.now ≡ behind_space text.now }
-{
-    let behind = (space_place(text) + 1).min(text.len());
+fn behind_space(text: &[u8]) -> &[u8] {
+    let behind = space_place(text).saturating_add(1).min(text.len());
     text.split_at(behind).1
 }
 
 /// The text without its last byte.
-fn without_last(text: &[u8]) -> &[u8]
-    ensures { result.now ≡ without_last text.now }
-{
+fn without_last(text: &[u8]) -> &[u8] {
     text.split_at(text.len().saturating_sub(1)).0
 }
 
 /// What a listing says of a record, from its kind on. The only error is a lack of memory.
-fn listed(alloc: Global, bytes: &[u8]) -> Result<Vec<u8>, AllocError>
-    ensures { IfOk result (λ words. words.items ≡ listed bytes.now) }
-{
+fn listed(alloc: Global, bytes: &[u8]) -> Result<Vec<u8>, AllocError> {
     let line = write_listing_from(alloc, 0, bytes)?;
     let words = behind_space(behind_space(behind_space(line.as_slice())));
     Vec::from_slice(alloc, without_last(words))
 }
 
 /// The bytes of a record, if a command has at most that many; else none.
-fn command_bytes(bytes: &[u8]) -> &[u8]
-    ensures { result.now ≡ command_bytes bytes.now }
-{
+fn command_bytes(bytes: &[u8]) -> &[u8] {
     if bytes.len() <= LONGEST { bytes } else { &[] }
 }
 
@@ -91,9 +61,7 @@ impl Uplink {
         place: Place,
         text: Option<usize>,
         bytes: &[u8],
-    ) -> Result<Uplink, AllocError>
-        ensures { IfOk result (λ uplink. uplink ≡ uplink_of place text bytes.now) }
-    {
+    ) -> Result<Uplink, AllocError> {
         let listed = listed(alloc, bytes)?;
         let bytes = Vec::from_slice(alloc, command_bytes(bytes))?;
         Ok(Uplink {
@@ -104,9 +72,7 @@ impl Uplink {
         })
     }
 
-    fn record(&self) -> u64
-        ensures { result ≡ self.now.place.«record» }
-    {
+    fn record(&self) -> u64 {
         self.place.record
     }
 }
@@ -118,10 +84,7 @@ pub(crate) fn keep_uplink(
     place: Place,
     text: Option<usize>,
     bytes: &[u8],
-) -> Result<(), AllocError>
-    ensures { OnOk result (uplinks.new ≡
-        kept record_of (uplink_of place text bytes.now) uplinks.old) }
-{
+) -> Result<(), AllocError> {
     let uplink = Uplink::new(alloc, place, text, bytes)?;
     let number = match uplinks.add(uplink)? {
         None => None,

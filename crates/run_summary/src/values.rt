@@ -1,15 +1,10 @@
 //! The value of a field in a packet (cFS Limit Checker user's guide, watchpoint evaluation; how the mask is taken is this project's
 //! own).
 
-ghost use Rattle.std.specs.Prelude.{◌≡◌};
-ghost use Rattle.run_summary.specs.Fields.{value_in};
-
 use crate::texts::Field;
 
 /// The field's value: its masked bits, read with its sign. `None` if the packet ends before the field does.
-pub(crate) fn value_in(field: &Field<'_>, packet: &[u8]) -> Option<i64>
-    ensures { result ≡ value_in field.now packet.now }
-{
+pub(crate) fn value_in(field: &Field<'_>, packet: &[u8]) -> Option<i64> {
     let start = field.at as usize;
     let end = start + field.kind.width();
     if packet.len() < end {

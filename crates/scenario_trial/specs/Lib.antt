@@ -10,3 +10,4 @@ pub mod Untried
 pub mod Telling
 pub mod Warned
 pub mod Outcomes
+pub mod Looking

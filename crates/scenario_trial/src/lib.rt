@@ -1,6 +1,7 @@
 //! Trials: a run over the stream of a script, and whether what the script expects has come.
 #![tactic(auto)]
 
+mod account;
 mod error;
 mod expectation;
 mod expectation_lines;
@@ -17,6 +18,7 @@ mod trial;
 mod verdict;
 mod warning;
 
+pub use account::account_of_script;
 pub use error::TrialError;
 pub use expectation::{Arrival, ArrivalKind, Coming, Expectation, Span, What, has_come};
 pub use expectation_lines::{Placed, ReadError, read_expectations, silence};

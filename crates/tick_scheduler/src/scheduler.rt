@@ -78,6 +78,13 @@ impl Scheduler {
         self.schedule.entries(self.slot)
     }
 
+    /// The slot, from 0, whose entries the next tick publishes.
+    pub fn slot(&self) -> usize
+        ensures { result ≡ self.now.slot }
+    {
+        self.slot
+    }
+
     /// Moves on to the tick of the next slot, or from the last slot to the first.
     pub fn move_on(&mut self)
         ensures { self.new ≡

@@ -50,6 +50,8 @@ pub enum Fault<'a> {
     Judgement(&'a str, analysis_listing::ListingError),
     /// There are warnings, and the command is strict. They are already reported.
     Warned,
+    /// A run or a trial took no sample, so that nothing was looked at. A warning already reports it.
+    NotSampled,
     /// Trials failed, and the worst one has this status. Their faults are already reported.
     Reported(u8),
     /// The client of a language server left without a request to shut down.
@@ -119,7 +121,7 @@ impl Fault<'_> {
     /// The exit status: 0 the reader of the output closed it; 1 a table file has a fault, a script, a schedule or a rule text is
     /// refused, rules or tables can't be judged, a strict command has warnings, runs differ, expectations aren't met, or a client
     /// left without a request to shut down; 2 the words are not a command; 3 a file or a device; 4 a stream or packets end early, or a stream brings a text that isn't given;
-    /// 5 out of memory. That of several trials is the worst one's.
+    /// 5 out of memory; 6 nothing was sampled. That of several trials is the worst one's.
     pub fn status(&self) -> u8
         ensures { result ≡ status_of self.now }
     {
@@ -138,6 +140,7 @@ impl Fault<'_> {
             Fault::Run(error) | Fault::Stream(_, error) => status_of_run(*error),
             Fault::Reported(status) => *status,
             Fault::Memory => 5,
+            Fault::NotSampled => 6,
         }
     }
 }
@@ -151,6 +154,7 @@ impl Display for Fault<'_> {
             Fault::Value(option, word, advice) => writeln!(f, "{option} {word}: {advice}"),
             Fault::Table | Fault::Early | Fault::Gone | Fault::Refused | Fault::Warned => Ok(()),
             Fault::Differs | Fault::Unmet | Fault::NoShutdown | Fault::Reported(_) => Ok(()),
+            Fault::NotSampled => Ok(()),
             Fault::Lines(page) => write!(f, "{page}"),
             Fault::Rules(name, error) => writeln!(f, "{name}: {error}"),
             Fault::Judgement(name, analysis_listing::ListingError::Table(fault)) => {

@@ -3,7 +3,7 @@
 use crate::claims::same;
 use lc_model::Pieces;
 use rpn_compiler::{CompileError, RuleText};
-use run_comparison::{ComparisonError, Side, Sides, Which, write_comparison};
+use run_comparison::{ComparisonError, Side, Sides, Which, compare};
 use schedules::parse_schedule;
 use std::process::Abort;
 
@@ -24,12 +24,11 @@ const TEXTS: &[(&[u8], &[u8], &[u8], Which)] = &[
     (SHORT, LONG, LONG, Which::Further(0)),
 ];
 
-/// Why these texts are not compared over a stream of no bytes.
-fn refusal_of<'t, R: Abort + AllocGlobal>(
+/// Why these texts are not compared over a stream of no bytes. The first of each run is the one that is compared.
+fn refusal_of<'a, 't, R: Abort + AllocGlobal>(
     rt: &R,
-    old: &RuleText<'t>,
-    new: &RuleText<'t>,
-    further: &[RuleText<'t>],
+    old: &'a [RuleText<'t>],
+    new: &'a [RuleText<'t>],
 ) -> Option<ComparisonError> {
     let plan: &[u8] = b"slots 1";
     let stream: &[u8] = b"";
@@ -37,17 +36,15 @@ fn refusal_of<'t, R: Abort + AllocGlobal>(
     let sides = Sides {
         old: Side {
             name: "old",
-            text: old,
+            texts: old,
         },
         new: Side {
             name: "new",
-            text: new,
+            texts: new,
         },
-        further,
     };
     let mut reader = Pieces::new(stream, 1);
-    let mut out = Vec::new(rt.alloc());
-    write_comparison(rt.alloc(), &schedule, sides, &mut reader, &mut out).err()
+    compare(rt.alloc(), &schedule, sides, false, &mut reader).err()
 }
 
 /// The rule text of these bytes.
@@ -62,8 +59,17 @@ fn the_text_that_is_too_long_is_named(rt: HostRuntime) {
             which: *which,
             error: CompileError::EquationTooLong { rule: 0 },
         };
-        let (old, new) = (text_of(&rt, *old), text_of(&rt, *new));
-        let found = refusal_of(&rt, &old, &new, &[text_of(&rt, *further)]);
-        same(&rt, *which, found, Some(refusal));
+        let olds = [text_of(&rt, *old), text_of(&rt, *further)];
+        let news = [text_of(&rt, *new), text_of(&rt, *further)];
+        same(&rt, *which, refusal_of(&rt, &olds, &news), Some(refusal));
     }
+}
+
+#[test]
+fn runs_of_as_many_texts_are_compared(rt: HostRuntime) {
+    let olds = [text_of(&rt, SHORT), text_of(&rt, SHORT)];
+    let news = [text_of(&rt, SHORT)];
+    let uneven = Some(ComparisonError::Uneven);
+    same(&rt, "uneven", refusal_of(&rt, &olds, &news), uneven);
+    same(&rt, "even", refusal_of(&rt, &news, &news), None);
 }

@@ -83,7 +83,8 @@ pub fn page_from<'n, 't, R: Abort + AllocGlobal, I: ByteSource, W: Write, P: Pro
         texts: sources,
         epoch: None,
     };
-    write_page(rt.alloc(), &schedule, &run, WHOLE, reader, out, progress)
+    let written = write_page(rt.alloc(), &schedule, &run, WHOLE, reader, out, progress)?;
+    Ok(written.ending)
 }
 
 /// How often this stands in a page.

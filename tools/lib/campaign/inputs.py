@@ -15,7 +15,7 @@ import tempfile
 
 from . import task
 
-PROGRAMS = ("flight_run", "flight_tools")
+PROGRAMS = ("flight_tools",)
 
 
 class Unusable(Exception):

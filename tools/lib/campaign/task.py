@@ -12,7 +12,6 @@ import gzip
 import hashlib
 import json
 import os
-import re
 import signal
 import stat
 import subprocess
@@ -22,16 +21,10 @@ import time
 
 PIECE = 1 << 20
 RUNS = ("old", "new")
-# The statuses of both programs that another attempt would have too: something is refused, or a stream or archive ends early.
+# The statuses of flight_tools that another attempt would have too: something is refused, or a stream or archive ends early.
 REFUSED, ENDS_EARLY = (1, 2), 4
-DIFFERENCE = re.compile(r"(\S+) record (\d+)(?: \((.*?)\))?: only (old|new): (.*)")
-REQUEST = re.compile(r"sequence (\d+)(?: \((?:one of )?(.*)\))?")
-EVENT = re.compile(r"(.+?) (\d+) \w+(?: of (\S+?))?: .*")
-TOTALS = re.compile(r"old alone: (\d+); new alone: (\d+); both: (\d+)")
-RECORDS = re.compile(r"records (\d+), bytes \d+")
-RULES = re.compile(r"sequence request \d+, count \d+ \((?:one of )?(.*)\)")
-STOPPED = "both runs end here: "
-HOUSEKEEPING = b'"kind":"housekeeping"'
+# A comparison ends with 0 or 1, or with 6 if in one of the runs nothing was sampled.
+COMPARED, NOT_SAMPLED = (0, 1, 6), 6
 
 
 class Failure(Exception):
@@ -65,11 +58,6 @@ def text_of(line):
     return line.decode("utf-8", "backslashreplace").removesuffix("\n")
 
 
-def time_of(line):
-    """The time of a packet's row, if there is one."""
-    return None if line is None else float(json.loads(line)["time"])
-
-
 def looks_of(path):
     found = os.stat(path)
     return found.st_size, found.st_mtime_ns, found.st_ino
@@ -101,7 +89,7 @@ class Calls:
     """Calls of the programs in a folder of their own, where each file has the same name for every recording."""
 
     def __init__(self, programs, place):
-        self.programs, self.place, self.early = programs, place, {}
+        self.programs, self.place, self.early, self.last = programs, place, {}, None
 
     def lines(self, step, program, *words, fine=(0,), may_end_early=True):
         """The lines that a call prints. An early end that may be is noted, any other status that isn't fine is a failure."""
@@ -116,23 +104,22 @@ class Calls:
             finally:
                 ran.stdout.close()
                 status = ran.wait()
+            errors.seek(0)
+            said = text_of(errors.read(4_000)).strip()
+            self.last = failure = Failure(step, said if status >= 0 else f"{program} was ended by signal {-status}", status)
             if status not in fine:
-                errors.seek(0)
-                said = text_of(errors.read(4_000)).strip()
-                failure = Failure(step, said if status >= 0 else f"{program} was ended by signal {-status}", status)
                 if status != ENDS_EARLY or not may_end_early:
                     raise failure
                 self.early[step] = failure
 
 
 class Recording:
-    """One recording: what the calls over it say, as rows."""
+    """One recording: what `flight_tools compare --json` says of it, as rows."""
 
     def __init__(self, calls, inputs, write):
         self.calls, self.inputs, self.write = calls, inputs, write
         self.texts = [f"with{number}" for number in range(1, inputs["further"] + 1)]
-        self.listed = dict.fromkeys(RUNS, 0)
-        self.found = {"records": None, "imported": None, "old_alone": None, "new_alone": None, "both": None}
+        self.found, self.outcome, self.failures = {}, "failed", []
 
     def import_archive(self):
         words = ["import", *self.inputs["import"], "--out", "recording", "archive"]
@@ -142,100 +129,76 @@ class Recording:
             lines = said.split("\n")
             early.says = ([line for line in lines if ": byte " in line] or lines)[-1]
 
-    def run(self, run):
-        """Runs a text over the recording, and writes a row for each request and each event."""
-        words = ["run", "--schedule", "schedule", "--stream", "recording", "--out", "packets", run, *self.texts]
-        records = [int(found[1]) for line in self.calls.lines(run, "flight_run", *words) if (found := RECORDS.fullmatch(text_of(line)))]
-        if len(records) != 1 and run not in self.calls.early:
-            raise Failure("check", f"flight_run told {len(records)} times how many records there are")
-        self.found["records"] = records[-1] if records else None
-        waiting, last = [], None
-        for line in self.calls.lines(run, "flight_tools", "packets", "--json", "packets", run, *self.texts, may_end_early=False):
-            if HOUSEKEEPING in line and not waiting:
-                last = line
-                continue
-            packet = json.loads(line)
-            if packet["kind"] == "request":
-                waiting.append((packet, last))
-            elif packet["time"] is not None:
-                self.write_requests(run, waiting, line)
-                waiting, last = [], line
-                self.write_event(run, packet)
-        self.write_requests(run, waiting, None)
-
-    def write_requests(self, run, waiting, after):
-        """A request has no time of its own: it came between the packets with a time before and after it."""
-        for packet, before in waiting:
-            rules = RULES.fullmatch(packet["says"])
-            self.listed[run] += 1
-            self.write("requests", run, packet["number"], time_of(before), time_of(after), packet["sequence"], rules and rules[1])
-
-    def write_event(self, run, packet):
-        if packet["kind"] != "event":
-            return
-        sender, id, level = packet["sender"], packet["id"], packet["level"]
-        head, says = f"{sender} {id} {level} of ", packet["says"]
-        rule = says[len(head) :].split(": ")[0] if says.startswith(head) else None
-        self.listed[run] += 1
-        self.write("events", run, packet["number"], float(packet["time"]), sender, id, level, rule, packet["text"])
-
     def compare(self):
-        """Writes a row for each request and each event that only one of the texts leads to."""
+        """The object that the comparison of both texts is."""
         further = [f"--with={text}" for text in self.texts]
-        words = ["compare", "--schedule", "schedule", "--stream", "recording", *further, "old", "new"]
-        alone, totals = dict.fromkeys(RUNS, 0), None
-        for line in map(text_of, self.calls.lines("compare", "flight_tools", *words, fine=(0, 1))):
-            if found := DIFFERENCE.fullmatch(line):
-                alone[found[4]] += 1
-                self.write_difference(sum(alone.values()), *found.groups())
-            elif found := TOTALS.fullmatch(line):
-                totals = tuple(map(int, found.groups()))
-            elif not line.startswith(STOPPED):
-                raise Failure("check", f"a line of compare is not understood: {line}")
-        self.check(alone, totals)
+        words = ["compare", "--json", "--schedule", "schedule", "--stream", "recording", *further, "old", "new"]
+        text = b"".join(self.calls.lines("compare", "flight_tools", *words, fine=COMPARED))
+        if early := self.calls.early.get("compare"):
+            early.says = early.says.split("\n")[-1]
+        try:
+            return json.loads(text)
+        except ValueError as error:
+            raise self.calls.last from error
 
-    def write_difference(self, number, time, record, command, run, says):
-        request, event = REQUEST.fullmatch(says), EVENT.fullmatch(says)
-        kind, of_request = ("request", request.groups()) if request else ("event", (None, None))
-        sender, id, rule = event.groups() if event and not request else (None, None, of_request[1])
-        numbers = [int(it) if it else None for it in (of_request[0], id)]
-        self.write("differences", number, float(time), int(record), command, run, kind, numbers[0], sender, numbers[1], rule, says)
+    def write_rows(self, compared):
+        """Writes a row for each request, each event and each difference."""
+        for it in compared["requests"]:
+            self.write("requests", it["run"], it["record"], it["time"], it["sequence"], ", ".join(it["rules"]) or None)
+        for it in compared["events"]:
+            self.write("events", *(it[name] for name in ("run", "record", "time", "sender", "id", "type", "rule", "text")))
+        for number, it in enumerate(compared["differences"], 1):
+            moved = it["kind"] == "moved"
+            place, other = (it["old"], it["new"]) if moved else (it, {})
+            rules = ", ".join(it["rules"]) if it.get("rules") else it.get("rule")
+            row = [it["kind"], it.get("run"), place["record"], place["time"], other.get("record"), other.get("time")]
+            row += [it.get(name) for name in ("command", "sequence", "sender", "id", "type", "text", "of")]
+            self.write("differences", number, *row, rules)
 
-    def check(self, alone, totals):
-        """Both runs and `compare` end in the same way, and its totals are those of its lines and of what `packets` lists."""
-        if len({step in self.calls.early for step in (*RUNS, "compare")}) > 1:
-            raise Failure("check", f"of both runs and compare only {', '.join(self.calls.early)} ended early")
-        if totals is None:
-            raise Failure("check", "compare gave no totals")
-        lines, listed = tuple(alone.values()), tuple(self.listed.values())
-        if lines != totals[:2] or listed != (totals[0] + totals[2], totals[1] + totals[2]):
-            raise Failure("check", f"compare gives the totals {totals}, its lines are {lines}, and the packets {listed}")
-        self.found["old_alone"], self.found["new_alone"], self.found["both"] = totals
+    def count(self, compared):
+        """Notes the counts and the account, and checks that the counts are those of the rows."""
+        for kind, counts in compared["counts"].items():
+            for run in RUNS:
+                listed = sum(it["run"] == run for it in compared[kind])
+                if listed != counts[run] + counts["moved"] + counts["both"]:
+                    raise Failure("check", f"compare lists {listed} {kind} of the {run} text, and counts {counts}")
+            self.found |= {f"{kind}_{name}": number for name, number in counts.items() if (kind, name) != ("events", "moved")}
+        self.found["new_requests"] = int(compared["new_requests"])
+        accounts = compared["account"]
+        self.found |= {"records": accounts["old"]["records"], "steps_back": accounts["old"]["steps_back"]}
+        self.found |= {f"{run}_samples": accounts[run]["samples"] for run in RUNS}
+
+    def judge(self, compared):
+        """Notes the outcome. A run without a sample is a failure, whatever it came to."""
+        unsampled = [run for run in RUNS if not compared["account"][run]["samples"]]
+        if unsampled:
+            records = compared["account"]["old"]["records"]
+            says = f"nothing was sampled in {records} records with the {' and the '.join(unsampled)} text"
+            self.failures.append(Failure("compare", says, NOT_SAMPLED))
+        counts = [number for of in compared["counts"].values() for name, number in of.items() if name != "both"]
+        if self.calls.early:
+            self.outcome = "cut"
+        elif unsampled:
+            self.outcome = "unsampled"
+        else:
+            self.outcome = "differ" if any(counts) else "same"
 
     def look(self):
-        """Writes all rows, and returns what `recordings` says of it. Where a run ends early, `compare` says best why."""
-        failures = []
+        """Writes all rows, and returns what `recordings` says of it."""
         try:
             if self.inputs["is_archive"]:
                 self.import_archive()
-            for run in RUNS:
-                self.run(run)
-            self.compare()
+            compared = self.compare()
+            self.write_rows(compared)
+            self.count(compared)
+            self.judge(compared)
         except Failure as failure:
             if not failure.is_final():
                 raise
-            failures = [failure]
-        failures = [it for step, it in self.calls.early.items() if step not in RUNS] + failures
-        for it in failures:
+            self.failures.append(failure)
+        for it in [*self.calls.early.values(), *self.failures]:
             self.write("failures", it.step, it.status, it.says)
-        return {**self.found, "outcome": self.outcome(bool(failures))}
-
-    def outcome(self, has_failures):
-        if self.found["both"] is None:
-            return "failed"
-        if has_failures:
-            return "cut"
-        return "differ" if self.found["old_alone"] or self.found["new_alone"] else "same"
+        return {**self.found, "outcome": self.outcome}
 
 
 class Round:

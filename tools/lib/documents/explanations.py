@@ -7,13 +7,15 @@ from dataclasses import dataclass
 from documents import keywords
 
 DATA = "crates/check_command/explanations.txt"
-SOURCE = "crates/check_command/src/explanations.rt"
+FOLDER = "crates/check_command/src"
+SOURCE = f"{FOLDER}/explanations.rt"
 DOCUMENT = "docs/RULES.md"
 KINDS = ("error", "warning")
 NEEDED = ("of", "meaning")
 ALLOWED = (*NEEDED, "at", "more")
 HEAD = """//! The errors and warnings that `check --explain` explains. Written by tools/dev/write_explanations from explanations.txt.
 
+USES
 /// An error or a warning.
 pub struct Explanation {
     /// The number of an error, or the name of an error or a warning.
@@ -27,8 +29,13 @@ pub struct Explanation {
 }
 
 """
-# The most bytes of a part's source.
+HEAD_OF_PARTS = """//! Parts of what `check --explain` explains. Written by tools/dev/write_explanations from explanations.txt.
+
+use crate::explanations::Explanation;
+"""
+# The most bytes of a part's source, and the most parts of a file.
 MOST_BYTES = 3_000
+PARTS_OF_A_FILE = 4
 
 
 @dataclass(frozen=True)
@@ -120,24 +127,33 @@ def parts_of(entries):
     return parts
 
 
-def source_of(entries):
-    """The source file of these entries."""
-    parts = parts_of(entries)
-    text = [HEAD, f"/// The number of parts.\npub const PARTS: usize = {len(parts)};\n\n"]
-    text += ["/// The errors and warnings of a part, counted from 0; none beyond the last.\n", "pub fn part(number: usize) -> &'static [Explanation] {\n    match number {\n"]
-    text += [f"        {number} => part_{number}(),\n" for number in range(len(parts))]
-    text += ["        _ => &[],\n    }\n}\n"]
-    for number, values in enumerate(parts):
-        text += [f"\nfn part_{number}() -> &'static [Explanation] {{\n    &PART_{number}\n}}\n"]
+def functions_of(numbered):
+    """The functions that return these parts, each after its number, with the constants of the parts."""
+    text = []
+    for number, values in numbered:
+        text += [f"\n/// The errors and warnings of part {number}.\npub fn part_{number}() -> &'static [Explanation] {{\n    &PART_{number}\n}}\n"]
         text += [f"\nconst PART_{number}: [Explanation; {len(values)}] = [\n", *values, "];\n"]
     return "".join(text)
+
+
+def explanation_sources(entries):
+    """The source files of these entries, by their path: one that finds a part by its number, and those with the parts."""
+    numbered = list(enumerate(parts_of(entries)))
+    files = {place: numbered[at : at + PARTS_OF_A_FILE] for place, at in enumerate(range(0, len(numbered), PARTS_OF_A_FILE))}
+    uses = [f"use crate::explanations_{place}::{{{', '.join(f'part_{number}' for number, _ in some)}}};\n" for place, some in files.items()]
+    text = [HEAD.replace("USES", "".join(uses)), f"/// The number of parts.\npub const PARTS: usize = {len(numbered)};\n\n"]
+    text += ["/// The errors and warnings of a part, counted from 0; none beyond the last.\n", "pub fn part(number: usize) -> &'static [Explanation] {\n    match number {\n"]
+    text += [f"        {number} => part_{number}(),\n" for number, _ in numbered]
+    text += ["        _ => &[],\n    }\n}\n"]
+    parts = {f"{FOLDER}/explanations_{place}.rt": HEAD_OF_PARTS + functions_of(some) for place, some in files.items()}
+    return {SOURCE: "".join(text), **parts}
 
 
 def sources_of(root):
     """What stands in each source file that is made of texts, by its path."""
     with open(f"{root}/{DOCUMENT}", encoding="utf-8") as file:
         words = keywords.source_of(file.read())
-    return {SOURCE: source_of(entries_of(root)), keywords.SOURCE: words}
+    return {**explanation_sources(entries_of(root)), keywords.SOURCE: words}
 
 
 def is_written(path, wanted):
@@ -150,6 +166,5 @@ def is_written(path, wanted):
 
 def faults_of(root):
     """The source files that aren't what the texts make."""
-    made_of = {SOURCE: DATA, keywords.SOURCE: DOCUMENT}
     wrong = [it for it, wanted in sources_of(root).items() if not is_written(f"{root}/{it}", wanted)]
-    return [f"{it} isn't what {made_of[it]} makes: run tools/dev/write_explanations" for it in wrong]
+    return [f"{it} isn't what {DOCUMENT if it == keywords.SOURCE else DATA} makes: run tools/dev/write_explanations" for it in wrong]

@@ -58,6 +58,7 @@ class Course:
         self.tables, self.modes = [], []
         self.requests, self.events, self.commands = Ends(MOST["requests"]), Ends(MOST["events"]), Ends(MOST["commands"])
         self.parts, self.full = 0, False
+        self.samples, self.sampled = 0, [0] * self.rules
 
     def begin_window(self):
         """The page begins here: what came before is forgotten, and times count from this record."""
@@ -130,6 +131,7 @@ class Course:
     def tick(self, housekeeping=False):
         self.record("ticks")
         if self.is_watching:
+            self.samples += bool(self.standings)
             for number, standing in enumerate(self.standings):
                 self.sample(number, standing)
             for met in self.met.values():
@@ -196,6 +198,7 @@ class Course:
         if standing.state in ["disabled", "off"]:
             return
         rule = self.texts[self.text][number]
+        self.sampled[number] += 1
         met = [self.part(*comparison) for comparison in rule.condition.comparisons]
         parts = [part for part, _ in met]
         truth = rule.condition.truth([truth for _, truth in met])
@@ -235,7 +238,8 @@ class Course:
         request = {
             "packet": packet, "record": record, "time": time, "rule": number, "text": self.text,
             "sequence": rule.sequence, "count": self.counts, "event": None if held else packet + 1, "held": held, "counted": standing.row,
-            "samples": [] if self.full else [[*sample[:2], [list(part) for part in sample[2]]] for sample in standing.samples],
+            "one_of": [], "samples": [] if self.full else [[*sample[:2], [list(part) for part in sample[2]]] for sample in standing.samples],
+            "around": [],
         }  # fmt: skip
         self.requests.add(request, record)
         self.counts += 1
@@ -252,7 +256,7 @@ class Course:
     def data(self, status=0, says=None, whole=True):
         names = {name: place for place, name in enumerate(self.used)}
         return {
-            "format": 2, "program": "flight_tools 0.10.0",
+            "format": 3, "program": "flight_tools 0.10.0",
             "ended": {"status": status, "says": says or f"records {self.count}", "whole": whole},
             "window": self.window_of(),
             "files": [file_of("rules", f"rules_{text}.txt") for text in range(len(self.texts))]
@@ -261,11 +265,21 @@ class Course:
             "end": self.last - self.first if self.figures["records"] else 0, "ordered": self.ordered, "epoch": self.epoch,
             "texts": [{"rules": [rule_of(rule, names) for rule in rules]} for rules in self.texts],
             "fields": [self.field_of(name) for name in self.used],
-            "lanes": [lane.written() for lane in self.lanes], "tables": self.tables, "mode": self.modes,
+            "lanes": [lane.written() for lane in self.lanes], **self.looked_at(), "tables": self.tables, "mode": self.modes,
             "requests": self.requests.items(), "requests_left_out": self.requests.left_out(),
             "events": self.events.items(), "events_left_out": self.events.left_out(),
             "commands": self.commands.items(), "commands_left_out": self.commands.left_out(),
         }  # fmt: skip
+
+    def looked_at(self):
+        """What the run looked at; its gaps are left out."""
+        rules = [
+            {"text": text, "rule": number, "name": rule.name, "sampled": self.sampled[number], "passed": 0, "failed": 0, "stale": 0, "errors": 0, "unsampled": 0}
+            for text, rules in enumerate(self.texts) for number, rule in enumerate(rules)
+        ]  # fmt: skip
+        account = {"records": self.count, "samples": self.samples, "ungiven": 0, "steps_back": 0, "packets": [], "rules": rules}
+        lanes = [{"due": True, "sampled": sampled, "gaps": []} for sampled in self.sampled]
+        return {"account": account, "samples": self.samples, "sampling": lanes}
 
     def window_of(self):
         if self.window is None:

@@ -8,7 +8,7 @@ from page_bounds import MOST, MOST_BYTES, RECORDS, REST, most_bytes
 RESULT_BITS = {1, 2, 4, 8, 16, 32}
 STATE_BITS = {0, 1, 2, 4, 8}
 MEMBERS = {
-    "object": "format program ended window files figures start end ordered epoch texts fields lanes tables mode requests requests_left_out events "
+    "object": "format program ended window files figures start end ordered epoch texts fields lanes account samples sampling tables mode requests requests_left_out events "
     "events_left_out commands commands_left_out",
     "ended": "status says whole",
     "window": "from until records packets",
@@ -16,7 +16,8 @@ MEMBERS = {
     "figures": "records telemetry commands ticks files packets requests housekeeping critical error info debug other",
     "rule": "name state fails sequence level event says report condition comparisons tree",
     "field": "name packet mid type at mask stale packets last values",
-    "request": "packet record time rule text sequence count event held counted samples",
+    "request": "packet record time rule text sequence count event held counted one_of samples around",
+    "sampling": "due sampled gaps",
 }
 
 
@@ -39,7 +40,7 @@ class Data:
     def whole(self):
         run = self.run
         self.members("object", run)
-        self.expect(run["format"] == 2, f"format {run['format']}")
+        self.expect(run["format"] == 3, f"format {run['format']}")
         self.members("ended", run["ended"])
         if run["window"] is not None:
             self.window(run["window"])
@@ -104,6 +105,17 @@ class Data:
                 else:
                     self.expect(len(entry) == 5 and entry[4] >= 2 and after is not None, f"{what}: {entry}")
 
+    def sampling(self):
+        self.expect(len(self.run["sampling"]) == len(self.run["lanes"]), "the lanes of samples")
+        for number, lane in enumerate(self.run["sampling"]):
+            what = f"samples of lane {number}"
+            self.members("sampling", lane)
+            self.expect(lane["sampled"] <= self.run["samples"] <= self.records, f"{what}: more than there are")
+            self.expect(lane["due"] or not lane["gaps"], f"{what}: gaps that are not due")
+            ends = [self.first] + [gap[2] for gap in lane["gaps"]]
+            for gap, end in zip(lane["gaps"], ends):
+                self.expect(end <= gap[0] <= gap[2] <= self.last + 1 and gap[4] >= 1, f"{what}: {gap}")
+
     def fields(self):
         for field in self.run["fields"]:
             what = f"field {field['name']}"
@@ -136,7 +148,9 @@ class Data:
         parts = 0
         for request in run["requests"]:
             self.members("request", request)
-            may_be_held = request["event"] is None and request["rule"] is not None
+            may_be_held = request["event"] is None and request["rule"] is not None and request["text"] is not None
+            self.expect(request["rule"] is None or not request["one_of"], f"packet {request['packet']} has a rule, and others that may have requested it")
+            self.expect(sum(len(values) for _, values in request["around"]) <= MOST["around"], f"values around packet {request['packet']}")
             self.expect(request["held"] in (["type", "filter"] if may_be_held else [None]), f"packet {request['packet']} held {request['held']}")
             known = request["text"] is not None and request["rule"] is not None
             rule = run["texts"][request["text"]]["rules"][request["rule"]] if known else None
@@ -145,7 +159,7 @@ class Data:
                 self.expect(record <= request["record"] and len(met) == len(rule["comparisons"]), f"samples of packet {request['packet']}")
                 taken = [record, *(came for _, came, _, _ in met if came is not None)]
                 self.expect(all(map(self.is_watching, taken)), f"a sample of packet {request['packet']} while LC took nothing")
-            self.expect(len(request["samples"]) <= min(6, request["counted"]), f"packet {request['packet']} has {len(request['samples'])} samples")
+            self.expect(len(request["samples"]) <= min(6, request["counted"] or 6), f"packet {request['packet']} has {len(request['samples'])} samples")
         self.expect(parts <= MOST["parts"], f"{parts} parts")
         self.places([[each["record"], each["time"]] for each in run["requests"]], "requests")
         self.places([event[1:3] for event in run["events"]], "events")
@@ -170,6 +184,7 @@ class Data:
         if self.records > RECORDS or len(run["texts"]) > 1:
             return
         most = most_bytes()
+        self.expect(sum(len(lane["gaps"]) for lane in run["sampling"]) <= max(MOST["gaps"], 2 * len(run["lanes"])), "too many gaps")
         parts = {"entries": lists, "bands": [run["tables"], run["mode"]], **{name: run[name] for name in ["requests", "events", "commands"]}}
         for name, part in parts.items():
             size = len(json.dumps(part, separators=(",", ":")).replace("<", "\\u003c"))
@@ -180,6 +195,6 @@ class Data:
 
 def faults_of(text):
     data = Data(text)
-    for look in [data.whole, data.rules, data.lanes, data.fields, data.bands, data.sent, data.size]:
+    for look in [data.whole, data.rules, data.lanes, data.sampling, data.fields, data.bands, data.sent, data.size]:
         look()
     return data.faults

@@ -61,7 +61,7 @@ def refusal(title, words, line, status=2, engines={"parallel": PARALLEL}):
 REQUIRED = b"the following arguments are required: --schedule, --old, --new, --out, list; --help says more\n"
 NO_PARALLEL = b"there is no `parallel` (Debian's package parallel)\n"
 NO_SBATCH = b"there is no `sbatch` (Debian's package slurm-client)\n"
-NO_PROGRAM = b"there is no program none/flight_run: tools/build makes bin/flight_run, and --programs names another folder\n"
+NO_PROGRAM = b"there is no program none/flight_tools: tools/build makes bin/flight_tools, and --programs names another folder\n"
 AN_ARCHIVE = b"a.raw is an archive, as its name does not end with .stream: say with --import=OPTIONS how it becomes a stream\n"
 
 TRIALS = [

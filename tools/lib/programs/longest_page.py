@@ -18,7 +18,7 @@ from trial import SECONDS, written
 
 PAIRS = 50  # rules that request, each over two fields of 32 bits
 RECORDS = 12_000
-LEAST = 0.84  # of the bytes that a page can have: these numbers of records are shorter, and no stream makes all lists longest at once
+LEAST = 0.83  # of the bytes that a page can have: these numbers of records are shorter, and no stream makes all lists longest at once
 WORDS = {"at", "or", "u8", "i8"}
 
 

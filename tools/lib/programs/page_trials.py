@@ -18,6 +18,8 @@ RULES = {
     "debug": b"packet P = mid 0x0883 length 16; field V = P u16be at 12 stale 2; "
     b'rule LOW active fails 2 sequence 7 event debug 1001 "low volts" when V < 2400;',
 }
+# The statuses of a page that is made: 6 where no rule was sampled.
+MADE = (0, 6)
 START = "at 100 0\nwdt 0 /cf/lc_def_wdt.tbl\nadt 0 /cf/lc_def_adt.tbl\nstart LC\n"
 ADOPTION = (
     "load {0}_wdt.tbl\nload {0}_adt.tbl\nvalidate LC.LC_WDT\nvalidate LC.LC_ADT\nhousekeeping\n"
@@ -32,7 +34,9 @@ def page_data(place, tool, script, texts, options=()):
     written(place, {**RULES, "script": script.encode(), "schedule": NO_ENTRIES})
     subprocess.run([tool, *"scenario --script script --out stream rules".split()], cwd=place, check=True, capture_output=True, timeout=SECONDS)
     words = [tool, "report", *options, *"--schedule schedule --stream stream --out page".split(), *texts]
-    subprocess.run(words, cwd=place, check=True, capture_output=True, timeout=SECONDS)
+    ran = subprocess.run(words, cwd=place, capture_output=True, timeout=SECONDS)
+    if ran.returncode not in MADE:
+        raise subprocess.CalledProcessError(ran.returncode, words, ran.stdout, ran.stderr)
     with open(os.path.join(place, "page"), encoding="utf-8") as page:
         return json.loads(page.read().split('<script type="application/json" id="run">', 1)[1].split("</script>", 1)[0])
 
@@ -116,7 +120,7 @@ TRIALS = [
             ADOPTED_BACK + 2 * FAILURE,
             ["rules", "other"],
             {
-                "format": whole(2),
+                "format": whole(3),
                 "window": whole(None),
                 "tables": whole([[1, 0, None, "none"], [3, 0, 0, "started"], [14, 0, 1, "adopted"], [22, 65536, 0, "adopted"]]),
                 "requests": those(WHY, [[26, 0, 0, 7, 30, None, 2]]),

@@ -19,6 +19,8 @@ from records import LOW_VOLTS, NO_ENTRIES, OLD_PAGE, TICK, record
 from trial import SECONDS, Trial, written
 
 CALLS = ["flight_tools report", "flight_tools scenario"]
+# The statuses of a page that is made: 6 where no rule was sampled.
+MADE = (0, 6)
 # The words of a page of `stream`, before its rule texts.
 PAGE = "--schedule schedule --stream stream --out page".split()
 DATA = '<script type="application/json" id="run">'
@@ -48,7 +50,7 @@ def shown(files, texts, expected, options=()):
     def faults(programs):
         with tempfile.TemporaryDirectory(prefix="try-programs-") as place:
             ran = report(place, programs["flight_tools"], files, [*options, *PAGE, *texts])
-            if ran.returncode:
+            if ran.returncode not in MADE:
                 return [f"it ended with {ran.returncode}: {ran.stderr}"]
             data = data_of(read_page(place))
         wanted = {name: it if isinstance(it, tuple) else (None, it) for name, it in expected.items()}
@@ -259,8 +261,8 @@ def with_a_stream_that_goes_on(programs):
     """All bytes of the stream count for its size and hash, also those after what is no record."""
     with tempfile.TemporaryDirectory(prefix="try-programs-") as place:
         ran = report(place, programs["flight_tools"], {**NAMED, "stream": TICK + ENDS}, [*PAGE, "~a.rules"])
-        found = (ran.returncode, ran.stderr, data_of(read_page(place))["files"])
-    expected = (4, b"stream: record 2 is none\n", [source("rules", "~a.rules", LOW_VOLTS), source("schedule", "schedule", PLAN), source("stream", "stream", TICK + ENDS)])
+        found = (ran.returncode, ran.stderr.splitlines()[-1], data_of(read_page(place))["files"])
+    expected = (4, b"stream: record 2 is none", [source("rules", "~a.rules", LOW_VOLTS), source("schedule", "schedule", PLAN), source("stream", "stream", TICK + ENDS)])
     return [] if found == expected else [f"it was {found} and should be {expected}"]
 
 
@@ -285,7 +287,7 @@ FILES = [
 
 # ---- reduced values
 
-MOST = 13_312
+MOST = 9_600
 CHANGES = 14_000
 
 
@@ -427,9 +429,9 @@ def to_a_device_that_is_full_at_its_end(programs):
         with tempfile.TemporaryDirectory(prefix="try-programs-") as place:
             ran = report(place, programs["flight_tools"], files, words, preexec_fn=lambda: limit_files(room))
             page = read_page(place)
-            found = (ran.returncode, ran.stderr, "old" if page.encode() == OLD_PAGE else len(page.encode()), sorted(os.listdir(place)))
+            found = (ran.returncode, ran.stderr.splitlines()[0][:16], "old" if page.encode() == OLD_PAGE else len(page.encode()), sorted(os.listdir(place)))
         is_kept = room < size
-        expected = (3, b"cannot use page: the device is full\n", "old") if is_kept else (0, b"", size)
+        expected = (3, b"cannot use page:", "old") if is_kept else (6, b"warning[nothing-", size)
         expected = (*expected, ["page", "rules", "schedule", "stream"])
         if found != expected:
             faults.append(f"with room for {room} bytes it was {found} and should be {expected}")
@@ -467,7 +469,8 @@ def progress_on_a_terminal(programs):
         if read >= next_at:
             lines.append(f"{read} of {size} bytes")
             next_at += part
-    found, expected = on_a_terminal(programs, "report --schedule schedule --stream stream --out page rules", {"stream": stream}), (0, [*lines, ""])
+    status, said = on_a_terminal(programs, "report --schedule schedule --stream stream --out page rules", {"stream": stream})
+    found, expected = (status, [line for line in said if not line.startswith("warning")]), (6, [*lines, ""])
     return [] if found == expected else [f"it was {found} and should be {expected}"]
 
 
@@ -479,7 +482,8 @@ def faults_on_a_terminal(programs):
         ("report --schedule schedule --stream stream --out page rules", 4, "stream: the stream ends inside record 1"),
     ]
     for words, status, line in calls:
-        found, expected = on_a_terminal(programs, words, {"stream": TICK[:-1]}), (status, [line, ""])
+        ended, said = on_a_terminal(programs, words, {"stream": TICK[:-1]})
+        found, expected = (ended, [it for it in said if not it.startswith("warning")]), (status, [line, ""])
         if found != expected:
             yield f"{words}: it was {found} and should be {expected}"
 

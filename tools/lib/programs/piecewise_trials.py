@@ -168,12 +168,16 @@ def of_a_sparse_file(programs):
             hole.truncate(3 << 30)
         with open(os.path.join(place, "lesser"), "wb") as lesser:
             lesser.truncate(300 << 20)
+        nothing = (
+            b"warning[nothing-sampled]: records: 0, and no rule was sampled: is `LC` started and enabled, are there tables, ticks, `SCH` and"
+            b" a schedule that samples?\nwarning[no-packet]: no packet 0x0883 came, which these rules compare: LOW\n"
+        )
         calls = {
             "table hole": (3, b"cannot use hole: it has more than 32768 bytes\n"),
             "stream --stream hole": (4, b""),
             "scenario --script hole --out made": (3, b"cannot use hole: it has more than 67108864 bytes\n"),
             "report --schedule hole --stream stream --out page rules": (3, b"cannot use hole: it has more than 65536 bytes\n"),
-            "report --schedule schedule --stream lesser --out page rules": (4, b"lesser: record 1 is none; of raw space packets `flight_tools import` makes a stream\n"),
+            "report --schedule schedule --stream lesser --out page rules": (4, nothing + b"lesser: record 1 is none; of raw space packets `flight_tools import` makes a stream\n"),
             "report --schedule schedule --stream stream --out page hole": (1, b"hole: the text has over 65,536 bytes\n"),
             "live --schedule schedule hole": (1, b"hole: the text has over 65,536 bytes\n"),
         }
@@ -214,7 +218,7 @@ def with_the_old_rights(programs):
         words = [programs["flight_tools"], *"report --schedule schedule --stream stream --out page rules".split()]
         ran = subprocess.run(words, cwd=place, capture_output=True, timeout=SECONDS)
         found = (ran.returncode, os.stat(page).st_mode & 0o777, sorted(os.listdir(place)))
-        expected = (0, 0o604, ["page", "rules", "schedule", "stream"])
+        expected = (6, 0o604, ["page", "rules", "schedule", "stream"])
         return [] if found == expected else [f"it was {found} and should be {expected}"]
 
 

@@ -1,5 +1,6 @@
 use Rattle.std.proofs.Common.{arith, sym, ◌∙◌, ◌≡◌, ◌≤◌, length, List, Option}
 use Rattle.app_host.specs.Hosted.{Object, shown}
+use Rattle.flight_profile.specs.Checkers.{engine_of}
 use Rattle.flight_profile.proofs.Engines.{none_behind}
 use Rattle.flight_profile.proofs.checkers.engine_on.Goals as goal
 
@@ -8,4 +9,4 @@ returns g c =
     let seats : List (Option Object) = (shown g.B.App.meaning c.args.host.now).seats in
     let eight : length seats ≡ 8 = c.requires.seated.eight in
     let behind : length seats ≤ c.loop-number.number = omega (arith, eight, c.loop-number-test.false) in
-    sym (none_behind seats c.loop-number.number behind) ∙ c.loop-number.invariant
+    sym (none_behind engine_of seats c.loop-number.number behind) ∙ c.loop-number.invariant

@@ -1,0 +1,6 @@
+pub mod Records
+pub mod Numbers
+pub mod Rows
+pub mod Accounts
+pub mod Taking
+pub mod Scheduling

@@ -1,0 +1,169 @@
+//! The account of a run up to its newest record.
+
+ghost use Rattle.std.specs.Prelude.{◌≡◌, ◌++◌, ◌∷◌, [], List, IfOk};
+ghost use Rattle.flight_profile.specs.Checkers.{engine_among};
+ghost use Rattle.run_stepper.specs.Stepping.{IsAtRest, host_in};
+ghost use Rattle.run_stepper.specs.Steps.{Step};
+ghost use Rattle.run_stepper.specs.Watching.{step_shown};
+ghost use Rattle.run_account.specs.Account.{HasPacket, HasSampled, IsAccountOf, packets_of, records_of, rows_of, samples_of, schedule_of, steps_back_of, ungiven_of, unsampled_of};
+ghost use Rattle.run_account.specs.Packets.{brings};
+ghost use Rattle.run_account.specs.Samples.{requests_of};
+
+use crate::clock::RunClock;
+use crate::counts::{RuleRow, count_rows};
+use crate::force::force_after;
+use crate::lanes::{Lane, count_lanes, lanes_of};
+use crate::packets::{PacketCount, count_packet, mid_in};
+use crate::requests::{Requests, is_sampled, requests_in};
+use crate::texts::{most_rules, packets_of, rows_of};
+use rpn_compiler::RuleText;
+use run_stepper::Stepping;
+use schedules::Schedule;
+use std::alloc::{AllocError, Global};
+
+/// What a run looked at, up to its newest record. All counts stop at 2^64 - 1.
+#[derive(Drop)]
+pub struct RunAccount<'s> {
+    schedule: &'s Schedule,
+    slot: Option<usize>,
+    force: Option<usize>,
+    clock: RunClock,
+    records: u64,
+    steps_back: u64,
+    samples: u64,
+    ungiven: u64,
+    rows: Vec<RuleRow>,
+    lanes: Vec<Lane>,
+    packets: Vec<PacketCount>,
+}
+
+impl<'s> RunAccount<'s> {
+    /// The account of a run of these texts under this schedule before its first record. The only error is a lack of memory.
+    pub fn new(
+        alloc: Global,
+        texts: &[RuleText<'_>],
+        schedule: &'s Schedule,
+    ) -> Result<RunAccount<'s>, AllocError>
+        ensures account { IfOk result (λ it. IsAccountOf it []) }
+        ensures schedule { IfOk result (λ it. schedule_of it ≡ schedule.now) }
+    {
+        Ok(RunAccount {
+            schedule,
+            slot: None,
+            force: None,
+            clock: RunClock::new(),
+            records: 0,
+            steps_back: 0,
+            samples: 0,
+            ungiven: 0,
+            rows: rows_of(alloc, texts)?,
+            lanes: lanes_of(alloc, schedule, most_rules(texts))?,
+            packets: packets_of(alloc, texts)?,
+        })
+    }
+
+    /// Counts a record of which the time is taken already: its packet.
+    fn add_packet(&mut self, bytes: &[u8])
+        ensures { HasPacket (brings bytes.now) self.old self.new }
+    {
+        if let Some(mid) = mid_in(bytes) {
+            count_packet(self.packets.as_mut_slice(), mid);
+        }
+    }
+
+    /// Counts the samples that these requests led to.
+    fn add_samples(&mut self, requests: Requests<'_>, stepping: &Stepping)
+        requires { IsAtRest stepping.now }
+        ensures { HasSampled self.old self.new (requests_of requests.entry)
+            (engine_among (host_in stepping.now).host.seats) self.old.force }
+    {
+        let engine = stepping.checker();
+        if !is_sampled(requests, engine) {
+            return;
+        }
+        self.samples = self.samples.saturating_add(1);
+        let force = self.force;
+        if force.is_none() {
+            self.ungiven = self.ungiven.saturating_add(1);
+        }
+        count_rows(self.rows.as_mut_slice(), requests, engine, force);
+        count_lanes(
+            self.lanes.as_mut_slice(),
+            requests,
+            engine,
+            self.schedule,
+            self.clock,
+        );
+    }
+
+    /// Takes the record that was handled last.
+    pub fn add(&mut self, stepping: &Stepping)
+        requires { IsAtRest stepping.now }
+        ensures account { (steps : List Step) → IsAccountOf self.old steps →
+            IsAccountOf self.new (steps ++ step_shown stepping.now ∷ []) }
+        ensures schedule { schedule_of self.new ≡ schedule_of self.old }
+    {
+        let bytes = stepping.last_record();
+        let requests = requests_in(self.schedule, self.slot, bytes);
+        self.records = self.records.saturating_add(1);
+        self.steps_back = self.clock.count_back(self.steps_back, bytes);
+        self.clock = self.clock.after(bytes);
+        self.force = force_after(self.force, stepping);
+        self.add_packet(bytes);
+        self.add_samples(requests, stepping);
+        self.slot = stepping.next_slot();
+    }
+
+    /// The number of records.
+    pub fn records(&self) -> u64
+        ensures { result ≡ records_of self.now }
+    {
+        self.records
+    }
+
+    /// The number of records that are earlier than the record before them.
+    pub fn steps_back(&self) -> u64
+        ensures { result ≡ steps_back_of self.now }
+    {
+        self.steps_back
+    }
+
+    /// The number of records in which a rule was sampled.
+    pub fn samples(&self) -> u64
+        ensures { result ≡ samples_of self.now }
+    {
+        self.samples
+    }
+
+    /// The number of records in which a rule was sampled while the tables in force were of none of the run's texts.
+    pub fn ungiven(&self) -> u64
+        ensures { result ≡ ungiven_of self.now }
+    {
+        self.ungiven
+    }
+
+    /// The rules of all texts, text by text, each with its results while its text was in force.
+    pub fn rows(&self) -> &[RuleRow]
+        ensures { result.now ≡ rows_of self.now }
+    {
+        self.rows.as_slice()
+    }
+
+    /// The packets that came, for each message id that the texts name.
+    pub fn packets(&self) -> &[PacketCount]
+        ensures { result.now ≡ packets_of self.now }
+    {
+        self.packets.as_slice()
+    }
+
+    /// The time, in 1/65,536 s, in which the rules with this number were not sampled though the schedule asks for it: that of all gaps
+    /// between samples, at the run's begin and at its end too, that last longer than two cycles of the schedule.
+    pub fn unsampled(&self, rule: usize) -> u64
+        ensures { result ≡ unsampled_of rule self.now }
+    {
+        match self.lanes.as_slice().get(rule) {
+            Some(lane) if lane.is_scheduled => lane.unsampled_until(self.clock),
+            _ => 0,
+        }
+    }
+}

@@ -1,0 +1,105 @@
+//! How often each rule was sampled, and with which results.
+
+ghost use Rattle.std.specs.Prelude.{◌≡◌, map, option_map};
+ghost use Rattle.run_account.specs.Clock.{add};
+ghost use Rattle.run_account.specs.Counts.{counts_with, none_counted, row_sampled, row_with};
+ghost use Rattle.run_account.specs.Samples.{requests_of};
+
+use crate::requests::{Requests, result_of};
+use lc_model::ApResult;
+use limit_engine::Engine;
+
+/// The results of a rule, each the number of records in which it was sampled with this result. Counts stop at 2^64 - 1.
+#[derive(Clone, Copy, Debug, PartialEq, Eq)]
+pub struct RuleCounts {
+    /// Its condition was false.
+    pub passed: u64,
+    /// Its condition was true.
+    pub failed: u64,
+    /// A field that it needs was stale.
+    pub stale: u64,
+    /// A field that it needs was not in its packet.
+    pub errors: u64,
+}
+
+/// A rule of a given rule text, and its results while that text was in force.
+#[derive(Clone, Copy, Debug, PartialEq, Eq)]
+pub struct RuleRow {
+    /// The number of the text, from 0.
+    pub text: usize,
+    /// The number of the rule in the text, from 0.
+    pub rule: usize,
+    /// Its results.
+    pub counts: RuleCounts,
+}
+
+impl RuleCounts {
+    /// No samples.
+    pub(crate) fn none() -> RuleCounts
+        ensures { result ≡ none_counted }
+    {
+        RuleCounts {
+            passed: 0,
+            failed: 0,
+            stale: 0,
+            errors: 0,
+        }
+    }
+
+    /// The number of records in which the rule was sampled, up to 2^64 - 1.
+    pub fn sampled(self) -> u64
+        ensures { result ≡ add (add (add self.passed self.failed) self.stale) self.errors }
+    {
+        self.passed
+            .saturating_add(self.failed)
+            .saturating_add(self.stale)
+            .saturating_add(self.errors)
+    }
+
+    /// The counts with one more result.
+    fn with(self, found: ApResult) -> RuleCounts
+        ensures { result ≡ counts_with found self }
+    {
+        let mut counts = self;
+        match found {
+            ApResult::Pass => counts.passed = self.passed.saturating_add(1),
+            ApResult::Fail => counts.failed = self.failed.saturating_add(1),
+            ApResult::Stale => counts.stale = self.stale.saturating_add(1),
+            ApResult::Error => counts.errors = self.errors.saturating_add(1),
+        }
+        counts
+    }
+}
+
+impl RuleRow {
+    /// The row after a sample with this result, under tables of the text with this number; the same if it is of another text, or if
+    /// the rule was not sampled.
+    fn with(self, force: Option<usize>, found: Option<ApResult>) -> RuleRow
+        ensures { result ≡ row_with force found self }
+    {
+        match (force, found) {
+            (Some(text), Some(found)) if text == self.text => RuleRow {
+                text: self.text,
+                rule: self.rule,
+                counts: self.counts.with(found),
+            },
+            _ => self,
+        }
+    }
+}
+
+/// Counts the results that these requests led to, in the engine after them, whose tables are of the text with this number.
+pub fn count_rows(
+    rows: &mut [RuleRow],
+    requests: Requests<'_>,
+    engine: Option<&Engine>,
+    force: Option<usize>,
+)
+    ensures { rows.new ≡ map (row_sampled (requests_of requests.entry)
+        (option_map (λ engine. engine.now) engine.entry) force) rows.old }
+{
+    for row in rows.iter_mut() {
+        let found = result_of(requests, engine, row.rule);
+        *row = row.with(force, found);
+    }
+}

@@ -1,0 +1,54 @@
+-- Lists of meanings that are the same by the test are equal.
+use Rattle.std.proofs.Common.{◌≡◌, refl, sym, ◌∙◌, ap, ℕ, ◌==◌, ◌&&◌, Bool, true, false, List, [], ◌∷◌, bytes_eq, Some}
+use Rattle.std.proofs.lemmas.Bool.{eqb-true, false≢true}
+use Rattle.std.proofs.lemmas.Slice.Eq.{bytes_eq-Decides}
+use Rattle.lc_model.specs.Codes.{event_code, event_numbered}
+use Rattle.lc_model.specs.declared.rule.EventKind.{EventKind}
+use Rattle.lc_model.specs.declared.rule.EventKind.TheVariants.{Debug, Information, Error, Critical}
+use Rattle.run_comparison.specs.Meaning.{Meaning, Request, Event}
+use Rattle.run_comparison.specs.Order.{are_same, is_same}
+
+and_left : (a b : Bool) → (a && b) ≡ true → a ≡ true
+and_left true b is = refl
+and_left false b is = absurd (false≢true is)
+
+and_right : (a b : Bool) → (a && b) ≡ true → b ≡ true
+and_right true b is = is
+and_right false b is = absurd (false≢true is)
+
+numbered : (kind : EventKind) → event_numbered (event_code kind) ≡ Some kind
+numbered Debug = refl
+numbered Information = refl
+numbered Error = refl
+numbered Critical = refl
+
+same_kind : (kind other : EventKind) → event_code kind ≡ event_code other → kind ≡ other
+same_kind kind other same = let is : Some kind ≡ Some other = sym (numbered kind) ∙ ap event_numbered same ∙ numbered other in cc is
+
+same_one : (one other : Meaning) → is_same one other ≡ true → one ≡ other
+same_one (Request sequence) (Request other) is = ap Request (eqb-true sequence other is)
+same_one (Request sequence) (Event sender id kind before after) is = absurd (false≢true is)
+same_one (Event sender id kind before after) (Request sequence) is = absurd (false≢true is)
+same_one (Event sender id kind before after) (Event sender' id' kind' before' after') is =
+    let numbers : Bool = id == id' in
+    let kinds : Bool = event_code kind == event_code kind' in
+    let senders : Bool = bytes_eq sender sender' in
+    let fronts : Bool = bytes_eq before before' in
+    let four = and_left (numbers && kinds && senders && fronts) (bytes_eq after after') is in
+    let three = and_left (numbers && kinds && senders) fronts four in
+    let two = and_left (numbers && kinds) senders three in
+    let same_id : id ≡ id' = eqb-true id id' (and_left numbers kinds two) in
+    let same_type : kind ≡ kind' = same_kind kind kind' (eqb-true (event_code kind) (event_code kind') (and_right numbers kinds two)) in
+    let same_sender : sender ≡ sender' = (bytes_eq-Decides sender sender').0 (and_right (numbers && kinds) senders three) in
+    let same_front : before ≡ before' = (bytes_eq-Decides before before').0 (and_right (numbers && kinds && senders) fronts four) in
+    let same_end : after ≡ after' = (bytes_eq-Decides after after').0 (and_right (numbers && kinds && senders && fronts) (bytes_eq after after') is) in
+    λ i. Event (same_sender i) (same_id i) (same_type i) (same_front i) (same_end i)
+
+pub same_are_equal : (these those : List Meaning) → are_same these those ≡ true → these ≡ those
+same_are_equal [] [] is = refl
+same_are_equal [] (other ∷ those) is = absurd (false≢true is)
+same_are_equal (one ∷ these) [] is = absurd (false≢true is)
+same_are_equal (one ∷ these) (other ∷ those) is =
+    let first : one ≡ other = same_one one other (and_left (is_same one other) (are_same these those) is) in
+    let rest : these ≡ those = same_are_equal these those (and_right (is_same one other) (are_same these those) is) in
+    λ i. first i ∷ rest i
