@@ -12,19 +12,21 @@ use Rattle.lc_model.specs.Services.Settled.{Settled, IsNamedAs}
 use Rattle.app_host.specs.declared.services.Services.{Services}
 use Rattle.app_host.specs.Shared.{on_board, held_by, shared}
 
--- an object at any time: it has an application's name, its kind's if the kind is known, and could be started
+-- An object at any time: a valid application name, the name of its kind if it is of this profile, and a state in which it may be
+-- started.
 pub record IsObject (state : AppState) (name : Name) : Type 0 where
   pub application : IsApplicationName name
   pub kind : IsNamedAs state name
   pub may_start : MayStart state
 
--- an object on its seat: what is there is its own, and is as its own calls and the commands left it
+-- An object on its seat: sender and tables of the seat are under its name, and pipe, tables and state agree with one another.
 pub record IsAtHome (state : AppState) (name : Name) (seat : ℕ) (s : Services) : Type 0 where
   pub belongs : BelongsTo seat name (held_by s)
   pub settled : Settled state seat (held_by s)
   pub goes : GoesWith on_board state (shared s)
 
--- a call leaves what the definitions say
+-- The call did exactly what the model gives: new state, services, output, its own pipe's subscriptions, and packets published to
+-- all pipes.
 pub record Leaves (seat : ℕ) (state : AppState) (before after : Services) (called : Called (List ℕ)) : Type 0 where
   pub becomes : state ≡ called.state
   pub services : shared after ≡ called.services
@@ -32,7 +34,7 @@ pub record Leaves (seat : ℕ) (state : AppState) (before after : Services) (cal
   pub pipes : seen after.bus
       ≡ all_published_to (slice_set (seen before.bus) seat (Some (record { subscriptions = called.mids; waiting = waiting_in (seen_at seat (held_by before)) }))) called.published
 
--- a retirement leaves an empty seat, and writes nothing
+-- A `retire` did exactly what the model gives: the seat has no pipe, and nothing was written.
 pub record LeavesEmpty (seat : ℕ) (before after : Services) (left : ServicesNow (List ℕ)) : Type 0 where
   pub services : shared after ≡ left
   pub outgoing : after.outgoing ≡ []

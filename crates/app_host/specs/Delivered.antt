@@ -1,4 +1,4 @@
--- What one delivery leaves.
+-- The host after one delivery.
 use Rattle.std.specs.Prelude.{◌≡◌, ℕ, ◌+◌, ◌<◌, ◌≤◌, List, length, Some, slice_set}
 use Rattle.std.specs.List.{concat}
 use Rattle.lc_model.specs.Kept.Executive.{Executive, Written, delivered_at}
@@ -13,21 +13,21 @@ use Rattle.app_host.specs.Party.{IsDetermined}
 use Rattle.app_host.specs.Load.{IsLight, load}
 use Rattle.app_host.specs.Roster.{roster_of, ComesTo}
 
--- the objects and services of a host, in numbers
+-- The executive of the model for this host.
 abbrev pub executive_in : Hosted → Executive (List ℕ)
 executive_in h = executive_of h.stock h.seats h.services
 
--- a host has become what this step leaves, and what the step writes waits to be written
+-- The host is what `step` gives, and the step's packets wait to be written.
 pub record Becomes (h : Hosted) (step : Written (List ℕ)) : Type 0 where
   pub executive : executive_in h ≡ step.0
   pub outgoing : h.services.outgoing ≡ concat step.1
 
--- the services with another bus
+-- The services with their bus replaced.
 abbrev pub with_bus : Bus → Services → Services
 with_bus bus s = record s { bus = bus }
 
--- the object of a seat had the oldest packet of its pipe, which is out of the pipe before its call: what it published is heard by
--- all that are subscribed to it, once each, and if it is of this profile it did what the definitions say. Nobody else was called.
+-- The object on `seat` handled `packet`, the oldest of its pipe, which was removed before the call. What the object published
+-- reaches each other subscriber once; if it is of this profile, it did exactly what the model gives. No other object changed.
 pub record HasHad (seat : ℕ) (packet : List ℕ) (old new : Hosted) : Type 0 where
   pub oldest : oldest_at seat old.services.bus ≡ Some packet
   pub object : Object
@@ -36,7 +36,8 @@ pub record HasHad (seat : ℕ) (packet : List ℕ) (old new : Hosted) : Type 0 w
   pub answered : HasAnswered seat packet (with_bus (after old.services.bus (received seat old.services.bus)) old.services) new.services object now
   pub seats : new.seats ≡ slice_set old.seats seat (Some now)
 
--- the object of a seat had the first packet of its pipe
+-- The object on `seat` handled its oldest packet, and the host keeps its invariants: seats, stock and roster stay consistent,
+-- and the load, which bounds the deliveries to come, falls.
 pub record HasDelivered (seat : ℕ) (old new : Hosted) : Type 0 where
   pub seated : AreSeated new.seats new.services
   pub stock : new.stock ≡ old.stock

@@ -1,5 +1,5 @@
--- What a packet leads to that is given to the applications, whatever they are: it is published, and then each delivery is one call
--- of `on_packet`, until no packet waits or a write fails.
+-- What follows from a packet for applications of any kind: it is published, and each delivery is one call of `on_packet`, until
+-- no packet waits or a write fails.
 use Rattle.std.specs.Prelude.{◌≡◌, ℕ, ◌<◌, List, [], ◌∷◌, length, Some, None, slice_index_or}
 use Rattle.std.specs.List.{concat}
 use Rattle.lc_model.specs.declared.record.Moment.{Moment}
@@ -11,8 +11,8 @@ use Rattle.app_host.specs.Load.{packets_in}
 use Rattle.app_host.specs.Delivered.{HasHad}
 use Rattle.app_host.specs.Writing.{written_off}
 
--- one delivery, and the write after it: the least seat with a packet comes next; no pipe is full; these bytes are to be
--- written
+-- One delivery: the least seat with a waiting packet handles its oldest one, no pipe is full before it, and `bytes` are the
+-- output of the call.
 pub record IsDelivery (old new : Hosted) (bytes : List ℕ) : Type 0 where
   pub seat : ℕ
   pub packet : List ℕ
@@ -25,12 +25,12 @@ pub record IsDelivery (old new : Hosted) (bytes : List ℕ) : Type 0 where
   pub seats : new.seats ≡ answered.seats
   pub stock : new.stock ≡ old.stock
 
--- one after the other, with what each is to write
+-- Deliveries one by one, with the output of each.
 unfoldable pub AreDeliveries : List (List ℕ) → Hosted → Hosted → Type 0
 AreDeliveries [] first now = now ≡ first
 AreDeliveries (bytes ∷ more) first now = (mid : Hosted) × IsDelivery first mid bytes × AreDeliveries more mid now
 
--- a packet was published, under a number that nothing else has; and else all is as it was
+-- `packet` was published, and nothing but the bus has changed.
 pub record IsOffered (packet : List ℕ) (old first : Hosted) : Type 0 where
   pub stock : first.stock ≡ old.stock
   pub seats : first.seats ≡ old.seats
@@ -42,11 +42,11 @@ pub record IsOffered (packet : List ℕ) (old first : Hosted) : Type 0 where
   pub outgoing : first.services.outgoing ≡ old.services.outgoing
   pub published : IsPublished packet old.services.bus first.services.bus
 
--- the host at this moment
+-- The host with this moment in its services.
 abbrev pub host_at : Moment → Hosted → Hosted
 host_at moment h = record h { services = at_moment moment h.services }
 
--- the packet is published, and as many deliveries are made as calls are counted; this is what the applications sent
+-- `packet` was published, and each counted call was one delivery; `theirs` is the output of all of them.
 pub record HasHeard (packet : List ℕ) (moment : Moment) (old new : Hosted) (theirs : List ℕ) : Type 0 where
   pub first : Hosted
   pub offered : IsOffered packet (host_at moment old) first

@@ -1,4 +1,4 @@
--- The host as contracts see it: its objects by what they mean, and its services.
+-- The host as its contracts see it: its applications by their states, and its services.
 use Rattle.std.specs.Prelude.{ℕ, Bool, List, [], map, slice_index_or, Option, None, option_map}
 use Rattle.lc_model.specs.Kept.Summary.{Other}
 use Rattle.lc_model.specs.Kept.Executive.{Member, Executive}
@@ -9,19 +9,20 @@ use Rattle.app_host.specs.declared.host.Host.{Host}
 pub use Rattle.app_host.specs.Object.{Object}
 use Rattle.app_host.specs.Shared.{shared}
 
--- no object
+-- A placeholder, used where a list has no object at a place.
 abbrev pub no_object : Object
 no_object = record { called = []; state = Other; seat = None }
 
--- the object of a seat, and a spare
+-- The object on seat number `seat`, or `None` if the seat is free.
 abbrev pub object_at : ℕ → List (Option Object) → Option Object
 object_at seat seats = slice_index_or seats seat None
 
+-- The spare at place `i` of the stock.
 abbrev pub spare_in : List Object → ℕ → Object
 spare_in stock i = slice_index_or stock i no_object
 
--- the host: the objects in stock and on the seats, the services, whether a write has failed, and the calls of `on_packet` for
--- the last record that it handled
+-- The host: its spares, its eight seats, its services, whether a failed write has closed it, and the number of `on_packet` calls
+-- for the last record.
 pub record Hosted : Type 0 where
   pub stock : List Object
   pub seats : List (Option Object)
@@ -29,14 +30,15 @@ pub record Hosted : Type 0 where
   pub is_closed : Bool
   pub calls : ℕ
 
--- what applications mean: of a list, and of a place that has one or none
+-- The meanings of a list of applications.
 abbrev pub objects_in : {B : Type 0} → (B → Object) → List B → List Object
 objects_in meaning = map meaning
 
+-- The meaning of the application on a seat, or `None` if the seat is free.
 abbrev pub object_in : {B : Type 0} → (B → Object) → Option B → Option Object
 object_in meaning = option_map meaning
 
--- a host by the meanings of its objects
+-- The host with each application replaced by its meaning.
 abbrev pub shown : {B : Type 0} → (B → Object) → Host B → Hosted
 shown meaning h = record {
   stock = objects_in meaning h.stock.items;
@@ -46,16 +48,16 @@ shown meaning h = record {
   calls = h.calls;
 }
 
--- ---- in numbers
+-- ---- as the host in numbers
 
--- an object without its seat
+-- The object's name and state, without its seat.
 abbrev pub member_of : Object → Member
 member_of o = record { called = o.called; state = o.state }
 
--- the objects and services of a host, in numbers
+-- The executive of the model for these spares, seats and services.
 abbrev pub executive_of : List Object → List (Option Object) → Services → Executive (List ℕ)
 executive_of stock seats s = record { stock = map member_of stock; seats = map (option_map member_of) seats; pipes = seen s.bus; services = shared s }
 
--- the host in numbers
+-- The model's host in numbers for this host.
 abbrev pub in_numbers : Hosted → model.Host (List ℕ)
 in_numbers h = record { executive = executive_of h.stock h.seats h.services; is_closed = h.is_closed; calls = h.calls }

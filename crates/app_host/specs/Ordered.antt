@@ -1,4 +1,4 @@
--- What an order to an application asks for and leaves.
+-- How an executive command is executed: what each part needs, and what it leaves.
 use Rattle.std.specs.Prelude.{◌≡◌, ◌⊎◌, ℕ, ◌*◌, ◌<◌, ◌≤◌, ⊤, true, false, List, [], length, take, ◌++◌, Option, Some, None, option_to_list, Result, Ok, Err, IfSome, IsSomeAnd, slice_set}
 use Rattle.std.specs.List.{concat}
 use Rattle.std.specs.Io.KnownBytes.{Appends}
@@ -31,47 +31,47 @@ use Rattle.app_host.specs.Roster.{Roster, roster_of, with_seat, with_spare, Come
 use Rattle.app_host.specs.Turn.{LeavesAs, seats_without, HasTaken, ComesAs}
 use Rattle.app_host.specs.Writing.{written_off, Handles}
 
--- ---- who takes a seat next
+-- ---- the object that takes a seat next
 
--- nobody, the spare at a place of the stock, or an object that gave the seat back
+-- None, the spare at `place`, or the object that has just given the seat back.
 pub data Next : Type 0 where
   Nobody : Next
   Spare : (place seat : ℕ) → Next
   Same : (o : Object) (seat : ℕ) → Next
 
--- by the meanings of its object
+-- The object that takes a seat next, by its meaning.
 abbrev pub next_of : {B : Type 0} → (B → Object) → Successor B → Next
 next_of meaning successor.Nobody = Nobody
 next_of meaning (successor.Spare place seat) = Spare place seat
 next_of meaning (successor.Same app seat) = Same (meaning app) seat
 
--- an object that holds no seat may begin on this one, which is free: no seat has its name
+-- Object `o` may be started on `seat`: the seat is free, the object holds no seat, and its name is not in use.
 pub record MayBegin (seat : ℕ) (h : Hosted) (o : Object) : Type 0 where
   pub free : object_at seat h.seats ≡ None
   pub spare : o.seat ≡ None
   pub unused : (k : ℕ) → IfSome (object_at k h.seats) (λ (there : Object). is_named o.called there.called ≡ false)
 
--- the next one may
+-- The next object may be started.
 abbrev pub MayFollow : Hosted → Next → Type 0
 MayFollow h Nobody = ⊤
 MayFollow h (Spare place seat) = (place < length h.stock) × MayBegin seat h (spare_in h.stock place)
 MayFollow h (Same o seat) = MayBegin seat h o
 
--- it is one of this profile
+-- The next object is of this profile.
 abbrev pub IsKnownNext : List Object → Next → Type 0
 IsKnownNext stock Nobody = ⊤
 IsKnownNext stock (Spare place seat) = IsKnown (spare_in stock place)
 IsKnownNext stock (Same o seat) = IsKnown o
 
--- what is then, in numbers
+-- The model's step that starts the next object.
 abbrev pub followed_by : Moment → Next → Executive (List ℕ) → Written (List ℕ)
 followed_by moment Nobody e = (e, [])
 followed_by moment (Spare place seat) e = begun_on on_board moment seat (spare_at e.stock place) (without_spare place e)
 followed_by moment (Same o seat) e = begun_on on_board moment seat (member_of o) e
 
--- ---- what stays
+-- ---- what each part keeps
 
--- no call and no write was counted, each object is at home, and where no packet waited none does
+-- No call and no write is counted, the seats stay consistent, and if no packet waited none does.
 pub record StaysWhole (old new : Hosted) : Type 0 where
   pub is_closed : new.is_closed ≡ old.is_closed
   pub calls : new.calls ≡ old.calls
@@ -80,29 +80,29 @@ pub record StaysWhole (old new : Hosted) : Type 0 where
   pub quiet : IsQuiet old → IsQuiet new
   pub fits : length new.services.outgoing ≤ outgoing_room
 
--- ---- who is where
+-- ---- the roster
 
--- the next one takes its seat
+-- The roster with the next object on its seat.
 abbrev pub seated_next : Next → Roster → Roster
 seated_next Nobody r = r
 seated_next (Spare place seat) r = with_spare place seat r
 seated_next (Same o seat) r = with_seat seat (Some o.called) r
 
--- as who comes
+-- The next object as a `Comer`.
 abbrev pub comer_of : Next → Comer
 comer_of Nobody = NobodyComes
 comer_of (Spare place seat) = FromStock place seat
 comer_of (Same o seat) = Again seat
 
--- the one that gave its seat back, and comes again
+-- The object that gave the seat back and takes it again, if it is the next one.
 abbrev pub gone_in : Next → Option Object
 gone_in Nobody = None
 gone_in (Spare place seat) = None
 gone_in (Same o seat) = Some o
 
--- ---- an object takes a seat, or gives it back
+-- ---- an object starts, or retires
 
--- the object began on the seat
+-- Object `o` was started on `seat`. If it is of this profile, the host is exactly what the model gives.
 pub record ObjectHasBegun (seat : ℕ) (o : Object) (old new : Hosted) : Type 0 where
   pub whole : StaysWhole old new
   pub stock : new.stock ≡ old.stock
@@ -111,7 +111,7 @@ pub record ObjectHasBegun (seat : ℕ) (o : Object) (old new : Hosted) : Type 0 
   pub exact : IsKnown o → Becomes new (begun_on on_board old.services.moment seat (member_of o) (executive_in old))
   pub taken : HasTaken seat old.services new.services o old.seats new.seats
 
--- the next one took its seat
+-- The next object was started on its seat.
 pub record HasFollowed (next : Next) (old new : Hosted) : Type 0 where
   pub whole : StaysWhole old new
   pub spares : AreSpares new.stock
@@ -120,7 +120,7 @@ pub record HasFollowed (next : Next) (old new : Hosted) : Type 0 where
   pub exact : IsKnownNext old.stock next → Becomes new (followed_by old.services.moment next (executive_in old))
   pub came : ComesAs (comer_of next) old.stock (gone_in next) old.services new.services old.seats new.seats
 
--- this object gave the seat back
+-- Object `o` was retired from `seat`, and holds no seat.
 pub record HasWithdrawn (seat : ℕ) (old new : Hosted) (o : Object) : Type 0 where
   pub whole : StaysWhole old new
   pub stock : new.stock ≡ old.stock
@@ -130,34 +130,34 @@ pub record HasWithdrawn (seat : ℕ) (old new : Hosted) (o : Object) : Type 0 wh
   pub retired : IsSomeAnd (object_at seat old.seats) (λ (there : Object). HasRetired seat old.services new.services there o)
   pub exact : IsKnown o → LeavesExactly seat old new
 
--- ---- an order
+-- ---- the command
 
--- what an order is to lead to, or why it is refused
+-- The model's step for the command, or its refusal.
 abbrev pub outcome_of : model.Order → Name → Hosted → Result (Written (List ℕ)) Refusal
 outcome_of order name h = ordered_now on_board h.services.moment order name (executive_in h)
 
--- what is to be done with an application
+-- The program's order as the model's.
 abbrev pub order_of : Order → model.Order
 order_of given.Start = model.Start
 order_of given.Stop = model.Stop
 order_of given.Restart = model.Restart
 order_of given.Reload = model.Reload
 
--- an order and the name in its payload
+-- The order, with the application's name from the payload.
 abbrev pub named_by : Order → List ℕ → Result (model.Order × Name) Refusal
 named_by order payload = model.order_named (order_of order) payload
 
--- the numbers of a refusal
+-- The refusal of an error.
 abbrev pub refusal_of : HostError → Refusal
 refusal_of error = option_to_list (error_code error)
 
--- who was there is gone, nothing waits to be written, and what the next one leaves is what is wanted
+-- The object that leaves was retired without output, and starting the next one gives the wanted step.
 pub record LeadsTo (wanted : Result (Written (List ℕ)) Refusal) (h : Hosted) (next : Next) : Type 0 where
   pub next_known : IsKnownNext h.stock next
   pub outgoing : h.services.outgoing ≡ []
   pub step : wanted ≡ Ok (followed_by h.services.moment next (executive_in h))
 
--- the seat is free for the next one
+-- The seat is free for the next object.
 pub record IsPrepared (party : Party) (wanted : Result (Written (List ℕ)) Refusal) (old new : Hosted) (next : Next) : Type 0 where
   pub whole : StaysWhole old new
   pub stock : new.stock ≡ old.stock
@@ -165,26 +165,26 @@ pub record IsPrepared (party : Party) (wanted : Result (Written (List ℕ)) Refu
   pub known : AreKnown old → AreKnown new
   pub exact : AreKnownIn party old → LeadsTo wanted new next
 
--- one of the two, by the result
+-- The seat is prepared, or the command is refused and nothing has changed.
 abbrev pub Prepares : {B : Type 0} → (B → Object) →
     Party → Result (Written (List ℕ)) Refusal → Hosted → Hosted → Result (Successor B) HostError → Type 0
 Prepares meaning party wanted old new (Ok next) = IsPrepared party wanted old new (next_of meaning next)
 Prepares meaning party wanted old new (Err error) = (wanted ≡ Err (refusal_of error)) × (new ≡ old)
 
--- what prepares an order, of a command that may be refused for its code or its length, too
+-- `IsPrepared`, or a refusal, which may also be for the code or length of the command (151, 152); then nothing has changed.
 abbrev pub PreparesFor : {B : Type 0} → (B → Object) →
     Party → Result (Written (List ℕ)) Refusal → Hosted → Hosted → Result (Successor B) Refusal → Type 0
 PreparesFor meaning party wanted old new (Ok next) = IsPrepared party wanted old new (next_of meaning next)
 PreparesFor meaning party wanted old new (Err numbers) = (wanted ≡ Err numbers) × (new ≡ old)
 
--- ---- who is where when an order is prepared, whatever the applications are
+-- ---- the roster while the command is executed, for any applications
 
--- where the next one comes again it is the one that has left
+-- If the next object is the one that has left, it is `gone`.
 abbrev pub IsAgain : Next → Option Object → Type 0
 IsAgain (Same o seat) gone = gone ≡ Some o
 IsAgain other _ = ⊤
 
--- who leaves has left, and its box is gone; the next one makes of it what is wanted
+-- The object that leaves was retired and its box is gone; with the next object the roster becomes the wanted one.
 pub record HasMadeWay (Gone : ℕ → Type 0) (wanted : Result Succession Refusal) (old new : Hosted) (next : Next) : Type 0 where
   pub succession : Succession
   pub is : wanted ≡ Ok succession
@@ -199,37 +199,37 @@ pub record HasMadeWay (Gone : ℕ → Type 0) (wanted : Result Succession Refusa
   pub stock : new.stock ≡ old.stock
   pub seats : new.seats ≡ seats_without succession.leaves old.seats
 
--- one of the two, by the result
+-- The way is made, or the command is refused and nothing has changed.
 abbrev pub MakesWay : {B : Type 0} → (B → Object) → (ℕ → Type 0) →
     Result Succession Refusal → Hosted → Hosted → Result (Successor B) HostError → Type 0
 MakesWay meaning Gone wanted old new (Ok next) = HasMadeWay Gone wanted old new (next_of meaning next)
 MakesWay meaning Gone wanted old new (Err error) = (wanted ≡ Err (refusal_of error)) × (new ≡ old)
 
--- what makes way for an order, of a command that may be refused for its code or its length, too
+-- `HasMadeWay`, or a refusal, which may also be for the code or length of the command (151, 152); then nothing has changed.
 abbrev pub MakesWayFor : {B : Type 0} → (B → Object) → (ℕ → Type 0) →
     Result Succession Refusal → Hosted → Hosted → Result (Successor B) Refusal → Type 0
 MakesWayFor meaning Gone wanted old new (Ok next) = HasMadeWay Gone wanted old new (next_of meaning next)
 MakesWayFor meaning Gone wanted old new (Err numbers) = (wanted ≡ Err numbers) × (new ≡ old)
 
--- ---- what is written
+-- ---- output
 
--- all that this step writes was written, and its size is this number
+-- All packets of the step were written; they have `sent` bytes.
 pub record IsWritten (step : Written (List ℕ)) (sent : ℕ) (new : Hosted) (before now : Option (List ℕ)) : Type 0 where
   pub executive : executive_in new ≡ step.0
   pub count : sent ≡ length (concat step.1)
   pub gains : Appends before now (concat step.1)
 
--- the first bytes only
+-- Only the first `sent` bytes of the step's packets were written.
 pub record IsBroken (step : Written (List ℕ)) (sent : ℕ) (new : Hosted) (before now : Option (List ℕ)) : Type 0 where
   pub executive : executive_in new ≡ step.0
   pub fewer : sent < length (concat step.1)
   pub gains : Appends before now (take sent (concat step.1))
 
--- who left nothing to write, and one of this profile comes next
+-- `P`, if the next object is of this profile and no output waits.
 abbrev pub IfExact : Hosted → Next → Type 0 → Type 0
 IfExact h next P = IsKnownNext h.stock next → h.services.outgoing ≡ [] → P
 
--- the next one took its seat, and all that waited is written
+-- The next object was started, and all waiting output was written.
 pub record HasComeIn (next : Next) (sent : ℕ) (old new : Hosted) (before now : Sink) : Type 0 where
   pub whole : StaysWhole old new
   pub spares : AreSpares new.stock
@@ -239,7 +239,7 @@ pub record HasComeIn (next : Next) (sent : ℕ) (old new : Hosted) (before now :
   pub known : AreKnown old → IsKnownNext old.stock next → AreKnown new
   pub exact : IfExact old next (IsWritten (followed_by old.services.moment next (executive_in old)) sent new before.gained now.gained)
 
--- a write failed, and the host is closed
+-- A write failed, and the host is closed.
 pub record HasFailed (next : Next) (sent : ℕ) (old new : Hosted) (before now : Sink) : Type 0 where
   pub whole : IsWhole new
   pub is_closed : new.is_closed ≡ true
@@ -248,25 +248,25 @@ pub record HasFailed (next : Next) (sent : ℕ) (old new : Hosted) (before now :
   pub known : AreKnown old → IsKnownNext old.stock next → AreKnown new
   pub exact : IfExact old next (IsBroken (followed_by old.services.moment next (executive_in old)) sent new before.gained now.gained)
 
--- one of the two, by the result
+-- `HasComeIn` if no write failed, else `HasFailed`.
 abbrev pub ComesIn : Next → Hosted → Hosted → Sink → Sink → Result ℕ WriteFault → Type 0
 ComesIn next old new before now (Ok sent) = HasComeIn next sent old new before now
 ComesIn next old new before now (Err fault) = HasFailed next fault.sent old new before now
 
--- the next one came after what waited, and these are the bytes of both
+-- The next object was started after the waiting output was taken; `theirs` are the bytes of both.
 pub record HasCome (next : Next) (old new : Hosted) (theirs : List ℕ) : Type 0 where
   pub later : Services
   pub came : ComesAs (comer_of next) old.stock (gone_in next) (written_off old.services) later old.seats new.seats
   pub sent : theirs ≡ old.services.outgoing ++ later.outgoing
   pub services : new.services ≡ written_off later
 
--- nobody came, and this is what waited
+-- No object was started; `theirs` is the waiting output.
 pub record HasStayed (old new : Hosted) (theirs : List ℕ) : Type 0 where
   pub seats : new.seats ≡ old.seats
   pub sent : theirs ≡ old.services.outgoing
   pub services : new.services ≡ written_off old.services
 
--- all that waited is written, this many bytes, and the next one has its seat
+-- All waiting output was written, `sent` bytes, and the next object is on its seat.
 pub record HasEntered (next : Next) (sent : ℕ) (old new : Hosted) (before now : Option (List ℕ)) : Type 0 where
   pub theirs : List ℕ
   pub count : sent ≡ length theirs
@@ -274,7 +274,7 @@ pub record HasEntered (next : Next) (sent : ℕ) (old new : Hosted) (before now 
   pub own : ComesTo (seated_next next (roster_of old)) old new
   pub come : HasCome next old new theirs
 
--- the first bytes only, and the next one has its seat, or nobody has it
+-- Only the first `sent` bytes were written; the next object is on its seat, or was not started.
 pub record HasNotEntered (next : Next) (sent : ℕ) (old new : Hosted) (before now : Option (List ℕ)) : Type 0 where
   pub theirs : List ℕ
   pub small : length theirs ≤ 2 * outgoing_room
@@ -283,12 +283,12 @@ pub record HasNotEntered (next : Next) (sent : ℕ) (old new : Hosted) (before n
   pub own : ComesTo (seated_next next (roster_of old)) old new ⊎ ComesTo (roster_of old) old new
   pub come : HasCome next old new theirs ⊎ HasStayed old new theirs
 
--- one of the two, by the result
+-- `HasEntered` if no write failed, else `HasNotEntered`.
 abbrev pub Enters : Next → Hosted → Hosted → Option (List ℕ) → Option (List ℕ) → Result ℕ WriteFault → Type 0
 Enters next old new before now (Ok sent) = HasEntered next sent old new before now
 Enters next old new before now (Err fault) = HasNotEntered next fault.sent old new before now
 
--- a command to the executive services is obeyed or refused, and what the application and HOST ask for is written
+-- A packet 0x1806 is executed or refused, and the output of the applications and of `HOST` is written.
 abbrev pub ObeysOrders : List ℕ → Hosted → Hosted → Sink → Sink → Result ℕ WriteFault → Type 0
 ObeysOrders packet old new before now result =
     let e : Executive (List ℕ) = executive_in old in

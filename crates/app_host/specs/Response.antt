@@ -1,5 +1,5 @@
--- What HOST itself does for a record, whatever its applications are: the event that it sends, with its bytes, what it makes of
--- files and of its own filters, and who is on the seats. Its event comes after all that the called applications sent.
+-- What `HOST` itself does with a record, with applications of any kind: the event that it sends, stored files, event and table
+-- services, and the seats. `HOST`'s event comes after all output of the called applications.
 use Rattle.std.specs.Prelude.{◌≡◌, ℕ, ◌+◌, ◌*◌, ◌<◌, ◌≤◌, ◌⊎◌, nat_lt, Bool, true, false, List, [], ◌++◌, length, take, if◌then◌else◌, Option, Some, None, IfSome, option_to_list, Result, Ok, Err}
 use Rattle.std.specs.Option.{option_map_or}
 use Rattle.std.specs.List.{concat}
@@ -25,12 +25,12 @@ use Rattle.app_host.specs.ObeyedTables.{tables_by}
 use Rattle.app_host.specs.Roster.{Roster, roster_of, Succession, succession_by}
 use Rattle.app_host.specs.Turn.{Turn, without_comer, HasTurned}
 
--- ---- what a record asks of HOST
+-- ---- the response to a record
 
--- HOST's event, if it sends any; whether packets are given to applications, and which packet is published for that; the seat
--- that an object leaves, if any, and how many objects retire and start at most; who leaves and who comes, where an order is
--- obeyed; who is where after one has left, and after one has come; and the event and table services after HOST's work and
--- before its event
+-- The response to a record. `request`: `HOST`'s event. `delivers`: whether packets are delivered; `passes`: the packet that is
+-- published first. `leaves`: the seat whose object is retired; `changes`: the most calls of `retire` and `start`. `turn`: the
+-- seat that is left, and the object that comes. `left`, `come`: the roster after the retirement, and after the start. `events`,
+-- `tables`: these services before `HOST`'s event.
 pub record Response : Type 0 where
   pub request : Option Request
   pub delivers : Bool
@@ -43,7 +43,7 @@ pub record Response : Type 0 where
   pub events : EventService
   pub tables : TableService
 
--- what is handed to the applications, where HOST sends no event
+-- Packets are delivered, and `HOST` does nothing else.
 abbrev pub handing_on : Hosted → Response
 handing_on h = record {
   request = None;
@@ -58,36 +58,36 @@ handing_on h = record {
   tables = h.services.tables;
 }
 
--- a packet or a tick is published and handed to the applications, and HOST sends no event
+-- `packet` is published and delivered, and `HOST` sends no event.
 abbrev pub passing_on : List ℕ → Hosted → Response
 passing_on packet h = record (handing_on h) { passes = Some packet }
 
--- HOST sends this event, and that is all
+-- `HOST` sends this event and does nothing else.
 abbrev pub only_telling : Request → Hosted → Response
 only_telling request h = record (handing_on h) { request = Some request; delivers = false }
 
--- a file is stored, or refused
+-- A file is stored (event 2) or refused (event 3).
 abbrev pub filing : Hosted → Result TableService Refusal → Response
 filing h (Ok tables) = record (only_telling file_stored h) { tables = tables }
 filing h (Err refusal) = only_telling (file_refused refusal) h
 
--- a command to the event services
+-- A command 0x1801: done (event 6) or refused (event 7).
 abbrev pub obeying_events : List ℕ → Hosted → Result EventService Refusal → Response
 obeying_events packet h (Ok events) = record (only_telling (command_done event_services (function_code packet)) h) { events = events }
 obeying_events packet h (Err refusal) = only_telling (command_refused event_services refusal) h
 
--- a command to the table services
+-- A command 0x1804: done (event 4) or refused (event 5).
 abbrev pub obeying_tables : List ℕ → Hosted → Result TableService Refusal → Response
 obeying_tables packet h (Ok tables) = record (only_telling (command_done table_services (function_code packet)) h) { tables = tables }
 obeying_tables packet h (Err refusal) = only_telling (command_refused table_services refusal) h
 
--- a command to the executive services: one object at most retires, and one at most starts
+-- A command 0x1806: done (event 8), with at most one object retired and one started; or refused (event 9).
 abbrev pub obeying_orders : List ℕ → Hosted → Result Succession Refusal → Response
 obeying_orders packet h (Ok succession) =
     record (only_telling (command_done executive_services (function_code packet)) h) { leaves = succession.leaves; changes = 2; turn = Some (record { leaves = succession.leaves; comes = succession.comes }); left = succession.left; come = succession.come }
 obeying_orders packet h (Err refusal) = only_telling (command_refused executive_services refusal) h
 
--- a good packet goes to a service of the host, or to the applications
+-- A packet without a fault: a command to a service, or a packet for the applications.
 abbrev pub routed_to : List ℕ → Hosted → Response
 routed_to packet h =
     by_service (message_id packet)
@@ -96,19 +96,19 @@ routed_to packet h =
     (obeying_orders packet h (succession_by packet (roster_of h)))
     (passing_on packet h)
 
--- any packet
+-- The response to a packet; a bad one gives event 1.
 abbrev pub response_to_packet : List ℕ → Hosted → Response
 response_to_packet packet h = option_map_or (λ reason. only_telling (bad_packet reason) h) (stream_fault packet) (routed_to packet h)
 
--- any record
+-- The response to a record.
 abbrev pub response_to : Body → Hosted → Response
 response_to (body.Packet bytes) h = response_to_packet bytes.now h
 response_to body.Tick h = passing_on tick_packet h
 response_to (body.File name bytes) h = filing h (file_put name.now bytes.now h.services.tables)
 
--- ---- HOST's packet
+-- ---- the bytes of `HOST`'s event
 
--- HOST asks for its event: the event services afterwards, and the bytes of its packet, where its types and filters let it through
+-- The event services after `HOST`'s request, and the bytes of its event packet; no bytes if types or filters hold it back.
 abbrev pub asked_by_host : Moment → Option Request → EventService → EventService × List ℕ
 asked_by_host moment None service = (service, [])
 asked_by_host moment (Some (Event sender id kind text)) service =
@@ -117,10 +117,9 @@ asked_by_host moment (Some (Event sender id kind text)) service =
 asked_by_host moment (Some (Sequence number)) service = (service, [])
 asked_by_host moment (Some (Housekeeping mode points)) service = (service, [])
 
--- ---- what is sent
+-- ---- output
 
--- no application was called: the services are as HOST's own work left them, the bus and the sequence counts as they were, and no
--- object on a seat has changed
+-- If no application was called, only `HOST`'s own work has changed the services: bus, sequence counts and seats stay.
 pub record IsAlone (response : Response) (old new : Hosted) (theirs : List ℕ) (behind : EventService) : Type 0 where
   pub nothing : theirs ≡ []
   pub events : behind ≡ response.events
@@ -129,8 +128,8 @@ pub record IsAlone (response : Response) (old new : Hosted) (theirs : List ℕ) 
   pub counts : new.services.counts ≡ old.services.counts
   pub seats : new.seats ≡ old.seats
 
--- what the called applications have sent, 65,536 bytes a call at most, and the event services after that: HOST's own types and
--- filters are not theirs to change. Who leaves a seat has been retired.
+-- The called applications, if any, sent the bytes `theirs`, at most 65,536 a call, and left the event services `behind`. They
+-- did not change `HOST`'s own types and filters, and the object that leaves a seat was retired.
 pub record HasCalled (moment : Moment) (response : Response) (old new : Hosted) : Type 0 where
   pub theirs : List ℕ
   pub behind : EventService
@@ -141,7 +140,7 @@ pub record HasCalled (moment : Moment) (response : Response) (old new : Hosted) 
   pub heard : IfSome response.passes (λ packet. HasHeard packet moment old new theirs)
   pub gone : IfSome response.leaves (λ seat. HasGone seat old.seats (at_moment moment old.services))
 
--- all is written, HOST's packet after theirs
+-- No write failed: the output is `theirs`, then `HOST`'s event packet.
 pub record RespondsWhole (moment : Moment) (response : Response) (old new : Hosted) (before now : Option (List ℕ)) : Type 0 where
   pub called : HasCalled moment response old new
   pub gains : Appends before now (called.theirs ++ (asked_by_host moment response.request called.behind).1)
@@ -150,8 +149,8 @@ pub record RespondsWhole (moment : Moment) (response : Response) (old new : Host
   pub roster : roster_of new ≡ response.come
   pub turned : IfSome response.turn (λ turn. HasTurned turn moment old new called.theirs called.behind)
 
--- a write failed, and the first `sent` bytes were taken. If these end inside what the applications sent, HOST has not asked
--- for its event, and it may be that nobody has come.
+-- A write failed after `sent` bytes. If these end inside `theirs`, `HOST` has not requested its event, and the object that was to
+-- start may not have started.
 pub record RespondsPart (moment : Moment) (response : Response) (sent : ℕ) (old new : Hosted) (before now : Option (List ℕ)) : Type 0 where
   pub called : HasCalled moment response old new
   pub fewer : sent < length (called.theirs ++ (asked_by_host moment response.request called.behind).1)
@@ -161,17 +160,17 @@ pub record RespondsPart (moment : Moment) (response : Response) (sent : ℕ) (ol
   pub roster : (roster_of new ≡ response.come) ⊎ ((roster_of new ≡ response.left) × (sent < length called.theirs))
   pub turned : IfSome response.turn (λ turn. HasTurned turn moment old new called.theirs called.behind ⊎ (HasTurned (without_comer turn) moment old new called.theirs called.behind × (sent < length called.theirs)))
 
--- all is written, this many bytes
+-- No write failed, and `total` is the number of bytes written.
 pub record RespondsWithCount (moment : Moment) (response : Response) (total : ℕ) (old new : Hosted) (before now : Option (List ℕ)) : Type 0 where
   pub responds : RespondsWhole moment response old new before now
   pub count : total ≡ length (responds.called.theirs ++ (asked_by_host moment response.request responds.called.behind).1)
 
--- one of the two, by the result
+-- `RespondsWhole` if no write failed, else `RespondsPart`.
 abbrev pub Responds : {A : Type 0} → Moment → Response → Hosted → Hosted → Option (List ℕ) → Option (List ℕ) → Result A WriteFault → Type 0
 Responds moment response old new before now (Ok done) = RespondsWhole moment response old new before now
 Responds moment response old new before now (Err fault) = RespondsPart moment response fault.sent old new before now
 
--- and by a result with the number of bytes, theirs and HOST's
+-- `RespondsWithCount` if no write failed, else `RespondsPart`.
 abbrev pub RespondsCounted : Moment → Response → Hosted → Hosted → Option (List ℕ) → Option (List ℕ) → Result ℕ WriteFault → Type 0
 RespondsCounted moment response old new before now (Ok total) = RespondsWithCount moment response total old new before now
 RespondsCounted moment response old new before now (Err fault) = RespondsPart moment response fault.sent old new before now

@@ -1,5 +1,5 @@
--- Who is in stock and who is on the seats, whatever the applications are, and what an order makes of it. Orders are those of the
--- cFE user's guide (executive services); seats, and the numbers of the refusals, are this project's own.
+-- The roster: which objects are in stock and which names are on the seats, and how executive commands change it. The commands
+-- follow the cFE user's guide (executive services); seats and refusal numbers are this project's own.
 use Rattle.std.specs.Prelude.{◌≡◌, ℕ, Bool, false, List, map, remove, if◌then◌else◌, Option, Some, None, is_some, is_none, option_map, slice_set, Result, Ok}
 use Rattle.std.specs.List.{position_from}
 use Rattle.lc_model.specs.Name.{Name, is_named}
@@ -7,67 +7,70 @@ use Rattle.lc_model.specs.Refusal.{Refusal, ◌>>=◌, refused, found, not_runni
 use Rattle.lc_model.specs.Command.{Order, Start, Stop, Restart, Reload, order_in}
 use Rattle.app_host.specs.Hosted.{Object, Hosted, spare_in}
 
--- the spares in order, and the names on the eight seats
+-- The spares in stock order, and the name on each of the eight seats.
 pub record Roster : Type 0 where
   pub stock : List Object
   pub seats : List (Option Name)
 
--- the name of an object
+-- The object's name.
 abbrev pub name_of : Object → Name
 name_of o = o.called
 
--- those of a host
+-- The roster of a host.
 abbrev pub roster_of : Hosted → Roster
 roster_of h = record { stock = h.stock; seats = map (option_map name_of) h.seats }
 
--- HOST's own types and filters and the stored files stay, and these are there now
+-- The host has the roster `wanted`; `HOST`'s types and filters and the stored files are unchanged.
 pub record ComesTo (wanted : Roster) (old new : Hosted) : Type 0 where
   pub host : new.services.events.host ≡ old.services.events.host
   pub files : new.services.tables.files ≡ old.services.tables.files
   pub roster : roster_of new ≡ wanted
 
--- ---- who is where
+-- ---- seats and spares
 
--- a seat has this name
+-- Whether the seat has an object of this name.
 abbrev pub has_name : Name → Option Name → Bool
 has_name name None = false
 has_name name (Some there) = is_named name there
 
--- the seat of a name, the first spare of a name, and the least free seat
+-- The seat of the object with this name.
 abbrev pub seat_in : Name → Roster → Option ℕ
 seat_in name r = position_from (has_name name) 0 r.seats
 
+-- The place in stock of the first spare of this name.
 abbrev pub first_spare_in : Name → Roster → Option ℕ
 first_spare_in name r = position_from (λ (o : Object). is_named name o.called) 0 r.stock
 
+-- The least free seat.
 abbrev pub free_in : Roster → Option ℕ
 free_in r = position_from is_none 0 r.seats
 
--- ---- who comes and goes
+-- ---- changes
 
--- a seat has this name, or is free
+-- The roster with this seat free, or with this name on it.
 abbrev pub with_seat : ℕ → Option Name → Roster → Roster
 with_seat seat name r = record r { seats = slice_set r.seats seat name }
 
--- a spare takes a seat
+-- The spare at `place` leaves the stock and takes the seat.
 abbrev pub with_spare : ℕ → ℕ → Roster → Roster
 with_spare place seat r = record { stock = remove r.stock place; seats = slice_set r.seats seat (Some (spare_in r.stock place).called) }
 
--- who comes to a seat: nobody, the spare at a place of the stock, or the one that has left the seat
+-- What comes to a seat: nothing, the spare at `place`, or the object that has just left it.
 pub data Comer : Type 0 where
   NobodyComes : Comer
   FromStock : (place seat : ℕ) → Comer
   Again : (seat : ℕ) → Comer
 
--- the seat that is left, if any; who comes; and who is where when the one that leaves has left, and when the one that comes has come
+-- A change of the roster: the seat whose object leaves, if any; what comes; and the roster after the leaving and after the
+-- coming.
 pub record Succession : Type 0 where
   pub leaves : Option ℕ
   pub comes : Comer
   pub left : Roster
   pub come : Roster
 
--- what an order makes of it, or the number of its refusal. A start is of the first spare of the name, on the least free seat; a
--- restart of the object that runs, and a reload of the first spare of the name, on the seat that it had.
+-- The change for an executive command, or its refusal. Start takes the first spare of the name to the least free seat. Restart
+-- starts the same object again on its seat, reload the first spare of the name.
 abbrev pub ordered_by : Order → Name → Roster → Result Succession Refusal
 ordered_by Start name r =
     if is_some (seat_in name r) then refused already_running
@@ -86,7 +89,7 @@ ordered_by Reload name r = do
   place ← found (first_spare_in name r) no_spare
   Ok (record { leaves = Some seat; comes = FromStock place seat; left = with_seat seat None r; come = with_spare place seat r })
 
--- what a command makes of it, which may be no order
+-- The change for a packet 0x1806, or its refusal.
 abbrev pub succession_by : List ℕ → Roster → Result Succession Refusal
 succession_by packet r = do
   command ← order_in packet

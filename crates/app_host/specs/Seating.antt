@@ -1,4 +1,4 @@
--- What there is when an application took a seat, and when it gave it back.
+-- The services after an application has opened its seat, and after it has closed it.
 use Rattle.std.specs.Prelude.{◌≡◌, ℕ, ◌<◌, List, [], length, Some, None, slice_set, IfSome, IsTrue, is_some}
 use Rattle.lc_model.specs.Name.{Name}
 use Rattle.lc_model.specs.Kept.Call.{new_sender, registered, with_at}
@@ -9,7 +9,7 @@ use Rattle.lc_model.specs.Services.Interface.{Held}
 use Rattle.app_host.specs.declared.services.Services.{Services}
 use Rattle.app_host.specs.Shared.{shared}
 
--- the seat has a pipe with these subscriptions and a sender of this name; nothing else changed
+-- The seat has an empty pipe with these subscriptions and a new event sender of this name; nothing else changed.
 pub record IsOpened (seat : ℕ) (name : Name) (mids : List ℕ) (before after : Services) : Type 0 where
   pub bus : after.bus ≡ with_pipe seat before.bus (record { subscriptions = mids; waiting = [] })
   pub events : after.events ≡ record before.events { places = slice_set before.events.places seat (Some (record { name = name; events = new_sender })) }
@@ -20,12 +20,12 @@ pub record IsOpened (seat : ℕ) (name : Name) (mids : List ℕ) (before after :
   pub on_the_bus : seat < length before.bus
   pub among_senders : seat < length before.events.places
 
--- a seat has a pipe and a sender
+-- The seat has a pipe and an event sender.
 pub record HasPipeAndSender (seat : ℕ) (held : Held) : Type 0 where
   pub pipe : IsTrue (is_some (pipe_at seat held.bus))
   pub sender : IsTrue (is_some (sender_at (Some seat) held.events))
 
--- the seat has no pipe, no sender and no table; nothing else changed
+-- The seat has no pipe, event sender or table; nothing else changed.
 pub record IsClosed (seat : ℕ) (before after : Services) : Type 0 where
   pub bus : after.bus ≡ slice_set before.bus seat None
   pub events : after.events ≡ record before.events { places = slice_set before.events.places seat None }

@@ -1,4 +1,4 @@
--- What contracts see of the services that applications share.
+-- The services as contracts see them.
 use Rattle.std.specs.Prelude.{ℕ, List}
 use Rattle.lc_model.specs.declared.record.Moment.{Moment}
 use Rattle.lc_model.specs.Tables.Interpretation.{Interpretation}
@@ -9,18 +9,18 @@ use Rattle.lc_model.specs.Services.Interface.{Held}
 use Rattle.lc_model.specs.Services.Seen.{services_seen}
 use Rattle.app_host.specs.declared.services.Services.{Services}
 
--- on board, images are bytes
+-- The host's reading of images: by their bytes.
 unfoldable pub on_board : Interpretation (List ℕ)
 on_board = as_bytes layouts
 
--- what the services hold, by seats
+-- The services by seats.
 abbrev pub held_by : Services → Held
 held_by s = record { bus = s.bus; events = s.events; tables = s.tables; moment = s.moment; outgoing = s.outgoing }
 
--- and what applications see of it, under names
+-- The services by names, as the model has them.
 unfoldable pub shared : Services → ServicesNow (List ℕ)
 shared s = services_seen s.events s.tables s.counts
 
--- the services at another moment
+-- The services with another moment.
 abbrev pub at_moment : Moment → Services → Services
 at_moment moment s = record s { moment = moment }

@@ -1,4 +1,4 @@
--- What one record leads to.
+-- One step of the host: what it does with one record.
 use Rattle.std.specs.Prelude.{◌≡◌, ℕ, ◌≤◌, ⊤, true, false, List, ◌∷◌, length, take, All, Contains, Option, Some, None, Result, Ok, Err}
 use Rattle.std.specs.Option.{option_map_or}
 use Rattle.std.specs.List.{concat}
@@ -24,33 +24,33 @@ use Rattle.app_host.specs.Writing.{Handles}
 
 -- ---- a record
 
--- what it brings, as the host in numbers takes it: on board a file means its bytes
+-- The record as an input of the model; a file means its bytes.
 abbrev pub input_by : Body → Input (List ℕ)
 input_by (body.Packet bytes) = Packet bytes.now
 input_by body.Tick = Tick
 input_by (body.File name bytes) = File name.now (length bytes.now) (meaning_of bytes.now)
 
--- a file's name is no longer than the field that a stream has for it
+-- A file's name has at most 40 bytes.
 abbrev pub IsNamed : Body → Type 0
 IsNamed (body.Packet bytes) = ⊤
 IsNamed body.Tick = ⊤
 IsNamed (body.File name bytes) = length name.now ≤ name_size
 
--- who may take part in a good packet: no application in a command to the event services, those that have tables in one to the table
--- services, which go by names, those of an order, and else those that hear it
+-- The applications that may take part in a packet without a fault: none for event services; those with tables for table services;
+-- the named one for executive services; else those subscribed to the packet.
 abbrev pub routed_party : List ℕ → Party
 routed_party packet =
     by_service (message_id packet) nobody Holders (party_by (order_in packet)) (passing packet)
 
--- in any record
+-- The applications that may take part in a record.
 abbrev pub party_of : Input (List ℕ) → Party
 party_of (Packet bytes) = option_map_or (λ reason. nobody) (stream_fault bytes) (routed_party bytes)
 party_of Tick = Hearers (tick_mid ∷ scheduled_mids)
 party_of (File name size meaning) = nobody
 
--- ---- inside a step
+-- ---- parts of a step
 
--- the step has begun: it has its moment, and no call was made
+-- The step has begun: the services have the record's moment, and no call has been made.
 pub record StepHasBegun (moment : Moment) (old new : Hosted) : Type 0 where
   pub whole : IsWhole new
   pub stock : new.stock ≡ old.stock
@@ -59,42 +59,44 @@ pub record StepHasBegun (moment : Moment) (old new : Hosted) : Type 0 where
   pub is_closed : new.is_closed ≡ old.is_closed
   pub calls : new.calls ≡ 0
 
--- what a record brings is handled, at the moment of the services
+-- The input is handled at the services' moment, with the result `result`.
 abbrev pub HandlesInput : Input (List ℕ) → Hosted → Hosted → Sink → Sink → Result ℕ WriteFault → Type 0
 HandlesInput input old new before now result =
     let e : Executive (List ℕ) = executive_in old in
     let stations : List (Station (List ℕ)) = stations_of on_board old.services.moment e input in
     Handles (party_of input) stations (step_by on_board old.services.moment e input) (last_calls on_board old.services.moment stations) old new before now result
 
--- ---- a whole step
+-- ---- the whole step
 
--- a host between two steps: if no write has failed, no packet waits
+-- The host between two steps: it is whole, and unless it is closed no packet waits.
 pub record IsBetween (h : Hosted) : Type 0 where
   pub whole : IsWhole h
   pub quiet : h.is_closed ≡ false → IsQuiet h
 
--- a closed host takes no record: nothing changes, and nothing is written
+-- A closed host handles no record: it returns `WriteFault` with `sent: 0`, changes nothing and writes nothing.
 pub record IsTurnedAway (old new : Hosted) (before now : Sink) (result : Result (Unit {0}) WriteFault) : Type 0 where
   pub answer : result ≡ Err (record { sent = 0 })
   pub host : new ≡ old
   pub sink : now ≡ before
 
--- the packets that this record calls for, as bytes
+-- The bytes of the packets that this record calls for, by the model.
 abbrev pub called_for : Moment → Input (List ℕ) → Hosted → List ℕ
 called_for moment input h = let step : Written (List ℕ) = step_by on_board moment (executive_in h) input in concat step.1
 
--- where all that may take part are of this profile: the host in numbers, and all that it writes
+-- No write failed, and all that may take part are of this profile: the new host is the model's, and its whole output was written.
 pub record StepsSo (moment : Moment) (input : Input (List ℕ)) (old new : Hosted) (before now : Option (List ℕ)) : Type 0 where
   pub host : in_numbers new ≡ host_after on_board moment (in_numbers old) input
   pub gains : Appends before now (called_for moment input old)
   pub room : (room : ℕ) → length (called_for moment input old) ≤ room → host_step on_board moment room (in_numbers old) input ≡ (in_numbers new, None)
 
--- and where a write failed: the host in numbers, and the bytes up to that write
+-- A write failed after `sent` bytes, and all that may take part are of this profile: the host is the model's at that write, and
+-- the first `sent` bytes were written.
 pub record StopsSo (moment : Moment) (input : Input (List ℕ)) (sent : ℕ) (old new : Hosted) (before now : Option (List ℕ)) : Type 0 where
   pub host : host_step on_board moment sent (in_numbers old) input ≡ (in_numbers new, Some sent)
   pub gains : Appends before now (take sent (called_for moment input old))
 
--- all is written, the host is open, and no spare is new. The exact part holds if those who may take part are of this profile.
+-- No write failed: the host is open, each spare was a spare before, and at most 520 calls were made. The new host and the output
+-- are exact if all that may take part are of this profile.
 pub record StepsWhole (moment : Moment) (input : Input (List ℕ)) (old new : Hosted) (before now : Sink) : Type 0 where
   pub is_open : new.is_closed ≡ false
   pub stock : All (Contains old.stock) new.stock
@@ -103,7 +105,8 @@ pub record StepsWhole (moment : Moment) (input : Input (List ℕ)) (old new : Ho
   pub known : AreKnown old → AreKnownIn (party_of input) old → AreKnown new
   pub exact : AreKnownIn (party_of input) old → StepsSo moment input old new before.gained now.gained
 
--- a write failed, and the host is closed
+-- A write failed after `sent` bytes: the host is closed, each spare was a spare before, and at most 520 calls were made. The
+-- host and the output are exact if all that may take part are of this profile.
 pub record StepsPart (moment : Moment) (input : Input (List ℕ)) (sent : ℕ) (old new : Hosted) (before now : Sink) : Type 0 where
   pub is_closed : new.is_closed ≡ true
   pub stock : All (Contains old.stock) new.stock
@@ -112,17 +115,17 @@ pub record StepsPart (moment : Moment) (input : Input (List ℕ)) (sent : ℕ) (
   pub known : AreKnown old → AreKnownIn (party_of input) old → AreKnown new
   pub exact : AreKnownIn (party_of input) old → StopsSo moment input sent old new before.gained now.gained
 
--- a result without the number of bytes
+-- The result without the number of bytes.
 abbrev pub without_count : Result ℕ WriteFault → Result (Unit {0}) WriteFault
 without_count (Ok total) = Ok tt
 without_count (Err fault) = Err fault
 
--- then this number of bytes is that of the bytes that the record calls for
+-- If all that may take part are of this profile, `total` is the number of bytes that the record calls for.
 abbrev pub Counts : Moment → Input (List ℕ) → Hosted → Result ℕ WriteFault → Type 0
 Counts moment input old (Ok total) = AreKnownIn (party_of input) old → total ≡ length (called_for moment input old)
 Counts moment input old (Err fault) = ⊤
 
--- one of the two, by the result
+-- `StepsWhole` if no write failed, else `StepsPart`.
 abbrev pub Steps : Moment → Input (List ℕ) → Hosted → Hosted → Sink → Sink → Result (Unit {0}) WriteFault → Type 0
 Steps moment input old new before now (Ok done) = StepsWhole moment input old new before now
 Steps moment input old new before now (Err fault) = StepsPart moment input fault.sent old new before now

@@ -1,4 +1,4 @@
--- What it leaves to send a sender's requests.
+-- The effect of sending a sender's requests.
 use Rattle.std.specs.Prelude.{◌≡◌, ◌≢◌, List, ◌++◌, option_map}
 use Rattle.std.specs.List.{concat}
 use Rattle.lc_model.specs.Name.{Name}
@@ -8,11 +8,11 @@ use Rattle.lc_model.specs.Services.Events.{Origin, Sender, sender_at}
 use Rattle.app_host.specs.declared.services.Services.{Services}
 use Rattle.app_host.specs.Shared.{shared}
 
--- the name of a place's sender
+-- The sender's name.
 abbrev pub name_of : Sender → Name
 name_of sender = sender.name
 
--- what this sender asks for is sent, as the host in numbers sends it; nothing else changes
+-- The requests of this sender are sent as in the host in numbers; nothing else changes.
 pub record Tells (origin : Origin) (name : Name) (requests : List Request) (before after : Services) : Type 0 where
   pub services : shared after ≡ (sent_by before.moment name requests (shared before)).0
   pub outgoing : after.outgoing ≡ before.outgoing ++ concat (sent_by before.moment name requests (shared before)).1

@@ -1,9 +1,9 @@
--- What texts are made of.
+-- The parts of event texts.
 use Rattle.lc_model.specs.Events.Request.{Service as Kept, table_services, event_services, executive_services}
 use Rattle.app_host.specs.declared.texts.Service.{Service}
 use Rattle.app_host.specs.declared.texts.Service.TheVariants.{Tables, Events, Applications}
 
--- the service's title and its events
+-- The service with its title and event ids.
 abbrev pub service_titled : Service → Kept
 service_titled Tables = table_services
 service_titled Events = event_services

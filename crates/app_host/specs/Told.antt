@@ -1,4 +1,4 @@
--- What an event of HOST leaves.
+-- The effect of `HOST`'s own events.
 use Rattle.std.specs.Prelude.{◌≡◌, ℕ, ◌≤◌, List, [], ◌∷◌, length, Some, Result}
 use Rattle.std.specs.List.{concat}
 use Rattle.lc_model.specs.Device.{Sink}
@@ -19,11 +19,11 @@ use Rattle.app_host.specs.Delivered.{executive_in}
 use Rattle.app_host.specs.Writing.{Handles}
 use Rattle.app_host.specs.Response.{asked_by_host}
 
--- HOST's request, as the host in numbers sends it
+-- The model's step that sends `HOST`'s request.
 abbrev pub telling : Request → Hosted → Written (List ℕ)
 telling request h = told_by_host h.services.moment (request ∷ []) (executive_in h)
 
--- the event that was asked for waits to be written, if it is sent; nothing else changed
+-- The event, if it is sent, waits to be written; nothing else changed.
 pub record HasTold (request : Request) (old new : Hosted) : Type 0 where
   pub stock : new.stock ≡ old.stock
   pub seats : new.seats ≡ old.seats
@@ -40,25 +40,25 @@ pub record HasTold (request : Request) (old new : Hosted) : Type 0 where
   pub events : new.services.events ≡ (asked_by_host old.services.moment (Some request) old.services.events).0
   pub sends : new.services.outgoing ≡ (asked_by_host old.services.moment (Some request) old.services.events).1
 
--- the event is written, and that is all
+-- The event is written, and nothing else happens.
 abbrev pub TellsAlone : Request → Hosted → Hosted → Sink → Sink → Result ℕ WriteFault → Type 0
 TellsAlone request old new before now result = Handles nobody (written_once (telling request old)) (telling request old) 0 old new before now result
 
--- a file is stored or refused, and that is written
+-- A file is stored or refused, and `HOST`'s event is written.
 abbrev pub Files : Name → List ℕ → Hosted → Hosted → Sink → Sink → Result ℕ WriteFault → Type 0
 Files name bytes old new before now result =
     let e : Executive (List ℕ) = executive_in old in
     let step : Written (List ℕ) = filed_now old.services.moment e (stored name (length bytes) (meaning_of bytes) e.services.files) in
     Handles nobody (written_once step) step 0 old new before now result
 
--- a command to the event services is obeyed or refused, and that is written
+-- A packet 0x1801 is executed or refused, and `HOST`'s event is written.
 abbrev pub ObeysEvents : List ℕ → Hosted → Hosted → Sink → Sink → Result ℕ WriteFault → Type 0
 ObeysEvents packet old new before now result =
     let e : Executive (List ℕ) = executive_in old in
     let step : Written (List ℕ) = answered_now on_board old.services.moment event_services packet e (with_services e (event_service_now packet e.services)) in
     Handles nobody (written_once step) step 0 old new before now result
 
--- a command to the table services is obeyed or refused, and that is written
+-- A packet 0x1804 is executed or refused, and `HOST`'s event is written.
 abbrev pub ObeysTables : List ℕ → Hosted → Hosted → Sink → Sink → Result ℕ WriteFault → Type 0
 ObeysTables packet old new before now result =
     let e : Executive (List ℕ) = executive_in old in

@@ -1,5 +1,5 @@
--- How one object leaves its seat and another takes one, by what their own calls leave, whatever they are: first the one is retired,
--- what it asks for then is written, and from the services as they are then the other one starts.
+-- One object leaves its seat and one takes a seat, of any application: the first is retired, its output is written, and then
+-- the second is started over the services as they are then.
 use Rattle.std.specs.Prelude.{◌≡◌, ℕ, List, ◌++◌, Option, Some, None, IsSomeAnd, slice_set}
 use Rattle.lc_model.specs.declared.record.Moment.{Moment}
 use Rattle.lc_model.specs.Services.Events.{EventService}
@@ -10,41 +10,43 @@ use Rattle.app_host.specs.Objects.{HasStarted, HasRetired}
 use Rattle.app_host.specs.Roster.{Comer, NobodyComes, FromStock, Again}
 use Rattle.app_host.specs.Writing.{written_off}
 
--- the seat that is left, if any, and who comes to one
+-- The seat that is left, if any, and what comes.
 pub record Turn : Type 0 where
   pub leaves : Option ℕ
   pub comes : Comer
 
--- nobody comes
+-- The turn without the object that comes.
 abbrev pub without_comer : Turn → Turn
 without_comer turn = record turn { comes = NobodyComes }
 
--- who left, if anybody did, was retired on its seat, from these services to those; it has its name and its state still, and no seat
+-- The object on the given seat was retired; if no seat is given, nothing changed. `before` and `after` are the services, `gone`
+-- is the object without its seat.
 abbrev pub LeavesAs : Option ℕ → List (Option Object) → Services → Services → Option Object → Type 0
 LeavesAs None seats before after gone = (after ≡ before) × (gone ≡ None)
 LeavesAs (Some seat) seats before after None = ⊥
 LeavesAs (Some seat) seats before after (Some gone) = IsSomeAnd (object_at seat seats) (λ (there : Object). HasRetired seat before after there gone)
 
--- the seats then
+-- The seats, with that seat free.
 abbrev pub seats_without : Option ℕ → List (Option Object) → List (Option Object)
 seats_without None seats = seats
 seats_without (Some seat) seats = slice_set seats seat None
 
--- this object started on the seat, from these services to those, and is there; nobody else moved
+-- Object `o` was started on `seat`: `before` and `after` are the services; the other seats are unchanged.
 pub record HasTaken (seat : ℕ) (before after : Services) (o : Object) (seats now : List (Option Object)) : Type 0 where
   pub there : Object
   pub started : HasStarted seat before after o there
   pub others : now ≡ slice_set seats seat (Some there)
 
--- who comes: the spare at a place of this stock, or the one that is gone, as its retirement left it
+-- The object that comes was started: the spare at `place`, or the retired object `gone`.
 abbrev pub ComesAs : Comer → List Object → Option Object → Services → Services → List (Option Object) → List (Option Object) → Type 0
 ComesAs NobodyComes stock _ before after seats now = (after ≡ before) × (now ≡ seats)
 ComesAs (FromStock place seat) stock _ before after seats now = HasTaken seat before after (spare_in stock place) seats now
 ComesAs (Again seat) stock None before after seats now = ⊥
 ComesAs (Again seat) stock (Some gone) before after seats now = HasTaken seat before after gone seats now
 
--- one left, if any does, and then the other one came, if any does; this is what they sent, and these are the event services
--- after both. Bus, tables and sequence counts stay from then on.
+-- The whole turn: an object was retired if `turn` has one that leaves, and then one was started if `turn` has one that comes.
+-- `theirs` are the bytes that both sent, and the last argument is the event services after both; bus, tables and sequence
+-- counts did not change afterwards.
 pub record HasTurned (turn : Turn) (moment : Moment) (old new : Hosted) (theirs : List ℕ) (behind : EventService) : Type 0 where
   pub after : Services
   pub later : Services

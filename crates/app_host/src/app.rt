@@ -14,21 +14,22 @@ use lc_model::Seat;
 
 /// An application of the host.
 ///
-/// It holds a seat from `start` to the next `retire`, and what is there (a pipe, a sender of events, tables) is its own. Apart
-/// from publishing, no call changes what another seat or `HOST` holds; none changes a stored file or the moment. One call puts
-/// at most 65,536 bytes into `outgoing`.
+/// It holds a seat from `start` to the next `retire`. The seat's pipe, event sender and tables are its own. But for publishing,
+/// no call changes what another seat or `HOST` has; none changes a stored file or the moment. One call puts at most 65,536 bytes
+/// into `outgoing`.
 pub trait App: Drop {
-    // What contracts see of it: its name, its state and the seat that it holds.
+    // What contracts see of it: name, state and seat.
     ghost meaning: { Self → Object };
 
-    /// Its name, 1 to 20 bytes, none of them zero or a dot, and not `HOST`. It never changes, and the names of its tables begin
-    /// with it and a dot.
+    /// Its name: 1 to 20 bytes, without zero bytes and dots, and not `HOST`. It never changes, and the names of the application's
+    /// tables begin with it and a dot.
     fn name(&self) -> &[u8]
         ensures name { result.now ≡ (meaning self.now).called }
         ensures object { IsObject (meaning self.now).state (meaning self.now).called };
 
-    /// Takes a free seat, and begins anew there, with one pipe and registered under its name. Conditions: it holds no seat,
-    /// nothing is registered under its name, and nothing waits to be written. It publishes nothing.
+    /// Takes a free seat, with one pipe and an event sender under its name, and begins anew. It publishes nothing.
+    ///
+    /// Conditions: it holds no seat, no sender or table is registered under its name, and no output waits.
     fn start(&mut self, seat: Seat, services: &mut Services)
         requires spare { (meaning self.old).seat ≡ None }
         requires free { MayBeStarted seat (meaning self.old).called (held_by services.old) }
@@ -42,10 +43,12 @@ pub trait App: Drop {
         ensures settled { Settled (meaning self.new).state seat (held_by services.new) }
         ensures other { (meaning self.old).state ≡ Other → (meaning self.new).state ≡ Other };
 
-    /// Handles a packet. Conditions: it holds a seat, and what is there is its own and goes with its state, as its own calls
-    /// and the commands to the event and table services left it; the packet has no fault; nothing waits to be written; and for
-    /// a tick each pipe has room for eight packets. It publishes for a tick alone, at most eight packets and no tick. For an
-    /// application of another kind than this profile's, the first condition is only that what is there is its own.
+    /// Handles a packet. It publishes only for a tick: at most eight packets, none of them a tick.
+    ///
+    /// Conditions: it holds a seat, and the seat's pipe, sender and tables are as its own calls and the event and table commands
+    /// left them. The packet has none of the faults 1 to 6. No output waits. For a tick each pipe has room for eight packets.
+    ///
+    /// For an application of another profile the first condition is only that sender and tables are under its name.
     fn on_packet(&mut self, services: &mut Services, packet: &[u8])
         requires home { IsSomeAnd (meaning self.old).seat
             (λ seat. IsAtHome (meaning self.old).state (meaning self.old).called seat
@@ -65,7 +68,8 @@ pub trait App: Drop {
             (λ seat. Settled (meaning self.new).state seat (held_by services.new)) }
         ensures other { (meaning self.old).state ≡ Other → (meaning self.new).state ≡ Other };
 
-    /// Gives its seat back: it has no pipe, sender or table afterwards. Conditions as for a packet. It publishes nothing.
+    /// Gives its seat back, without a pipe, sender or table. It publishes nothing. Conditions: as for a packet, without those on
+    /// the packet.
     fn retire(&mut self, services: &mut Services)
         requires home { IsSomeAnd (meaning self.old).seat
             (λ seat. IsAtHome (meaning self.old).state (meaning self.old).called seat

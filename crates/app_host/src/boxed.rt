@@ -1,4 +1,4 @@
-//! A box of an application is an application: `Box<dyn App>` holds one of any kind, `Box<B>` one of a known kind.
+//! A box of an application is an application. `Box<dyn App>` is one of any kind, `Box<B>` one of a known kind.
 
 use crate::app::App;
 use crate::services::Services;

@@ -8,8 +8,8 @@ use lc_model::packet::{MESSAGE_IDS, next_count};
 use std::alloc::{AllocError, Global};
 use std::marker::Model;
 
-/// For each message id the number of packets sent so far, modulo 16,384. Those of event packets are counted by `Events`.
-/// Contracts see the numbers as a list.
+/// For each message id the number of packets sent so far, modulo 16,384. `Events` counts the event packets. Contracts see the
+/// numbers as a list.
 #[derive(Debug, Drop)]
 pub struct Counts {
     counts: Vec<u16>,

@@ -16,7 +16,7 @@ use crate::places::give_at;
 use lc_model::{ByteSink, Seat, write_all};
 
 impl<B: App> Host<B> {
-    /// Lets the object of a seat handle the first packet of its pipe, and returns the next seat with a packet. Condition: the
+    /// Lets the object on a seat handle the oldest packet of its pipe, and returns the next seat with a packet. Condition: the
     /// seat is the least one with a packet.
     #[inline(never)]
     pub(crate) fn deliver(&mut self, seat: Seat) -> Option<Seat>
@@ -34,7 +34,7 @@ impl<B: App> Host<B> {
             .receive(seat, &mut self.packet)
             .unwrap()
             .unwrap();
-        // For the proof: tables and files are within their bounds, each under a name of its own.
+        // For the proof: tables and files are within their bounds, and no name is used twice.
         self.services.tables.is_service();
         give_at(
             &mut self.seats,
@@ -42,14 +42,14 @@ impl<B: App> Host<B> {
             &mut self.services,
             &self.packet[..size],
         );
-        // They are so after the call, too.
+        // The same holds after the call.
         self.services.tables.is_service();
         self.calls += 1;
         self.services.bus.least_ready()
     }
 
-    /// Writes what waits to be written, after `sent` bytes of this step, and returns how many bytes of the step are written
-    /// then. If the write fails, the host is closed. Most records leave nothing to write; then no further call is made.
+    /// Writes the waiting output, after `sent` bytes of this step, and returns the number of bytes written in this step. A
+    /// failed write closes the host. Most records leave no output; then no further call is made.
     #[inline(always)]
     pub(crate) fn flush<W: ByteSink>(&mut self, out: &mut W, sent: u64) -> Result<u64, WriteFault>
         requires seated { AreSeated (shown B.meaning self.old).seats
@@ -65,7 +65,7 @@ impl<B: App> Host<B> {
         self.write_waiting(out, sent)
     }
 
-    /// Writes what waits, even if that is nothing, after `sent` bytes of this step, as `flush` does.
+    /// Writes the waiting output, even if it is empty, after `sent` bytes of this step, as `flush` does.
     #[inline(always)]
     fn write_waiting<W: ByteSink>(&mut self, out: &mut W, sent: u64) -> Result<u64, WriteFault>
         requires seated { AreSeated (shown B.meaning self.old).seats
@@ -75,7 +75,7 @@ impl<B: App> Host<B> {
         ensures sent { IsSent sent (shown B.meaning self.old) (shown B.meaning self.new)
             (W.sink out.old) (W.sink out.new) result }
     {
-        // For the proof: tables and files are within their bounds, each under a name of its own.
+        // For the proof: tables and files are within their bounds, and no name is used twice.
         self.services.tables.is_service();
         let waiting = self.services.outgoing.as_slice();
         let size = waiting.len() as u64;

@@ -12,7 +12,7 @@ use crate::places::retire_at;
 use lc_model::Seat;
 
 impl<B: App> Host<B> {
-    /// Retires the object of a seat, if there is one, and returns it.
+    /// Retires the object on a seat, if there is one, and returns it.
     fn vacate(&mut self, seat: Seat) -> Option<B>
         requires seated { AreSeated (shown B.meaning self.old).seats
             (shown B.meaning self.old).services }
@@ -21,16 +21,16 @@ impl<B: App> Host<B> {
         ensures goes { GoesFrom seat self.old.services self.new.services
             (object_at seat (shown B.meaning self.old).seats) (object_in B.meaning result) }
     {
-        // For the proof: tables and files are within their bounds, each under a name of its own.
+        // For the proof: tables and files are within their bounds, and no name is used twice.
         self.services.tables.is_service();
         let retired = retire_at(&mut self.seats, seat, &mut self.services);
-        // They are so after the call, too.
+        // The same holds after the call.
         self.services.tables.is_service();
         retired
     }
 
-    /// Retires all applications that run, seat by seat, and returns them by seat. What they ask to be written then is dropped.
-    /// Nothing runs afterwards, and no pipe, subscription, sender of events or table is left. The stock stays.
+    /// Retires all applications that run, seat by seat, and returns them by seat. Output that their retirement leaves is
+    /// discarded. Then nothing runs, and no pipe, subscription, event sender or table is left. The stock is unchanged.
     pub fn retire_all(&mut self) -> [Option<B>; Seat::COUNT]
         requires whole { IsWhole (shown B.meaning self.old) }
         ensures whole { IsWhole (shown B.meaning self.new) }
@@ -55,7 +55,7 @@ impl<B: App> Host<B> {
         let _retired = self.retire_all();
     }
 
-    /// Discards what waits to be written.
+    /// Discards the waiting output.
     fn let_go(&mut self)
         requires seated { AreSeated (shown B.meaning self.old).seats
             (shown B.meaning self.old).services }
@@ -67,7 +67,7 @@ impl<B: App> Host<B> {
         ensures is_closed { self.new.closed ≡ self.old.closed }
         ensures calls { self.new.calls ≡ self.old.calls }
     {
-        // For the proof: tables and files are within their bounds, each under a name of its own.
+        // For the proof: tables and files are within their bounds, and no name is used twice.
         self.services.tables.is_service();
         self.services.outgoing.clear();
     }

@@ -5,16 +5,16 @@ ghost use Rattle.app_host.specs.Error.{error_code};
 
 use thiserror::Error;
 
-/// Why a command to an application is refused, or no host is made.
+/// Why an executive command is refused, or a host is not created.
 #[derive(Clone, Copy, Debug, PartialEq, Eq, Error)]
 pub enum HostError {
-    /// No application of that name runs.
+    /// No application of this name runs.
     #[error("no such application runs")]
     NoSuchApp,
-    /// There is no spare of that name.
+    /// There is no spare of this name.
     #[error("no spare of that name")]
     NoSpare,
-    /// An application of that name runs.
+    /// An application of this name runs already.
     #[error("the application runs already")]
     AlreadyRunning,
     /// Eight applications run.
@@ -40,7 +40,7 @@ impl HostError {
     }
 }
 
-/// A failed write, at which the host is closed.
+/// A failed write, which closes the host.
 #[derive(Clone, Copy, Debug, PartialEq, Eq, Error)]
 #[error("a write failed behind {sent} bytes")]
 pub struct WriteFault {

@@ -38,7 +38,7 @@ fn set_filter(events: &mut Events, payload: &[u8]) -> Result<(), Numbers>
     }
 }
 
-/// Restarts the filters of a name. Payload: 20 bytes of the name.
+/// Resets all filters of a sender. Payload: 20 bytes of its name.
 fn reset_filters(events: &mut Events, payload: &[u8]) -> Result<(), Numbers>
     ensures answer { obeyed_by result events.new ≡ reset_by payload.now events.old }
     ensures refused { OnErr result (events.new ≡ events.old) }
@@ -52,7 +52,7 @@ fn reset_filters(events: &mut Events, payload: &[u8]) -> Result<(), Numbers>
     }
 }
 
-/// Turns types on or off. Payload: 20 bytes of a name, a byte whose lower four bits are types, and one that does not count.
+/// Turns types on or off. Payload: 20 bytes of a name, a byte whose lower four bits are types, and an ignored byte.
 fn set_types(events: &mut Events, payload: &[u8], on: bool) -> Result<(), Numbers>
     ensures answer { obeyed_by result events.new ≡ set_types_by on payload.now events.old }
     ensures refused { OnErr result (events.new ≡ events.old) }
@@ -67,8 +67,8 @@ fn set_types(events: &mut Events, payload: &[u8], on: bool) -> Result<(), Number
     }
 }
 
-/// Obeys a command to the event services. It is refused with 151 for its code, 152 for its length, and then for the services'
-/// own reasons; a refused command changes nothing.
+/// Executes a command to the event services. It is refused with 151 for its code, 152 for its length, and then with the
+/// services' own refusals; a refused command changes nothing.
 pub(crate) fn obey(events: &mut Events, packet: &[u8]) -> Result<(), Numbers>
     requires { command_header_size ≤ length packet.now }
     ensures answer { obeyed_by result events.new ≡
@@ -86,7 +86,7 @@ pub(crate) fn obey(events: &mut Events, packet: &[u8]) -> Result<(), Numbers>
 }
 
 impl<B: App> Host<B> {
-    /// Obeys or refuses a command to the event services; `HOST` reports which.
+    /// Executes or refuses a command to the event services, and sends `HOST`'s event.
     #[inline(never)]
     pub(crate) fn obey_events<W: ByteSink>(
         &mut self,
@@ -106,7 +106,7 @@ impl<B: App> Host<B> {
             self.old.services.events)) (shown B.meaning self.old) (shown B.meaning self.new)
             (W.sink out.old).gained (W.sink out.new).gained result }
     {
-        // For the proof: tables and files are within their bounds, each under a name of its own.
+        // For the proof: tables and files are within their bounds, and no name is used twice.
         self.services.tables.is_service();
         match obey(&mut self.services.events, packet) {
             Ok(()) => {

@@ -37,10 +37,10 @@ impl<B: App> Host<B> {
             (shown B.meaning self.old) (shown B.meaning self.new) (W.sink out.old).gained
             (W.sink out.new).gained result }
     {
-        // For the proof: tables and files are within their bounds, each under a name of its own.
+        // For the proof: tables and files are within their bounds, and no name is used twice.
         self.services.tables.is_service();
         let stored = self.services.tables.put_file(name, bytes);
-        // They are so after the call, too.
+        // The same holds after the call.
         self.services.tables.is_service();
         match stored {
             Ok(()) => {

@@ -18,24 +18,27 @@ use lc_model::{EventKind, Seat};
 use packet_bus::PACKET_SIZE;
 use std::alloc::Global;
 
-/// The host: applications in stock and on eight seats, and what they share. `B` is the type of an application. `Host` alone is
-/// a host of boxed applications of any kinds, side by side.
+/// The host: spares, eight seats, and the services that applications share. `B` is the type of an application; plain `Host` has
+/// boxed applications of any kinds.
 #[derive(Drop)]
 pub struct Host<B: App = Box<dyn App>> {
     pub(crate) stock: Vec<B>,
     pub(crate) seats: [Option<B>; Seat::COUNT],
     pub(crate) services: Services,
-    /// The delivered packet at the front, followed by what was there before: a delivery clears nothing.
+    /// The delivered packet stands at the start; the bytes after it are left over from earlier packets.
     pub(crate) packet: [u8; PACKET_SIZE],
-    /// Whether a write has failed.
+    /// Whether a failed write has closed the host.
     pub(crate) closed: bool,
-    /// The calls of `on_packet` for the last record that was handled.
+    /// The `on_packet` calls for the last record.
     pub(crate) calls: u32,
 }
 
 impl<B: App> Host<B> {
-    /// Creates a host that runs nothing, with these spares. It allocates all memory that it ever needs; `Memory` is the only
-    /// error, and returns the stock. Condition: no object holds a seat.
+    /// Creates a host with these spares, in which nothing runs. It allocates all memory that it ever needs.
+    ///
+    /// Condition: no spare holds a seat.
+    ///
+    /// Errors: `Memory`, which returns the stock.
     pub fn new(alloc: Global, stock: Vec<B>) -> Result<Host<B>, (HostError, Vec<B>)>
         requires spares { AreSpares (objects_in B.meaning stock.items) }
         ensures whole { IfOk result (λ host. IsWhole (shown B.meaning host)) }
@@ -59,7 +62,7 @@ impl<B: App> Host<B> {
         }
     }
 
-    /// Whether an application of the name runs.
+    /// Whether an application of this name runs.
     pub fn running(&self, name: &[u8]) -> bool
         ensures { result ≡
             is_some (model.seat_of name.now
@@ -68,7 +71,7 @@ impl<B: App> Host<B> {
         seat_of(&self.seats, name).is_some()
     }
 
-    /// How many spares of the name there are.
+    /// The number of spares of this name.
     pub fn spares(&self, name: &[u8]) -> usize
         ensures { result ≡ count_by (is_called name.now)
             (in_numbers (shown B.meaning self.now)).executive.stock }
@@ -76,7 +79,7 @@ impl<B: App> Host<B> {
         spares_of(self.stock.as_slice(), name)
     }
 
-    /// The application on a seat, where there is one.
+    /// The application on a seat; `None` if the seat is free.
     pub fn application(&self, seat: Seat) -> Option<&B>
         ensures { option_map (λ app. B.meaning app.now) result ≡
             object_at seat (shown B.meaning self.now).seats }
@@ -87,7 +90,7 @@ impl<B: App> Host<B> {
         }
     }
 
-    /// The active image of the table of this name, where there is such a table and it has one.
+    /// The active image of the table of this name; `None` without such a table or image.
     pub fn active_image(&self, table: &[u8]) -> Option<&[u8]>
         ensures { option_map (λ image. image.now) result ≡ active_of
             ((in_numbers (shown B.meaning self.now)).executive.services.slots table.now) }
@@ -95,7 +98,7 @@ impl<B: App> Host<B> {
         self.services.tables.active_under(table)
     }
 
-    /// Whether events of the type are on for the application with this name; false if none of the name is registered.
+    /// Whether events of this type are on for the sender `name`; false if it is not registered.
     pub fn is_type_on(&self, name: &[u8], kind: EventKind) -> bool
         ensures { result ≡ is_type_on kind
             ((in_numbers (shown B.meaning self.now)).executive.services.events name.now) }
@@ -103,14 +106,14 @@ impl<B: App> Host<B> {
         self.services.events.is_type_on(name, kind)
     }
 
-    /// Whether a write has failed: then the host takes no further record.
+    /// Whether a failed write has closed the host, so that it handles no more records.
     pub fn is_closed(&self) -> bool
         ensures { result ≡ (shown B.meaning self.now).is_closed }
     {
         self.closed
     }
 
-    /// The calls of `on_packet` in the last `step` that began on an open host; 0 before the first.
+    /// The number of `on_packet` calls in the last `step` of the open host; 0 before the first.
     pub fn calls(&self) -> u32
         ensures { result ≡ (in_numbers (shown B.meaning self.now)).calls }
     {

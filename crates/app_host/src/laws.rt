@@ -1,11 +1,11 @@
-//! What follows of the services' contracts for every application.
+//! Laws for every application, from the services' contracts.
 
 ghost use Rattle.app_host.specs.Statements.{OpeningStarts, OpeningLeaves, OpeningSettles, TellingIsByName, TellingAnswers, TellingLeaves, TellingSettles, SilenceAnswers, SilenceLeaves, ClosingRetires, ClosingLeaves, NoTablesGo, StartedIsHome, GivenIsHome};
 
 use host_refinement::calls_go_with_services;
 
-/// Taking a seat, sending events, doing nothing and giving the seat back keep the rules of the interface, and do what the
-/// definitions say.
+/// Law: opening a seat, sending events, doing nothing and closing the seat keep the rules of the interface, and do exactly as
+/// in the model.
 pub fn seats_are_kept_by_the_rules()
     ensures opening_starts { OpeningStarts }
     ensures opening_leaves { OpeningLeaves }
@@ -21,7 +21,7 @@ pub fn seats_are_kept_by_the_rules()
     ensures no_tables_go { NoTablesGo }
 {}
 
-/// An object is at home on its seat from its start on, whatever packets it has.
+/// Law: an object is at home on its seat from its start on, whatever packets it handles.
 pub fn objects_are_at_home()
     ensures started { StartedIsHome }
     ensures given { GivenIsHome }

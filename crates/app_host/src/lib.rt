@@ -1,5 +1,5 @@
-//! The executive (cFE user's guide, executive services): the host's applications, boxed behind one interface, the services
-//! that they share, and what each record of a stream leads to.
+//! The executive (cFE user's guide, executive services): the host's applications, boxed behind one interface, the services that
+//! they share, and the step that handles one record of a stream.
 #![tactic(auto)]
 
 mod app;

@@ -1,4 +1,4 @@
-//! The numbers of a refusal, which HOST's event names.
+//! The numbers of a refusal, which `HOST`'s event reports.
 
 ghost use Rattle.std.specs.Prelude.{◌≡◌, ◌≤◌, [], ◌∷◌, length};
 ghost use Rattle.event_service.specs.Error as events;
@@ -63,7 +63,7 @@ impl Numbers {
     }
 }
 
-/// The numbers of a refusal of the table services: its own, and after 112 the file's.
+/// The numbers of a refusal of the table services: its own, and after 112 the file's fault.
 pub(crate) fn of_tables(error: TableError) -> Numbers
     ensures { result ≡ tables.refusal_of error }
 {

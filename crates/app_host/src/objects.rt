@@ -12,7 +12,7 @@ use crate::laws::objects_are_at_home;
 use crate::services::Services;
 use lc_model::Seat;
 
-/// The object takes a free seat.
+/// Starts the object on a free seat.
 pub(crate) fn start<B: App>(app: &mut B, seat: Seat, services: &mut Services)
     requires { MayStartOn seat services.old (B.meaning app.old) }
     ensures { HasStarted seat services.old services.new (B.meaning app.old)
@@ -23,7 +23,7 @@ pub(crate) fn start<B: App>(app: &mut B, seat: Seat, services: &mut Services)
     app.start(seat, services);
 }
 
-/// The object of a seat gives it back.
+/// Retires the object on a seat.
 pub(crate) fn retire<B: App>(app: &mut B, seat: Seat, services: &mut Services)
     requires { MayRetire seat services.old (B.meaning app.old) }
     ensures retired { HasRetired seat services.old services.new (B.meaning app.old)
@@ -33,7 +33,7 @@ pub(crate) fn retire<B: App>(app: &mut B, seat: Seat, services: &mut Services)
     app.retire(services);
 }
 
-/// Whether the object goes by the name.
+/// Whether the object has this name.
 fn is_called<B: App>(app: &B, name: &[u8]) -> bool
     ensures called { result ≡ is_called name.now (member_of (B.meaning app.now)) }
     ensures kind { IsObject (B.meaning app.now).state (B.meaning app.now).called }
@@ -41,7 +41,7 @@ fn is_called<B: App>(app: &B, name: &[u8]) -> bool
     name == app.name()
 }
 
-/// Whether there is an object that goes by the name.
+/// Whether the seat has an object of this name.
 fn is_seated<B: App>(place: &Option<B>, name: &[u8]) -> bool
     ensures { result ≡ is_seated name.now (option_map member_of (object_in B.meaning place.now)) }
 {
@@ -51,7 +51,7 @@ fn is_seated<B: App>(place: &Option<B>, name: &[u8]) -> bool
     }
 }
 
-/// Whether there is no object.
+/// Whether the seat is free.
 fn is_free<B: App>(place: &Option<B>) -> bool
     ensures { result ≡ is_none (option_map member_of (object_in B.meaning place.now)) }
 {
@@ -61,7 +61,7 @@ fn is_free<B: App>(place: &Option<B>) -> bool
     }
 }
 
-/// The first spare of a name.
+/// The place in stock of the first spare of a name.
 pub(crate) fn spare_of<B: App>(stock: &[B], name: &[u8]) -> Option<usize>
     ensures first { result ≡ position_from (λ o. is_called name.now (member_of o)) 0
         (objects_in B.meaning stock.now) }
@@ -77,7 +77,7 @@ pub(crate) fn spare_of<B: App>(stock: &[B], name: &[u8]) -> Option<usize>
     None
 }
 
-/// How many spares have a name.
+/// The number of spares of a name.
 pub(crate) fn spares_of<B: App>(stock: &[B], name: &[u8]) -> usize
     ensures { result ≡ count_by (λ o. is_called name.now (member_of o))
         (objects_in B.meaning stock.now) }
@@ -91,7 +91,7 @@ pub(crate) fn spares_of<B: App>(stock: &[B], name: &[u8]) -> usize
     count
 }
 
-/// The seat of a name.
+/// The seat of the running application of a name.
 pub(crate) fn seat_of<B: App>(seats: &[Option<B>], name: &[u8]) -> Option<usize>
     ensures { result ≡ position_from (λ o. is_seated name.now (option_map member_of o)) 0
         (map (object_in B.meaning) seats.now) }

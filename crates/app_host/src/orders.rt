@@ -26,7 +26,7 @@ use crate::texts::{self, Service};
 use lc_model::packet::function_code;
 use lc_model::{ByteSink, EventKind, Seat, name_in};
 
-/// What is to be done with an application.
+/// An executive command.
 #[derive(Clone, Copy)]
 pub(crate) enum Order {
     Start,
@@ -35,7 +35,7 @@ pub(crate) enum Order {
     Reload,
 }
 
-/// An order and its application: 20 bytes of a name.
+/// An order with its application's name, which has 20 bytes in the payload.
 fn read_name(order: Order, payload: &[u8]) -> Result<(Order, &[u8]), Numbers>
     ensures read { IfOk result
         (λ command. named_by order payload.now ≡ Ok (order_of command.0, command.1.now)) }
@@ -66,7 +66,7 @@ fn read_order(packet: &[u8]) -> Result<(Order, &[u8]), Numbers>
     }
 }
 
-/// The seat of a number, if there is one.
+/// The seat with this number, if there is one.
 fn seat_numbered(number: Option<usize>) -> Option<Seat>
     requires { IfSome number (λ (n : ℕ). n < seat_count) }
     ensures { result ≡ number }
@@ -108,8 +108,8 @@ impl<B: App> Host<B> {
         spare_of(self.stock.as_slice(), name)
     }
 
-    /// The first spare of a name is to take the least free seat. It is refused where an application of the name runs, where
-    /// there is no spare, and where no seat is free, in this order.
+    /// Prepares the first spare of a name for the least free seat. Refused, in this order, if an application of the name runs,
+    /// if there is no spare, or if no seat is free.
     fn prepare_start(&self, name: &[u8]) -> Result<Successor<B>, HostError>
         requires whole { IsWhole (shown B.meaning self.now) }
         ensures prepared { Prepares B.meaning (ordered Start name.now)
@@ -131,7 +131,7 @@ impl<B: App> Host<B> {
         }
     }
 
-    /// The application of the name gives its seat back and is dropped. It is refused where none runs.
+    /// Retires and drops the running application of the name. Refused if none runs.
     fn prepare_stop(&mut self, name: &[u8]) -> Result<Successor<B>, HostError>
         requires whole { IsWhole (shown B.meaning self.old) }
         ensures prepared { Prepares B.meaning (ordered Stop name.now)
@@ -151,7 +151,7 @@ impl<B: App> Host<B> {
         }
     }
 
-    /// The application of the name gives its seat back, and is to take it again. It is refused where none runs.
+    /// Retires the running application of the name, and prepares it for the same seat. Refused if none runs.
     fn prepare_restart(&mut self, name: &[u8]) -> Result<Successor<B>, HostError>
         requires whole { IsWhole (shown B.meaning self.old) }
         ensures prepared { Prepares B.meaning (ordered Restart name.now)
@@ -167,8 +167,8 @@ impl<B: App> Host<B> {
         }
     }
 
-    /// The application of the name gives its seat back and is dropped; the first spare of the name is to take the seat. It is
-    /// refused where none runs, and then where there is no spare.
+    /// Retires and drops the running application of the name, and prepares the first spare of the name for its seat. Refused,
+    /// in this order, if none runs or if there is no spare.
     fn prepare_reload(&mut self, name: &[u8]) -> Result<Successor<B>, HostError>
         requires whole { IsWhole (shown B.meaning self.old) }
         ensures prepared { Prepares B.meaning (ordered Reload name.now)
@@ -190,7 +190,8 @@ impl<B: App> Host<B> {
         }
     }
 
-    /// Begins the order: an application that is to leave its seat leaves it. Returns who takes the seat next, or the refusal.
+    /// Begins the order: the application that leaves its seat is retired. Returns the object that takes the seat next, or the
+    /// refusal.
     fn prepare(&mut self, order: Order, name: &[u8]) -> Result<Successor<B>, HostError>
         requires whole { IsWhole (shown B.meaning self.old) }
         ensures prepared { Prepares B.meaning (ordered (order_of order) name.now)
@@ -209,7 +210,7 @@ impl<B: App> Host<B> {
         }
     }
 
-    /// Prepares the order of a command. Returns who takes the seat next, or the numbers of the refusal.
+    /// Prepares the order of a command. Returns the object that takes the seat next, or the numbers of the refusal.
     fn take_order(&mut self, packet: &[u8]) -> Result<Successor<B>, Numbers>
         requires whole { IsWhole (shown B.meaning self.old) }
         requires headers { command_header_size ≤ length packet.now }
@@ -230,7 +231,7 @@ impl<B: App> Host<B> {
         }
     }
 
-    /// Writes what waits, lets the next one take its seat, and writes what that asks for. Returns the number of these bytes.
+    /// Writes the waiting output, starts the next object on its seat, and writes its output. Returns the number of these bytes.
     fn come_in<W: ByteSink>(&mut self, next: Successor<B>, out: &mut W) -> Result<u64, WriteFault>
         requires seated { AreSeated (shown B.meaning self.old).seats
             (shown B.meaning self.old).services }
@@ -248,8 +249,7 @@ impl<B: App> Host<B> {
         Ok(total)
     }
 
-    /// Obeys or refuses a command to the executive services. What the application asks for is written, and then `HOST` reports
-    /// which.
+    /// Executes or refuses a command to the executive services. The applications' output is written, and then `HOST`'s event.
     #[inline(never)]
     pub(crate) fn obey_orders<W: ByteSink>(
         &mut self,

@@ -14,7 +14,8 @@ use std::marker::Model;
 /// The most bytes that one call of an application appends.
 pub const OUTGOING_ROOM: usize = 65_536;
 
-/// The packets that a call asks to be written, one after the other, with room for 65,536 bytes. Contracts see the bytes.
+/// The packets that calls have sent and that are not yet written, one after the other, with room for 65,536 bytes. Contracts
+/// see the bytes.
 #[derive(Debug, Drop)]
 pub struct Outgoing {
     bytes: Vec<u8>,
@@ -65,7 +66,7 @@ impl Outgoing {
         self.bytes.extend_from_slice(bytes).unwrap();
     }
 
-    /// Asks for an event and appends its packet, if it is sent. Condition: there is room for it.
+    /// Requests an event and appends its packet, if it is sent. Condition: there is room for it.
     #[inline(always)]
     pub(crate) fn send(
         &mut self,

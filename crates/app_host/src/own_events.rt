@@ -16,7 +16,7 @@ use event_service::EventText;
 use lc_model::{ByteSink, EventKind};
 
 impl<B: App> Host<B> {
-    /// Asks for an event of `HOST`; if it is sent, its packet waits to be written.
+    /// Requests an event of `HOST`; if it is sent, its packet waits to be written.
     pub(crate) fn tell(&mut self, id: u16, kind: EventKind, text: &EventText)
         requires seated { AreSeated (shown B.meaning self.old).seats
             (shown B.meaning self.old).services }
@@ -24,12 +24,12 @@ impl<B: App> Host<B> {
         ensures { HasTold (Event host_name id kind text.now) (shown B.meaning self.old)
             (shown B.meaning self.new) }
     {
-        // For the proof: tables and files are within their bounds, each under a name of its own.
+        // For the proof: tables and files are within their bounds, and no name is used twice.
         self.services.tables.is_service();
         self.services.tell(None, id, kind, text.as_bytes());
     }
 
-    /// Sends an event of `HOST` and writes it, which is all that a record leads to.
+    /// Sends an event of `HOST` and writes it; the record leads to nothing else.
     pub(crate) fn tell_alone<W: ByteSink>(
         &mut self,
         id: u16,
@@ -51,7 +51,7 @@ impl<B: App> Host<B> {
         self.flush(out, 0)
     }
 
-    /// Refuses a packet of a stream, for this reason.
+    /// Refuses a packet of a stream, with this fault.
     #[inline(never)]
     pub(crate) fn refuse_packet<W: ByteSink>(
         &mut self,

@@ -1,4 +1,4 @@
-//! One call of the object of a seat.
+//! One call of the object on a seat.
 
 ghost use Rattle.std.specs.Prelude.{◌≡◌, ◌<◌, map, slice_set, IfSome, None};
 ghost use Rattle.lc_model.specs.Kept.Executive.{seat_count};
@@ -12,7 +12,7 @@ use crate::objects::retire;
 use crate::services::Services;
 use lc_model::Seat;
 
-/// Lets the object of a place handle a packet.
+/// Lets the object in a place handle a packet.
 #[inline(always)]
 fn give_in<B: App>(place: &mut Option<B>, seat: Seat, services: &mut Services, packet: &[u8])
     requires { IfSome (object_in B.meaning place.old) (MayAnswer seat packet.now services.old) }
@@ -26,7 +26,7 @@ fn give_in<B: App>(place: &mut Option<B>, seat: Seat, services: &mut Services, p
     }
 }
 
-/// Lets the object of a seat handle a packet.
+/// Lets the object on a seat handle a packet.
 #[inline(always)]
 pub(crate) fn give_at<B: App>(
     seats: &mut [Option<B>; Seat::COUNT],
@@ -46,7 +46,7 @@ pub(crate) fn give_at<B: App>(
     give_in(&mut seats[seat.index()], seat, services, packet);
 }
 
-/// Retires the object of a place, if there is one, and returns it.
+/// Retires the object in a place, if there is one, and returns it.
 fn retire_in<B: App>(place: &mut Option<B>, seat: Seat, services: &mut Services) -> Option<B>
     requires { IfSome (object_in B.meaning place.old) (MayRetire seat services.old) }
     ensures gone { place.new ≡ None }
@@ -59,7 +59,7 @@ fn retire_in<B: App>(place: &mut Option<B>, seat: Seat, services: &mut Services)
     Some(app)
 }
 
-/// Retires the object of a seat, if there is one, and returns it.
+/// Retires the object on a seat, if there is one, and returns it.
 pub(crate) fn retire_at<B: App>(
     seats: &mut [Option<B>; Seat::COUNT],
     seat: Seat,

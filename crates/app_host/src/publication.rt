@@ -22,8 +22,8 @@ use lc_model::{ByteSink, Seat};
 const TICK: [u8; 8] = [0x18, 0xC0, 0xC0, 0, 0, 1, 0, 0xE6];
 
 impl<B: App> Host<B> {
-    /// Lets the object of a seat handle this packet without the bus, and returns the next seat with a packet. Conditions: no
-    /// packet waits, and that seat alone is subscribed to this packet's message id.
+    /// Lets the object on a seat handle this packet without the bus, and returns the next seat with a packet. Conditions: no
+    /// packet waits, and only that seat is subscribed to this packet's message id.
     #[inline(always)]
     fn hand_over(&mut self, seat: Seat, packet: &[u8]) -> Option<Seat>
         requires whole { IsWhole (shown B.meaning self.old) }
@@ -36,18 +36,18 @@ impl<B: App> Host<B> {
             (shown B.meaning self.new) }
         ensures next { result ≡ ready_seat (seen self.new.services.bus) }
     {
-        // For the proof: tables and files are within their bounds, each under a name of its own.
+        // For the proof: tables and files are within their bounds, and no name is used twice.
         self.services.tables.is_service();
         give_at(&mut self.seats, seat, &mut self.services, packet);
-        // They are so after the call, too.
+        // The same holds after the call.
         self.services.tables.is_service();
         self.calls += 1;
         self.services.bus.least_ready()
     }
 
-    /// Publishes a packet and delivers all packets. If a single application is subscribed to it, it is given the packet
-    /// directly: publishing it and taking it out of the pipe again would leave the bus as it is. After each call, what the
-    /// call asks for is written. Returns the number of these bytes. Condition: the packet has no fault.
+    /// Publishes a packet and delivers all packets. If a single application is subscribed to it, it gets the packet directly:
+    /// publishing it and taking it out of the pipe again would leave the bus as it is. The output of each call is written after
+    /// the call. Returns the number of these bytes. Condition: the packet has no fault.
     #[inline(always)]
     pub(crate) fn pass_on<W: ByteSink>(
         &mut self,
@@ -65,7 +65,7 @@ impl<B: App> Host<B> {
             (shown B.meaning self.old) (shown B.meaning self.new) (W.sink out.old).gained
             (W.sink out.new).gained result }
     {
-        // For the proof: tables and files are within their bounds, each under a name of its own.
+        // For the proof: tables and files are within their bounds, and no name is used twice.
         self.services.tables.is_service();
         let mut sent = 0;
         let mut next = match self.services.bus.only_hearer(packet) {

@@ -1,4 +1,4 @@
-//! What an application publishes (cFE user's guide, software bus services).
+//! Publishing by an application (cFE user's guide, software bus services).
 
 ghost use Rattle.std.specs.Prelude.{◌≡◌, ◌+◌, ℕ, false, None, [], ◌∷◌};
 ghost use Rattle.lc_model.specs.Packet.{header_fault};
@@ -21,8 +21,8 @@ impl Services {
     }
 }
 
-/// Publishing one packet after the other, and nothing else, keeps the rules of the interface, and does what the definitions
-/// say.
+/// Law: publishing one packet after the other, and nothing else, keeps the rules of the interface, and does exactly as in the
+/// model.
 pub fn publishing_is_by_the_rules()
     ensures nothing { NothingIsPublished }
     ensures goes_on { PublishingGoesOn }

@@ -9,8 +9,8 @@ use crate::seat::subscribe;
 use lc_model::{Seat, Term};
 use packet_bus::Bus;
 
-/// Subscribes the seat's pipe to these message ids and those of these watchpoints, too; packets that wait in it stay.
-/// Condition: the seat has a pipe, with room for as many subscriptions more.
+/// Adds subscriptions of the seat's pipe to these message ids and to those of these watchpoints; packets that wait in it stay.
+/// Condition: the seat has a pipe, with room for these subscriptions.
 pub fn subscribe_to(bus: &mut Bus, seat: Seat, message_ids: &[u16], terms: &[Term])
     requires { IsSomeAnd (pipe_at seat bus.old)
         (λ (queue : Queue). length queue.subscriptions + length message_ids.now + length
@@ -27,8 +27,8 @@ pub fn subscribe_to(bus: &mut Bus, seat: Seat, message_ids: &[u16], terms: &[Ter
     watch(bus, seat, terms);
 }
 
-/// Ends all subscriptions of the seat's pipe; packets that wait in it stay. Condition: the seat has a pipe, which was
-/// subscribed to these message ids and to those of these watchpoints.
+/// Ends all subscriptions of the seat's pipe; packets that wait in it stay. Condition: the seat has a pipe, which is subscribed
+/// to exactly these message ids and those of these watchpoints.
 pub fn unsubscribe_from(bus: &mut Bus, seat: Seat, message_ids: &[u16], terms: &[Term])
     requires { IsSomeAnd (pipe_at seat bus.old)
         (λ (queue : Queue). queue.subscriptions ≡
@@ -41,7 +41,7 @@ pub fn unsubscribe_from(bus: &mut Bus, seat: Seat, message_ids: &[u16], terms: &
     unwatch(bus, seat, terms);
 }
 
-/// Subscribes the seat's pipe to the message ids of these watchpoints, too.
+/// Adds subscriptions of the seat's pipe to the message ids of these watchpoints.
 fn watch(bus: &mut Bus, seat: Seat, terms: &[Term])
     requires { IsSomeAnd (pipe_at seat bus.old)
         (λ (queue : Queue). length queue.subscriptions + length terms.now ≤ most_subscriptions) }

@@ -1,4 +1,4 @@
-//! What every application does as it takes a seat and gives it back (cFE user's guide: software bus pipes, event services
+//! Opening and closing of a seat, as every application does it (cFE user's guide: software bus pipes, event services
 //! registration).
 
 ghost use Rattle.std.specs.Prelude.{◌≡◌, ◌+◌, ◌<◌, ◌≤◌, IfSome, IsSomeAnd, length, []};
@@ -14,8 +14,8 @@ use lc_model::Seat;
 use packet_bus::Bus;
 
 impl Services {
-    /// Gives the seat a pipe that is subscribed to these message ids, and a sender of events with this name. Conditions: the
-    /// seat is free, the name is unused, and at most 256 ids.
+    /// Gives the seat a pipe that is subscribed to these message ids, and an event sender with this name. Conditions: the seat
+    /// is free, the name is unused, and there are at most 256 ids.
     pub fn open(&mut self, seat: Seat, name: &[u8], message_ids: &[u16])
         requires seat { seat < seat_count }
         requires name { IsApplicationName name.now }
@@ -24,19 +24,19 @@ impl Services {
         requires few { length message_ids.now ≤ most_subscriptions }
         ensures { IsOpened seat name.now (with_mids message_ids.now []) self.old self.new }
     {
-        // For the proof: the senders of events have names of their own.
+        // For the proof: no two event senders have the same name.
         self.events.is_service();
         self.bus.add_pipe(seat).unwrap();
         subscribe(&mut self.bus, seat, message_ids);
         self.events.register(seat, name).unwrap();
     }
 
-    /// Removes the seat's pipe, sender of events and tables. Condition: it has a pipe and a sender.
+    /// Removes the seat's pipe, event sender and tables. Condition: it has a pipe and a sender.
     pub fn close(&mut self, seat: Seat)
         requires { HasPipeAndSender seat (held_by self.old) }
         ensures { IsClosed seat self.old self.new }
     {
-        // For the proof: the senders of events have names of their own.
+        // For the proof: no two event senders have the same name.
         self.events.is_service();
         self.bus.remove_pipe(seat).unwrap();
         self.events.unregister(seat).unwrap();
@@ -44,7 +44,7 @@ impl Services {
     }
 }
 
-/// Subscribes the seat's pipe to these message ids, too. Condition: it has a pipe, with room for as many subscriptions more.
+/// Adds subscriptions of the seat's pipe to these message ids. Condition: it has a pipe, with room for these subscriptions.
 pub fn subscribe(bus: &mut Bus, seat: Seat, message_ids: &[u16])
     requires { IsSomeAnd (pipe_at seat bus.old)
         (λ (queue : Queue).

@@ -1,5 +1,5 @@
-//! What applications send beside events (cFS Limit Checker user's guide: requests for command sequences, housekeeping; the
-//! layouts are this project's own).
+//! Packets that applications send, other than events (cFS Limit Checker user's guide: requests for command sequences,
+//! housekeeping; the layouts are this project's own).
 
 ghost use Rattle.std.specs.Prelude.{◌≡◌, ◌+◌, ◌≤◌, ◌<◌, ◌++◌, length};
 ghost use Rattle.lc_model.specs.Bytes.{u16, u32};
@@ -13,12 +13,11 @@ use crate::services::Services;
 use lc_model::packet::{UNSEGMENTED, sequence_request};
 use lc_model::{LcMode, Moment, TABLE_ENTRIES, mids, u16_bytes, u32_bytes};
 
-/// In housekeeping, the byte in the place of a rule that does not exist.
+/// The byte of housekeeping for a rule that does not exist.
 const NO_RULE: u8 = 0xFF;
 
 impl Services {
-    /// Appends a request for a command sequence to what waits to be written (message id 0x18A9). Condition: room for its 12
-    /// bytes.
+    /// Appends a sequence request (message id 0x18A9) to the waiting output. Condition: room for its 12 bytes.
     pub fn request_sequence(&mut self, number: u16)
         requires room { length self.old.outgoing + sequence_request_size ≤ outgoing_room }
         ensures told { RequestsSequence number self.old self.new }
@@ -28,9 +27,9 @@ impl Services {
         self.outgoing.append(&sequence_request(count, number));
     }
 
-    /// Appends the housekeeping packet of the Limit Checker to what waits to be written (message id 0x08A7): its mode, the
-    /// number of its rules, and a byte for the state and result of each; 0xFF in the bytes of no rule. Conditions: at most 176
-    /// rules, and room for 192 bytes.
+    /// Appends the housekeeping packet of the Limit Checker (message id 0x08A7) to the waiting output: its mode, the number of
+    /// its rules, a byte for state and result of each, and 0xFF up to 176 bytes. Conditions: at most 176 rules, and room for
+    /// 192 bytes.
     pub fn send_housekeeping(&mut self, mode: LcMode, standings: &[u8])
         requires few { length standings.now ≤ table_entries }
         requires room { length self.old.outgoing + housekeeping_size ≤ outgoing_room }
@@ -48,7 +47,7 @@ impl Services {
     }
 }
 
-/// The headers of the Limit Checker's housekeeping: 192 bytes in all, whole (flags 3), with its time.
+/// The headers of the Limit Checker's housekeeping packet: 192 bytes in all, unsegmented (flags 3), with its time.
 fn housekeeping_header(count: u16, moment: Moment) -> [u8; 12]
     requires { count < count_end }
     ensures { result ≡
@@ -69,7 +68,7 @@ fn mode_bytes(mode: LcMode) -> [u8; 2]
     u16_bytes(mode.code())
 }
 
-/// How many there are, in two bytes.
+/// The number of rules, in two bytes.
 fn count_bytes(standings: &[u8]) -> [u8; 2]
     requires { length standings.now ≤ table_entries }
     ensures { result ≡ u16 (length standings.now) }
@@ -77,7 +76,7 @@ fn count_bytes(standings: &[u8]) -> [u8; 2]
     u16_bytes(standings.len() as u16)
 }
 
-/// One request sent after the other, and nothing else, is what the definitions say.
+/// Law: sending requests one after the other, and nothing else, does exactly as in the model.
 pub fn telling_goes_on()
     ensures nothing { NothingIsTold }
     ensures goes_on { TellingGoesOn }

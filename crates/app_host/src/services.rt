@@ -1,4 +1,4 @@
-//! What the host's applications share (cFE user's guide: software bus, event and table services).
+//! The services that the host's applications share (cFE user's guide: software bus, event and table services).
 
 ghost use Rattle.std.specs.Prelude.{◌≡◌, ◌+◌, ◌<◌, ◌≤◌, ◌++◌, [], ◌∷◌, length, replicate, option_to_list, IfOk, IfSome};
 ghost use Rattle.std.specs.List.{concat};
@@ -61,9 +61,9 @@ impl Services {
         })
     }
 
-    /// Asks for an event of the seat's application, or of `HOST` if `from` is `None`; its packet waits to be written if types
-    /// and filters let it through. Conditions: a sender is registered there, a text of at most 121 bytes, and room for a
-    /// packet of 168 bytes.
+    /// Requests an event of the seat's application, or of `HOST` if `from` is `None`; its packet waits to be written if types
+    /// and filters let it through. Conditions: a sender is registered there, a text of at most 121 bytes, and room for a packet
+    /// of 168 bytes.
     #[inline(always)]
     pub fn tell(&mut self, from: Option<Seat>, id: u16, kind: EventKind, text: &[u8])
         requires text { length text.now ≤ longest_event_text }
@@ -79,7 +79,7 @@ impl Services {
             (event_asked from self.old.moment id kind text.now self.old.events).1) }
         ensures counts { self.new.counts ≡ self.old.counts }
     {
-        // For the proof: the senders of events have names of their own.
+        // For the proof: no two event senders have the same name.
         self.events.is_service();
         self.outgoing
             .send(&mut self.events, from, self.moment, id, kind, text);

@@ -1,4 +1,4 @@
-//! What one record leads to.
+//! Handles one record.
 
 ghost use Rattle.std.specs.Prelude.{◌≡◌, ◌≤◌, false, true, length, None, IfSome, IsSome};
 ghost use Rattle.lc_model.specs.Packet.{stream_fault, command_header_size};
@@ -17,10 +17,13 @@ use lc_model::packet::{message_id, stream_fault};
 use lc_model::{Body, ByteSink, Moment, Record, mids};
 
 impl<B: App> Host<B> {
-    /// Handles a record and writes what it leads to: after each call of an application what that call asks for, and each event
-    /// of `HOST`. If a write fails, `sent` is the number of this step's bytes that the writer took; what was done before that
-    /// write stands, and the host is closed. A closed host returns `sent: 0` and does nothing. A step allocates no memory.
+    /// Handles a record, and writes its output: after each call of an application what that call sent, and each event of `HOST`.
+    /// It allocates no memory.
+    ///
     /// Condition: a file's name has at most 40 bytes.
+    ///
+    /// Errors: `WriteFault` with the number of this step's bytes that the writer took; what was done before that write stands,
+    /// and the host is closed. A closed host does nothing and returns `sent: 0`.
     pub fn step<W: ByteSink>(&mut self, entry: &Record<'_>, out: &mut W) -> Result<(), WriteFault>
         requires between { IsBetween (shown B.meaning self.old) }
         requires named { IsNamed entry.now.body }
@@ -46,7 +49,7 @@ impl<B: App> Host<B> {
         }
     }
 
-    /// Handles a record as `step` does, and returns how many bytes were written, for writers that don't report it.
+    /// Handles a record as `step` does, and returns the number of bytes written.
     #[inline(always)]
     pub fn step_counted<W: ByteSink>(
         &mut self,
@@ -84,20 +87,20 @@ impl<B: App> Host<B> {
         self.handle(&entry.body, out)
     }
 
-    /// Begins a step at this moment, with no call counted.
+    /// Begins a step: the services get its moment, and no call is counted yet.
     #[inline(always)]
     fn begin_step(&mut self, moment: Moment)
         requires whole { IsWhole (shown B.meaning self.old) }
         ensures begun { StepHasBegun moment (shown B.meaning self.old) (shown B.meaning self.new) }
         ensures boxes { self.new.seats ≡ self.old.seats }
     {
-        // For the proof: tables and files are within their bounds, each under a name of its own.
+        // For the proof: tables and files are within their bounds, and no name is used twice.
         self.services.tables.is_service();
         self.services.moment = moment;
         self.calls = 0;
     }
 
-    /// What a record brings is handled.
+    /// Handles the record's body.
     #[inline(always)]
     fn handle<W: ByteSink>(&mut self, body: &Body<'_>, out: &mut W) -> Result<u64, WriteFault>
         requires whole { IsWhole (shown B.meaning self.old) }
@@ -119,7 +122,7 @@ impl<B: App> Host<B> {
         }
     }
 
-    /// Refuses a packet, obeys it as a command to a service, or passes it on to the applications.
+    /// A packet is refused, executed as a command to a service, or passed on to the applications.
     #[inline(always)]
     fn take_packet<W: ByteSink>(&mut self, packet: &[u8], out: &mut W) -> Result<u64, WriteFault>
         requires whole { IsWhole (shown B.meaning self.old) }
@@ -139,8 +142,7 @@ impl<B: App> Host<B> {
         }
     }
 
-    /// Refuses a packet with a fault, or with a message id that is the host's to send. Few packets are refused, so the reason
-    /// is found here, out of the way of all others.
+    /// Refuses a packet with one of the faults 1 to 7. Few packets have one, so its reason is found in this cold function.
     #[cold]
     #[inline(never)]
     fn refuse_faulty<W: ByteSink>(&mut self, packet: &[u8], out: &mut W) -> Result<u64, WriteFault>
@@ -162,8 +164,8 @@ impl<B: App> Host<B> {
         }
     }
 
-    /// Obeys a packet as a command to a service, or passes it on to the applications. Condition: it has no fault, and its
-    /// message id isn't the host's to send.
+    /// Executes a packet as a command to a service, or passes it on to the applications. Condition: it has none of the faults 1
+    /// to 7.
     #[inline(always)]
     fn route<W: ByteSink>(&mut self, packet: &[u8], out: &mut W) -> Result<u64, WriteFault>
         requires whole { IsWhole (shown B.meaning self.old) }

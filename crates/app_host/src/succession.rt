@@ -1,4 +1,4 @@
-//! Objects that give their seats back, and those that take them next.
+//! Objects that are retired from their seats, and those that take them next.
 
 ghost use Rattle.std.specs.Prelude.{◌≡◌, map, slice_set, IfSome, IsSomeAnd, IsSome, None, []};
 ghost use Rattle.app_host.specs.Calls.{IsObject};
@@ -14,13 +14,13 @@ use crate::objects::{retire, start};
 use crate::services::Services;
 use lc_model::Seat;
 
-/// Who takes a seat next.
+/// The object that takes a seat next.
 #[derive(Drop)]
 pub(crate) enum Successor<B: App> {
     Nobody,
     /// The spare at a place of the stock.
     Spare(usize, Seat),
-    /// An object that gave the seat back.
+    /// The object that was retired from the seat.
     Same(B, Seat),
 }
 
@@ -62,7 +62,7 @@ fn withdraw_at<B: App>(
     withdraw_in(&mut seats[seat.index()], seat, services)
 }
 
-/// An object starts, and is at a place from then on.
+/// Starts an object, and puts it into a place.
 fn begin_in<B: App>(place: &mut Option<B>, seat: Seat, services: &mut Services, app: B)
     requires { MayStartOn seat services.old (B.meaning app) }
     ensures { IsSomeAnd (object_in B.meaning place.new)
@@ -73,7 +73,7 @@ fn begin_in<B: App>(place: &mut Option<B>, seat: Seat, services: &mut Services, 
     *place = Some(app);
 }
 
-/// An object starts on a seat.
+/// Starts an object on a seat.
 fn begin_at<B: App>(
     seats: &mut [Option<B>; Seat::COUNT],
     seat: Seat,
@@ -101,15 +101,15 @@ impl<B: App> Host<B> {
             (B.meaning result) }
         ensures boxes { BoxHasGone B.meaning self.old.seats self.old.services seat }
     {
-        // For the proof: tables and files are within their bounds, each under a name of its own.
+        // For the proof: tables and files are within their bounds, and no name is used twice.
         self.services.tables.is_service();
         let app = withdraw_at(&mut self.seats, seat, &mut self.services);
-        // They are so after the call, too.
+        // The same holds after the call.
         self.services.tables.is_service();
         app
     }
 
-    /// An object begins on a seat that is free. Conditions: it holds no seat, and no seat has its name.
+    /// Starts an object on a free seat. Conditions: it holds no seat, and no seat has its name.
     fn begin(&mut self, seat: Seat, app: B)
         requires seated { AreSeated (shown B.meaning self.old).seats
             (shown B.meaning self.old).services }
@@ -118,16 +118,16 @@ impl<B: App> Host<B> {
         ensures { ObjectHasBegun seat (B.meaning app) (shown B.meaning self.old)
             (shown B.meaning self.new) }
     {
-        // For the proof: the object is of the kind that goes by its name, and tables and files are within their bounds, each
-        // under a name of its own.
+        // For the proof: the object has the name of its kind; tables and files are within their bounds, and no name is used
+        // twice.
         is_object(&app);
         self.services.tables.is_service();
         begin_at(&mut self.seats, seat, &mut self.services, app);
-        // They are so after the call, too.
+        // The same holds after the call.
         self.services.tables.is_service();
     }
 
-    /// The next one takes its seat; a spare leaves the stock for it.
+    /// Starts the next object on its seat; a spare leaves the stock for it.
     pub(crate) fn bring_in(&mut self, next: Successor<B>)
         requires seated { AreSeated (shown B.meaning self.old).seats
             (shown B.meaning self.old).services }

@@ -22,7 +22,7 @@ use lc_model::packet::function_code;
 use lc_model::{ByteSink, EventKind, name_in};
 use tbl_service::{TableError, Tables};
 
-/// What a command does with the file or the table that it names.
+/// The action of a command on the file or the table that it names.
 #[derive(Clone, Copy)]
 enum Action {
     /// Loads a file.
@@ -48,7 +48,7 @@ fn action_of(code: u8) -> Option<Action>
     }
 }
 
-/// Does this with the file or the table of this name.
+/// Does the action on the file or the table of this name.
 fn act(tables: &mut Tables, action: Action, name: &[u8]) -> Result<(), TableError>
     ensures answer { answered result tables.new ≡ table_commanded (command_of action name.now)
         tables.old }
@@ -62,8 +62,8 @@ fn act(tables: &mut Tables, action: Action, name: &[u8]) -> Result<(), TableErro
     }
 }
 
-/// Obeys a command to the table services, whose payload is 40 bytes of a name. It is refused with 151 for its code, 152 for its
-/// length, and then for the services' own reasons; a refused command changes nothing.
+/// Executes a command to the table services, whose payload is a name of 40 bytes. It is refused with 151 for its code, 152 for
+/// its length, and then with the services' own refusals; a refused command changes nothing.
 pub(crate) fn obey(tables: &mut Tables, packet: &[u8]) -> Result<(), Numbers>
     requires { command_header_size ≤ length packet.now }
     ensures answer { obeyed_by result tables.new ≡
@@ -84,7 +84,7 @@ pub(crate) fn obey(tables: &mut Tables, packet: &[u8]) -> Result<(), Numbers>
 }
 
 impl<B: App> Host<B> {
-    /// Obeys or refuses a command to the table services; `HOST` reports which.
+    /// Executes or refuses a command to the table services, and sends `HOST`'s event.
     #[inline(never)]
     pub(crate) fn obey_tables<W: ByteSink>(
         &mut self,
@@ -104,12 +104,12 @@ impl<B: App> Host<B> {
             self.old.services.tables)) (shown B.meaning self.old) (shown B.meaning self.new)
             (W.sink out.old).gained (W.sink out.new).gained result }
     {
-        // For the proof: what a table command does goes by the names of tables, and tables and files are within their bounds,
-        // each under a name of its own.
+        // For the proof: a table command acts by the names of tables; tables and files are within their bounds, and no name is
+        // used twice.
         table_commands_go_by_names();
         self.services.tables.is_service();
         let obeyed = obey(&mut self.services.tables, packet);
-        // They are so after the call, too.
+        // The same holds after the call.
         self.services.tables.is_service();
         match obeyed {
             Ok(()) => {

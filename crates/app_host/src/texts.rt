@@ -29,7 +29,7 @@ impl Service {
         }
     }
 
-    /// The id of the event for a command that was obeyed.
+    /// The id of the event for a command that was executed.
     pub(crate) fn done_id(self) -> u16
         ensures { result ≡ (service_titled self).done }
     {
@@ -52,7 +52,7 @@ impl Service {
     }
 }
 
-/// Event 1, of type error: why a packet of a stream is refused.
+/// Event 1, of type error: the fault for which a packet of a stream is refused.
 pub(crate) fn bad_packet(reason: u16) -> EventText
     ensures { Event host_name 1 Error result ≡ request.bad_packet reason }
 {
@@ -78,7 +78,7 @@ pub(crate) fn file_refused(numbers: &[u16]) -> EventText
     text
 }
 
-/// The service's event of type information: a command with this function code was obeyed.
+/// The service's event of type information: a command with this function code was executed.
 pub(crate) fn command_done(service: Service, code: u8) -> EventText
     ensures { Event host_name (service_titled service).done Information result ≡
         request.command_done (service_titled service) code }

@@ -4,21 +4,21 @@ use Rattle.lc_model.specs.Refusal.{Refusal, not_registered, filters_full, sender
 use Rattle.event_service.specs.declared.error.EventError.{EventError}
 use Rattle.event_service.specs.declared.error.EventError.TheVariants.{NotRegistered, FilterFull, AppsFull, Memory}
 
--- the number of the refusal; lack of memory has none
+-- The number of a refusal, 101 to 103; `None` for lack of memory.
 abbrev pub error_code : EventError → Option ℕ
 error_code NotRegistered = Some not_registered
 error_code FilterFull = Some filters_full
 error_code AppsFull = Some sender_taken
 error_code Memory = None
 
--- the numbers that an event names
+-- The refusal as numbers, for an event's text.
 abbrev pub refusal_of : EventError → Refusal
 refusal_of NotRegistered = not_registered ∷ []
 refusal_of FilterFull = filters_full ∷ []
 refusal_of AppsFull = sender_taken ∷ []
 refusal_of Memory = []
 
--- what a call returns: what there is now, or a refusal
+-- A call's result as one of the model: the state after it, or the refusal.
 abbrev pub answered : {A B : Type 0} → Result B EventError → A → Result A Refusal
 answered (Ok done) now = Ok now
 answered (Err error) now = Err (refusal_of error)

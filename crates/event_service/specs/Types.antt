@@ -5,11 +5,11 @@ use Rattle.lc_model.specs.Events.Log.{has_kind}
 use Rattle.lc_model.specs.Kept.Summary.{EventState}
 use Rattle.event_service.specs.declared.types.EventTypes.{EventTypes}
 
--- the bits of the types in a set
+-- The set of types as bits.
 abbrev pub bits_of : EventTypes → ℕ
 bits_of types = types.0
 
--- whether a sender with these types and filters has the type on; nobody has it on
+-- Whether the type is on for this sender; `false` without a sender.
 abbrev pub is_type_on : EventKind → Option EventState → Bool
 is_type_on kind None = false
 is_type_on kind (Some events) = has_kind events.on kind

@@ -1,4 +1,4 @@
-//! The texts of events, written without memory.
+//! The texts of events, written without allocating.
 
 ghost use Rattle.std.specs.Prelude.{◌≡◌, ◌+◌, ◌<◌, ◌≤◌, ◌*◌, ◌%◌, false, List, [], ◌∷◌, ◌++◌, length, codes, decimal};
 ghost use Rattle.std.specs.Fmt.{digit_glyph};

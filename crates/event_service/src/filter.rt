@@ -1,5 +1,5 @@
-//! Filters of event ids (cFE user's guide, event services, binary filters; that a count stops at 65,535, and begins again
-//! where its filter is set again, is this project's own).
+//! Filters of event ids (cFE user's guide, event services, binary filters; that a count stops at 65,535, and restarts when its
+//! filter is set again, is this project's own).
 
 ghost use Rattle.std.specs.Prelude.{◌≡◌, ◌==◌, ◌<◌, not, [], length, map, Some, IfSome, if◌then◌else◌};
 ghost use Rattle.std.specs.List.{position_from, list_any};
@@ -17,7 +17,7 @@ pub(crate) const MAX_FILTERS: usize = 16;
 /// The values of a byte.
 const LOW_BYTES: usize = 256;
 
-/// The filter of an id: its mask, and how often it was asked.
+/// The filter of an id: its mask, and the number of counted requests.
 #[derive(Clone, Copy, Debug, Default)]
 pub(crate) struct Filter {
     id: u16,
@@ -97,7 +97,7 @@ impl Filters {
         }
     }
 
-    /// Asks the filter of an id, where there is one, and returns whether the event is sent.
+    /// Counts a request at the filter of its id, if there is one, and returns whether the event is sent.
     pub(crate) fn ask(&mut self, id: u16) -> bool
         ensures open { result ≡ is_unfiltered (filter_of id self.old) }
         ensures after { self.new ≡ filters_with asked_once id self.old }
@@ -131,7 +131,7 @@ impl Filters {
     }
 }
 
-/// Asks the filter of the id, where there is one, and returns whether the event is sent.
+/// Counts a request at the filter of the id, if there is one, and returns whether the event is sent.
 fn ask_of(filters: &mut [Filter], id: u16, hint: usize) -> bool
     requires own_ids { HaveOwnIds filters.old }
     ensures open { result ≡ is_unfiltered (filter_of id filters.old) }

@@ -30,7 +30,7 @@ impl Model for SenderName {
 }
 
 impl SenderName {
-    /// Condition: at most 20 bytes.
+    /// The name of these bytes. Condition: at most 20 bytes.
     pub(crate) fn of(name: &[u8]) -> SenderName
         requires { length name.now ≤ app_name_size }
         ensures { result ≡ name.now }

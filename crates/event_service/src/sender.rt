@@ -21,12 +21,12 @@ use crate::types::EventTypes;
 use lc_model::{EventKind, Moment};
 use std::marker::Model;
 
-/// What changes the types or filters of a sender.
+/// A change of a sender's types or filters.
 #[derive(Clone, Copy)]
 pub(crate) enum Change {
-    /// The mask of an id's filter is set, and its count begins again.
+    /// The mask of an id's filter is set, and its count restarts.
     Filter { id: u16, mask: u16 },
-    /// All counts begin again.
+    /// All counts restart.
     Reset,
     /// Types are turned on or off.
     Types { types: EventTypes, on: bool },
@@ -54,7 +54,7 @@ impl Model for Sender {
 }
 
 impl Sender {
-    /// Without filters, all types but debug on.
+    /// A sender without filters, with all types but debug on.
     pub(crate) fn new(name: &[u8]) -> Sender
         requires { length name.now ≤ app_name_size }
         ensures { result ≡ record { name = name.now; events = new_sender } }
@@ -92,7 +92,7 @@ impl Sender {
         self.types.has(kind) && self.filters.ask(id)
     }
 
-    /// The packet of an event, where it is sent, after `sent` event packets.
+    /// The packet of an event, if it is sent, after `sent` event packets.
     pub(crate) fn ask(
         &mut self,
         sent: &mut u16,
@@ -119,7 +119,7 @@ impl Sender {
         Some(EventPacket::new(count, moment, &self.name, id, kind, text))
     }
 
-    /// Sends an event after `sent` event packets: its packet, where it is sent, is appended to `out`, which has room for it.
+    /// Sends an event after `sent` event packets: its packet, if it is sent, is appended to `out`, which has room for it.
     #[inline(always)]
     pub(crate) fn ask_into(
         &mut self,

@@ -1,4 +1,4 @@
-//! The event services: who sends events, at which seat, and the events that are sent (cFE user's guide, event services).
+//! The event services: the senders of events by seat, and the events that are sent (cFE user's guide, event services).
 
 ghost use Rattle.std.specs.Prelude.{◌≡◌, ◌+◌, ◌<◌, ◌≤◌, length, vec_capacity, IfErr, IfOk, IfSome, OnErr};
 ghost use Rattle.std.specs.List.{position_from};
@@ -23,8 +23,8 @@ use std::marker::Model;
 /// The name under which the host itself sends events.
 const HOST: &[u8] = b"HOST";
 
-/// Who sends events: `HOST` from the start, and at most one sender for each of the eight seats. Contracts see HOST's types
-/// and filters, the senders by seat, and how many event packets were sent, modulo 16,384.
+/// The event senders: `HOST` from the start, and at most one for each of the eight seats. Contracts see `HOST`'s types and
+/// filters, the senders by seat, and the number of event packets sent, modulo 16,384.
 #[derive(Debug, Drop)]
 pub struct Events {
     host: Sender,
@@ -102,10 +102,10 @@ impl Events {
         Ok(())
     }
 
-    /// Asks for an event of the seat's sender, or of `HOST` if `from` is `None`, with a text of at most 121 bytes. Returns its
-    /// packet, or `None` if the event isn't sent: nobody is registered at the seat, its type is off, or its id's filter holds
-    /// it back. A filter lets a request through if the number of requests before it has no bit in common with the mask.
-    /// Requests count from when the filter was set or reset, up to 65,535; those with their type off don't count. The packet's
+    /// Requests an event of the seat's sender, or of `HOST` if `from` is `None`, with a text of at most 121 bytes. Returns its
+    /// packet, or `None` if the event is not sent: no sender is registered at the seat, its type is off, or its id's filter
+    /// holds it back. A filter lets a request through if the number of requests before it has no bit in common with the mask.
+    /// Requests count from when the filter was set or reset, up to 65,535; those with their type off do not count. The packet's
     /// sequence count is the number of event packets sent before, modulo 16,384.
     ///
     /// Over every list of calls, the events that are sent are those that the log of each sender since its registration
@@ -131,7 +131,7 @@ impl Events {
         }
     }
 
-    /// Sends an event as `send` does, and appends its packet, where it is sent, to `out`. Condition: room for its 168 bytes.
+    /// Sends an event as `send` does, and appends its packet, if it is sent, to `out`. Condition: room for its 168 bytes.
     #[inline(always)]
     pub fn send_into(
         &mut self,

@@ -1,4 +1,4 @@
--- What the checker's faults and errors say of a text. This project's own.
+-- The checker's faults and errors as faults of a text. This project's own.
 use Rattle.std.specs.Prelude.{◌≡◌, ℕ, ◌⊎◌, Option, Some, None, option_map}
 use Rattle.lc_model.specs.Text.Meaning.{TextFault}
 use Rattle.field_checker.specs.declared.fault.Check.{Check}
@@ -7,7 +7,7 @@ use Rattle.field_checker.specs.declared.fault.CheckFault.{CheckFault}
 use Rattle.field_checker.specs.declared.error.CheckError.{CheckError}
 use Rattle.field_checker.specs.declared.error.CheckError.TheVariants.{DuplicateName, UnknownName, MidRange, ReservedMid, FieldOutside, MaskRange, ConstRange, NumberRange, LengthRange, Memory}
 
--- the number of a check
+-- The refusal number of each check.
 abbrev pub number_of_check : Check → ℕ
 number_of_check check.DuplicateName = 21
 number_of_check check.UnknownName = 22
@@ -19,11 +19,11 @@ number_of_check check.ConstRange = 27
 number_of_check check.NumberRange = 28
 number_of_check check.LengthRange = 29
 
--- the fault of a text that a fault of the program is
+-- The text's fault for a fault of the program.
 abbrev pub fault_of : CheckFault → TextFault
 fault_of f = record { code = number_of_check f.check; at = f.at }
 
--- the error that returns a fault
+-- The checker's error for a fault.
 abbrev pub error_of : CheckFault → CheckError
 error_of f = answer f.check f.at
   where
@@ -38,7 +38,7 @@ error_of f = answer f.check f.at
     answer check.NumberRange at = NumberRange at
     answer check.LengthRange at = LengthRange at
 
--- the fault of a text that an error is; lack of memory is none
+-- The text's fault for an error; `None` for lack of memory.
 abbrev pub text_fault_of : CheckError → Option TextFault
 text_fault_of (DuplicateName at) = Some (record { code = 21; at = at })
 text_fault_of (UnknownName at) = Some (record { code = 22; at = at })
@@ -51,10 +51,10 @@ text_fault_of (NumberRange at) = Some (record { code = 28; at = at })
 text_fault_of (LengthRange at) = Some (record { code = 29; at = at })
 text_fault_of Memory = None
 
--- the number of an error
+-- The refusal number of an error; `None` for lack of memory.
 abbrev pub error_code : CheckError → Option ℕ
 error_code error = option_map (λ (fault : TextFault). fault.code) (text_fault_of error)
 
--- lack of memory, or the fault that is expected
+-- The error is lack of memory, or the expected fault.
 abbrev pub IsFaultUnlessMemory : Option TextFault → CheckError → Type 0
 IsFaultUnlessMemory expected error = (error ≡ Memory) ⊎ (text_fault_of error ≡ expected)

@@ -1,4 +1,4 @@
--- What the checker's contracts cite.
+-- The definitions that this crate's contracts use.
 pub mod Fault
 pub mod Faults
 pub mod Index

@@ -1,5 +1,5 @@
--- The numbers of a rule text that have ranges of their own, and where one of them is out of its range. This project's own; the
--- ranges are those of the cFS Limit Checker's tables.
+-- The numbers of rules and stale ages, with their ranges. This project's own; the ranges are those of the cFS Limit Checker's
+-- tables.
 use Rattle.std.specs.Prelude.{◌≡◌, ℕ, codes, ⊤, Bool, true, false, ◌&&◌, ◌||◌, ◌==◌, List, Option, Some, None, option_map, pos, int_lt}
 use Rattle.std.specs.List.{Contains}
 use Rattle.std.specs.Option.{option_map_or}
@@ -9,7 +9,7 @@ use Rattle.field_checker.specs.declared.number.RuleNumber.TheVariants.{Fails, Se
 use Rattle.field_checker.specs.declared.error.CheckError.{CheckError}
 use Rattle.field_checker.specs.declared.error.CheckError.TheVariants.{NumberRange}
 
--- the range of each
+-- The least and the greatest valid value of each number.
 abbrev pub least_of : RuleNumber → ℕ
 least_of Fails = 1
 least_of Sequence = 1
@@ -28,7 +28,7 @@ most_of ReportPassToFail = 65_535
 most_of ReportFailToPass = 65_535
 most_of Stale = 4_294_967_295
 
--- what a message says of each
+-- The message for a number that is out of its range.
 abbrev pub number_text : RuleNumber → List ℕ
 number_text Fails = codes "`fails` takes 1 to 65,535"
 number_text Sequence = codes "`sequence` takes 1 to 65,535"
@@ -38,7 +38,7 @@ number_text ReportPassToFail = codes "the second number of `report` is 0 to 65,5
 number_text ReportFailToPass = codes "the third number of `report` is 0 to 65,535"
 number_text Stale = codes "`stale` takes 0 to 4,294,967,295"
 
--- the number of this kind that an item has, if it has one
+-- The item's number of this kind, if it has one.
 abbrev pub number_in : RuleNumber → Item → Option Number
 number_in Fails (Rule r) = Some r.fails
 number_in Sequence (Rule r) = Some r.sequence
@@ -49,11 +49,11 @@ number_in ReportFailToPass (Rule r) = option_map (λ report. report.fail_to_pass
 number_in Stale (Field f) = f.stale
 number_in number item = None
 
--- the number is less than the least, or more than the most
+-- Whether the number is out of its range.
 abbrev pub is_out_of_range : RuleNumber → Number → Bool
 is_out_of_range number n = int_lt n.value (pos (least_of number)) || int_lt (pos (most_of number)) n.value
 
--- one of the items has a number of this kind at this place, and it is out of its range
+-- One of the items has a number of this kind at place `at`, out of its range.
 pub record StandsOutside (items : List Item) (number : RuleNumber) (at : ℕ) : Type 0 where
   pub item : Item
   pub among : Contains items item
@@ -62,11 +62,11 @@ pub record StandsOutside (items : List Item) (number : RuleNumber) (at : ℕ) : 
   pub place : written.at ≡ at
   pub outside : is_out_of_range number written ≡ true
 
--- whether an item has a number of this kind at this place, out of its range
+-- Whether the item has such a number at place `at`.
 abbrev pub stands_at : RuleNumber → ℕ → Item → Bool
 stands_at number at item = option_map_or (λ (n : Number). n.at == at && is_out_of_range number n) (number_in number item) false
 
--- where an error says that a number is out of its range, there is one
+-- If the error is 28, one of the items has a number out of range at its place.
 abbrev pub NamesItsNumber : List Item → CheckError → Type 0
 NamesItsNumber items (NumberRange at) = (number : RuleNumber) × StandsOutside items number at
 NamesItsNumber items error = ⊤

@@ -16,15 +16,15 @@ use lc_model::{RuleSet, Rules};
 use rule_parser::RuleFile;
 use std::alloc::Global;
 
-/// The rules that the items of a rule text mean, in the text's order, with each name replaced by what it names. A name
-/// may be used before its declaration; where one is declared twice, the first packet or field of that name counts.
+/// The rules that the items of a rule text mean, in the text's order, with each name replaced by what it names. A name may be
+/// used before its declaration; if one is declared twice, the first packet or field of that name counts.
 ///
 /// Work: at most three look-ups for each name of the text, declared or used, and four for one declared again, in ordered maps:
 /// for `n` names in the order of `n log n` comparisons, whatever the names are. A comparison is mostly one of two hashes of the
 /// names. Memory: the maps, which are freed at the end, and the rules. The stack grows with the depth of the conditions.
 ///
-/// Errors: of all faults of all items the one at the least place, at one place the one with the least number. `number_at`
-/// finds the number that is out of its range. `Memory` where there is no memory for the names or the rules.
+/// Errors: of the faults of all items, the one at the least place; of several at one place, the one with the least number.
+/// `number_at` finds the number that is out of its range. `Memory` where there is no memory for the names or the rules.
 pub fn check(alloc: Global, file: &RuleFile) -> Result<RuleSet, CheckError>
     ensures means { IfOk result (λ set. Means (items_of file.now.items.items) set.rules) }
     ensures refused { IfErr result

@@ -1,4 +1,4 @@
-//! Why items have no rules.
+//! Why items do not mean rules.
 
 ghost use Rattle.std.specs.Prelude.{◌≡◌};
 ghost use Rattle.field_checker.specs.declared.error.CheckError.TheVariants.{Memory};
@@ -29,10 +29,10 @@ pub enum CheckError {
     /// A mask without a bit, or with one outside the field's type.
     #[error("the mask at {at} isn't in the field's type: 1 to 0xFF in 8 bits, to 0xFFFF in 16, to 0xFFFFFFFF in 32")]
     MaskRange { at: usize },
-    /// A comparison's number that the field's type doesn't have.
+    /// A comparison's number outside the range of the field's type.
     #[error("the number at {at} isn't in the field's type: u8 0 to 255, i8 -128 to 127, u16 0 to 65,535, i16 -32,768 to 32,767, u32 0 to 4,294,967,295, i32 -2,147,483,648 to 2,147,483,647")]
     ConstRange { at: usize },
-    /// A number of a rule, or a stale age, outside the range of its place in a table. `number_at` finds which number it is.
+    /// A number of a rule, or a stale age, that is out of its range. `number_at` finds which number it is.
     #[error("the number at {at} is out of range")]
     NumberRange { at: usize },
     /// A packet's length outside 12 to 2,048 bytes.

@@ -1,10 +1,10 @@
-//! What a check refuses, and which of two faults comes first.
+//! The checks, their faults, and the order of faults.
 
 ghost use Rattle.std.specs.Prelude.{◌≡◌};
 ghost use Rattle.lc_model.specs.Text.Meaning.{precedes};
 ghost use Rattle.field_checker.specs.Fault.{fault_of, number_of_check};
 
-/// What is checked of items.
+/// The checks of items.
 #[derive(Clone, Copy)]
 pub(crate) enum Check {
     DuplicateName,

@@ -11,7 +11,7 @@ use rule_parser::{FieldItem, Item, Name, PacketItem};
 use std::alloc::{AllocError, Global};
 use std::collections::BTreeMap;
 
-/// What the indexed packets and fields of one name declare.
+/// The declarations of one name by packets and fields.
 #[derive(Clone, Copy)]
 pub(crate) struct Declared<'f, 'a> {
     /// The least place at which one of them declares the name.
@@ -22,11 +22,11 @@ pub(crate) struct Declared<'f, 'a> {
     pub field: Option<&'f FieldItem<'a>>,
 }
 
-/// What some items declare, by the keys of names. Rules have a map of their own: conditions never name one, so a look-up for a
-/// condition needn't search among them.
+/// The declarations of some items, by the keys of names. Rules have a map of their own: conditions never name a rule, so a
+/// look-up for a condition need not search among them.
 #[derive(Drop)]
 pub(crate) struct Index<'f, 'a> {
-    /// What packets and fields declare.
+    /// The declarations of packets and fields.
     pub named: BTreeMap<(u64, &'a [u8]), Declared<'f, 'a>>,
     /// The least place at which a rule declares the name.
     pub rules: BTreeMap<(u64, &'a [u8]), usize>,
@@ -44,7 +44,7 @@ pub(crate) fn declared_name<'a>(item: &Item<'a>) -> Name<'a>
 }
 
 impl<'f, 'a> Declared<'f, 'a> {
-    /// What a packet alone declares.
+    /// The declaration of one packet.
     fn by_packet(packet: &'f PacketItem<'a>) -> Declared<'f, 'a>
         ensures { Declares (model.Packet (packet_of packet.now)) result }
     {
@@ -55,7 +55,7 @@ impl<'f, 'a> Declared<'f, 'a> {
         }
     }
 
-    /// What a field alone declares.
+    /// The declaration of one field.
     fn by_field(field: &'f FieldItem<'a>) -> Declared<'f, 'a>
         ensures { Declares (model.Field (field_of field.now)) result }
     {
@@ -66,7 +66,7 @@ impl<'f, 'a> Declared<'f, 'a> {
         }
     }
 
-    /// What these items declare together with those after them.
+    /// The declarations of these items and of those after them.
     fn with(self, behind: Declared<'f, 'a>) -> Declared<'f, 'a>
         ensures { result ≡ both self.entry behind.entry }
     {
@@ -78,7 +78,7 @@ impl<'f, 'a> Declared<'f, 'a> {
     }
 }
 
-/// Adds what a packet or a field declares under the name with this key, after all others. A new name costs one search.
+/// Adds the declaration of a packet or a field to the name with this key, after all others. A new name costs one search.
 fn insert<'f, 'a>(
     named: &mut BTreeMap<(u64, &'a [u8]), Declared<'f, 'a>>,
     key: (u64, &'a [u8]),
@@ -124,7 +124,7 @@ impl<'f, 'a> Index<'f, 'a> {
         }
     }
 
-    /// Takes in what one more item declares.
+    /// Adds the declaration of one more item.
     pub fn declare(&mut self, item: &'f Item<'a>) -> Result<(), AllocError>
         ensures { (items : List model.Item) → IsIndexOf self.old items →
             OnOk result (IsIndexOf self.new (items ++ item_of item.now ∷ [])) }

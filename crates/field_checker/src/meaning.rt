@@ -38,8 +38,8 @@ fn magnitude(number: Number) -> u32
     number.value.unsigned_abs() as u32
 }
 
-/// The watchpoint of a comparison with a packet's field. Where no mask is written it's all ones, and where no stale age
-/// is, 0: never.
+/// The watchpoint of a comparison with a packet's field. If no mask is written it is all ones; if no stale age is written it is
+/// 0, never.
 fn watchpoint(field: &FieldItem, packet: &PacketItem, comparison: &Comparison) -> Term
     requires { nat_abs packet.now.mid.value < 2 ^ 16 }
     ensures { let c = comparison.now in
@@ -69,8 +69,8 @@ fn term<'a>(names: &Names<'_, 'a>, comparison: &Comparison<'a>) -> Term
     watchpoint(field, packet, comparison)
 }
 
-/// The two conditions, in one box, with the names replaced by what they name. It is a function of its own, so that a comparison
-/// needs no stack for its locals.
+/// The two conditions, in one box, with resolved names. It is a function of its own, so that a comparison needs no stack for
+/// its locals.
 #[cycle(conditions)]
 fn operands<'a>(
     alloc: Global,
@@ -95,7 +95,7 @@ fn operands<'a>(
     Ok(Box::new(alloc, (first, second))?)
 }
 
-/// The condition, with the names replaced by what they name. The recursion is as deep as the condition.
+/// The condition, with resolved names. The recursion is as deep as the condition.
 #[cycle(conditions)]
 fn condition<'a>(
     alloc: Global,

@@ -12,8 +12,8 @@ use crate::key::key;
 use rule_parser::{FieldItem, Item, Name, PacketItem};
 use std::alloc::{AllocError, Global};
 
-/// The items of a file, with an index of what they declare. The comparisons of a look-up are at most logarithmic in the number
-/// of names, whatever the names are.
+/// The items of a file, with an index of their declarations. A look-up takes at most logarithmically many comparisons in the
+/// number of names, whatever the names are.
 #[derive(Drop)]
 pub(crate) struct Names<'f, 'a> {
     pub items: &'f [Item<'a>],
@@ -33,7 +33,7 @@ impl<'f, 'a> Names<'f, 'a> {
         Ok(Names { items, index })
     }
 
-    /// What packets and fields declare under the name, where one does.
+    /// The declarations of the name by packets and fields, if there are any.
     fn declarations_of(&self, name: Name<'a>) -> Option<&Declared<'f, 'a>>
         ensures { option_map (λ d. d.now) result ≡ at_name self.now.index.named
             name.entry.text.now }

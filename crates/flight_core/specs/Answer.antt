@@ -1,8 +1,8 @@
--- What may come next in a stream. The format of streams is this project's own.
+-- The next record of a stream. This project's own format.
 use Rattle.std.specs.Prelude.{ℕ}
 use Rattle.lc_model.specs.Host.Stream.{StreamEntry}
 
--- a record, or the number of what is no record
+-- A record, or the number of a bad one.
 pub data Answer : Type 0 where
   Entry : (entry : StreamEntry) → Answer
   Bad : (number : ℕ) → Answer

@@ -1,4 +1,4 @@
--- What a record of a stream brings to the host.
+-- The records of a stream as the host gets them.
 use Rattle.std.specs.Prelude.{◌≡◌, ℕ, ◌+◌, ◌<◌, ⊤, List, length, Option, Some, None}
 use Rattle.lc_model.specs.declared.kind.Kind.{Kind}
 use Rattle.lc_model.specs.declared.record.Record.{Record as Given}
@@ -16,16 +16,16 @@ use Rattle.flight_core.specs.Answer.{Answer, Entry}
 use Rattle.flight_core.specs.Found.{answer_of}
 use Rattle.flight_core.specs.Compiled.{file_in}
 
--- what files mean by their bytes, where the halves of texts are these files
+-- What files mean by their bytes, with these pairs as the compiled texts.
 abbrev pub meanings_of : List TablePair → FileMeanings (List ℕ)
 meanings_of pairs = byte_meanings (file_in pairs)
 
--- each file is as long as its headers and its image
+-- Each compiled file has exactly its headers and its image.
 abbrev pub AreWhole : List TablePair → Type 0
 AreWhole pairs = (kind : Kind) (number : ℕ) → number < length pairs →
     headers_length + size_in (meaning_of (file_in pairs kind number)) ≡ length (file_in pairs kind number)
 
--- a record as the host takes it
+-- The host gets the stream's record: the same moment and the same input, with a valid file name.
 pub record IsTaken (pairs : List TablePair) (found : Answer) (given : Given) : Type 0 where
   pub entry : StreamEntry
   pub is : found ≡ Entry entry
@@ -33,7 +33,7 @@ pub record IsTaken (pairs : List TablePair) (found : Answer) (given : Given) : T
   pub input : input_by given.body ≡ input_of (meanings_of pairs) entry.contents
   pub named : IsNamed given.body
 
--- where it is one
+-- The host gets a record if there is one, and nothing for a bad record.
 abbrev pub IsBrought : List TablePair → Found → Option Given → Type 0
 IsBrought pairs (Bad number) None = ⊤
 IsBrought pairs (Bad number) (Some given) = ⊥

@@ -1,4 +1,4 @@
--- What the result of a run says of how it ended, in plain values.
+-- The result of `run` as an `Ending`.
 use Rattle.std.specs.Prelude.{Result, Ok, Err}
 use Rattle.lc_model.specs.Host.Outcome.{Ending, Complete, Uncompiled, MetNoRecord, MetTheEnd, FailedToRead, FailedToWrite, ReachedTheBound, NoMemory}
 use Rattle.rpn_compiler.specs.Fault as fault
@@ -6,7 +6,7 @@ use Rattle.flight_core.specs.declared.error.Report.{Report}
 use Rattle.flight_core.specs.declared.error.RunError.{RunError}
 use Rattle.flight_core.specs.declared.error.RunError.TheVariants as error
 
--- the result as an ending
+-- Each result of `run` as its ending.
 abbrev pub ending_of : Result Report RunError → Ending
 ending_of (Ok report) = Complete report.records report.bytes
 ending_of (Err (error.Compile text refusal)) = Uncompiled text (fault.refusal_of refusal)

@@ -1,9 +1,9 @@
--- The numbers of what ends a run. This project's own.
+-- The numbers of a run's errors. This project's own.
 use Rattle.std.specs.Prelude.{ℕ, Option, Some, None}
 use Rattle.flight_core.specs.declared.error.RunError.{RunError}
 use Rattle.flight_core.specs.declared.error.RunError.TheVariants.{Compile, BadRecord, Truncated, Read, Write, ReadBound, Memory}
 
--- the number; lack of memory has none, and a text's refusal has the compiler's
+-- The error's number; lack of memory has none, and a refused text has the compiler's.
 abbrev pub error_code : RunError → Option ℕ
 error_code (Compile text error) = None
 error_code (BadRecord n) = Some 141

@@ -1,4 +1,4 @@
--- What a run of the host writes over records, and how it ends.
+-- The output of a run and its result.
 use Rattle.std.specs.Prelude.{◌≡◌, ℕ, ◌+◌, ◌-◌, List, [], ◌∷◌, length, All, Result, Ok, Err, ⊤}
 use Rattle.std.specs.List.{concat}
 use Rattle.lc_model.specs.Host.Outcome.{Devices, IsOutcome}
@@ -19,38 +19,39 @@ use Rattle.flight_core.specs.declared.error.RunError.TheVariants as error
 use Rattle.flight_core.specs.Brought.{meanings_of}
 use Rattle.flight_core.specs.Ending.{ending_of}
 
--- how a run ends for this reason, after these numbers of records and bytes, of which the last `held` bytes are still held
+-- The error of a run that stops for `halt`; `held` of the `bytes` written so far are still in the buffer and have not reached the
+-- device.
 abbrev pub stopped_by : Halt → (records bytes held : ℕ) → RunError
 stopped_by halt.NoRecord records bytes held = error.BadRecord (records + 1)
 stopped_by halt.Fault records bytes held = error.Read
 stopped_by halt.Bound records bytes held = error.ReadBound
 stopped_by (halt.Unsent sent) records bytes held = error.Write (bytes + sent - held)
 
--- how it ends with its stream, where these bytes are held
+-- The result at the end of the stream, with these bytes unread: complete, or cut inside a record.
 abbrev pub ended_by : List ℕ → Report → Result Report RunError
 ended_by [] report = Ok report
 ended_by (byte ∷ bytes) report = Err (error.Truncated (report.records + 1))
 
--- a run that has begun refuses no text, and lacks no memory
+-- A run that started returns neither a text's refusal nor `Memory`.
 abbrev pub RunHasBegun : Result Report RunError → Type 0
 RunHasBegun (Err (error.Compile text refusal)) = ⊥
 RunHasBegun (Err error.Memory) = ⊥
 RunHasBegun other = ⊤
 
--- what the host writes over these records
+-- The output of host `h` over these records.
 abbrev pub written_by : FileMeanings (List ℕ) → Hosted → List StreamEntry → List ℕ
 written_by meanings h entries = concat (written_from on_board (executive_in h) meanings entries)
 
--- this is what it writes over all records that a stream may bring
+-- `output` gives the output of host `h` over all records that a stream may bring.
 abbrev pub IsOutputOf : List TablePair → Hosted → (List StreamEntry → List ℕ) → Type 0
 IsOutputOf pairs h output = (entries : List StreamEntry) → AreBrought (length pairs) entries → written_by (meanings_of pairs) h entries ≡ output entries
 
--- all objects are this profile's, in stock and on the seats
+-- All objects, spares and running ones, are of this profile.
 pub record AreAllKnown (h : Hosted) : Type 0 where
   pub spares : All IsKnown h.stock
   pub seated : AreKnown h
 
--- with objects of this profile a run ends so, whatever definition says what the host writes
+-- If all objects are of this profile, the run ends as `IsOutcome` states, for every `output` that `IsOutputOf` describes.
 abbrev pub FliesSo : List TablePair → ℕ → Hosted → Devices → Result Report RunError → Type 0
 FliesSo pairs most h d result = AreAllKnown h → (output : List StreamEntry → List ℕ) → IsOutputOf pairs h output →
     IsOutcome (records_of (length pairs)) output most d (ending_of result)

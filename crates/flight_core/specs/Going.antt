@@ -1,4 +1,4 @@
--- What each step of a run leaves: a record that is handled, a piece that comes, and why it goes no further.
+-- The steps of a run: a record is handled, a piece is read, output is given to the device, or the run stops.
 use Rattle.std.specs.Prelude.{◌≡◌, ℕ, ◌+◌, ◌<◌, ◌≤◌, Bool, true, false, List, [], ◌++◌, length, take, Option, Some, None, Result, Ok, Err}
 use Rattle.std.specs.Io.KnownBytes.{Appends, Consumes, IsAtEnd, Keeps}
 use Rattle.lc_model.specs.Device.{Source, Sink}
@@ -18,7 +18,7 @@ use Rattle.flight_core.specs.Steps.{IsOneStep, IsCutStep}
 
 -- ---- the next record
 
--- it is in front, and goes: its bytes went last
+-- The next record is taken off the unread bytes.
 pub record IsNext (old new : Held) : Type 0 where
   pub entry : StreamEntry
   pub rest : List ℕ
@@ -27,7 +27,7 @@ pub record IsNext (old new : Held) : Type 0 where
   pub goes : new ≡ record old { bytes = rest; last = first_record old.bytes; count = next_number old }
 
 module _ (meanings : FileMeanings (List ℕ)) (held after : Held) (old new : Hosted) (before now : Sink) where
-  -- all that it leads to is written
+  -- The record was handled, and its whole output `part` was written.
   pub record IsHandled (total : ℕ) : Type 0 where
     pub next : IsNext held after
     pub between : IsBetween new
@@ -38,7 +38,7 @@ module _ (meanings : FileMeanings (List ℕ)) (held after : Held) (old new : Hos
     pub gains : Appends before.gained now.gained part
     pub counted : total ≡ length part
 
-  -- a write failed, after `sent` bytes of it
+  -- A write failed after `sent` bytes of the record's output.
   pub record IsCutShort (sent : ℕ) : Type 0 where
     pub next : IsNext held after
     pub between : IsBetween new
@@ -47,7 +47,7 @@ module _ (meanings : FileMeanings (List ℕ)) (held after : Held) (old new : Hos
     pub step : IsCutStep meanings next.entry sent old new part
     pub gains : Appends before.gained now.gained (take sent part)
 
-  -- no whole record is held
+  -- There is no whole record yet, fewer bytes are unread than a longest record has (11 + 65,536), and nothing changes.
   pub record NoneIsHeld : Type 0 where
     pub front : front_of held ≡ part_of held.bytes
     pub few : length held.bytes < 65547
@@ -55,14 +55,14 @@ module _ (meanings : FileMeanings (List ℕ)) (held after : Held) (old new : Hos
     pub host : new ≡ old
     pub idle : now ≡ before
 
-  -- what is held begins with what is no record; the bytes stay, and no more are taken
+  -- The next record is bad; its bytes stay, and no more are taken.
   pub record MeetsNone : Type 0 where
     pub front : front_of held ≡ NoRecord
     pub goes : after ≡ record held { is_bad = true }
     pub host : new ≡ old
     pub idle : now ≡ before
 
-  -- by the result
+  -- The effect, by the result.
   abbrev pub HandlesNext : Result (Option ℕ) Halt → Type 0
   HandlesNext (Ok (Some total)) = IsHandled total
   HandlesNext (Ok None) = NoneIsHeld
@@ -71,22 +71,23 @@ module _ (meanings : FileMeanings (List ℕ)) (held after : Held) (old new : Hos
   HandlesNext (Err halt.Fault) = ⊥
   HandlesNext (Err halt.Bound) = ⊥
 
--- ---- the output so far
+-- ---- collected output
 
 module _ (written : ℕ) (before after : Sink) (held left : List ℕ) where
-  -- all that was written is with the device
+  -- The device has taken all output.
   pub record IsSettled : Type 0 where
     pub keeps : Keeps (with_held before held).gained (with_held after left).gained
     pub none_left : 0 < written → left ≡ []
     pub fine : after.failed ≡ before.failed
 
-  -- the device failed: it has the first of what was held, and the rest is left
+  -- The device failed after a part of the collected output; the rest stays collected, and nothing of the next record's output
+  -- was taken.
   pub record IsHeldUp (sent : ℕ) : Type 0 where
     pub none_of_the_next : sent ≡ 0
     pub some : 0 < written
     pub stuck : IsStuck before after held left
 
-  -- by the result
+  -- `IsSettled` if no write failed, else `IsHeldUp`.
   abbrev pub Settles : Result (Unit {0}) Halt → Type 0
   Settles (Ok none) = IsSettled
   Settles (Err (halt.Unsent sent)) = IsHeldUp sent
@@ -94,7 +95,8 @@ module _ (written : ℕ) (before after : Sink) (held left : List ℕ) where
   Settles (Err halt.Fault) = ⊥
   Settles (Err halt.Bound) = ⊥
 
-  -- before a run goes no further for some reason all that was written is given; for which reason it then does
+  -- Before a run stops at a bad record, the device is given all output; if it fails then, that is the reason in place of the bad
+  -- record. For any other reason nothing more is given.
   abbrev pub EndsFor : Halt → Halt → Type 0
   EndsFor halt.NoRecord halt.NoRecord = IsSettled
   EndsFor halt.NoRecord (halt.Unsent sent) = IsHeldUp sent
@@ -105,7 +107,7 @@ module _ (written : ℕ) (before after : Sink) (held left : List ℕ) where
 -- ---- the next piece
 
 module _ (most : ℕ) (held after : Held) (before now : Source) where
-  -- it is held
+  -- A piece was read and appended.
   pub record Comes : Type 0 where
     pub piece : List ℕ
     pub took : Consumes before.rest now.rest piece
@@ -116,7 +118,7 @@ module _ (most : ℕ) (held after : Held) (before now : Source) where
     pub fine : now.failed ≡ before.failed
     pub one : now.reads ≡ before.reads + 1
 
-  -- the stream is at its end
+  -- The stream has ended.
   pub record IsOver : Type 0 where
     pub took : Consumes before.rest now.rest []
     pub at_the_end : IsAtEnd now.rest
@@ -124,18 +126,18 @@ module _ (most : ℕ) (held after : Held) (before now : Source) where
     pub fine : now.failed ≡ before.failed
     pub one : now.reads ≡ before.reads + 1
 
-  -- a read failed
+  -- A read failed.
   pub record IsBroken : Type 0 where
     pub took : Consumes before.rest now.rest []
     pub failed : now.failed ≡ true
     pub one : now.reads ≡ before.reads + 1
 
-  -- as many reads were made as may be
+  -- The most reads were made; no further one is.
   pub record IsAtBound : Type 0 where
     pub same : now ≡ before
     pub bound : before.reads ≡ most
 
-  -- by the result
+  -- The effect, by the result.
   abbrev pub TakesPiece : Result Bool Halt → Type 0
   TakesPiece (Ok true) = Comes
   TakesPiece (Ok false) = IsOver
@@ -144,21 +146,21 @@ module _ (most : ℕ) (held after : Held) (before now : Source) where
   TakesPiece (Err halt.NoRecord) = ⊥
   TakesPiece (Err (halt.Unsent sent)) = ⊥
 
--- ---- and the output before it
+-- ---- output before a read
 
 module _ (written most : ℕ) (records_held records_after : Held) (source source_after : Source) (before after : Sink) (held left : List ℕ) where
-  -- a read is made after all that was written, which is with the device
+  -- The device had all output before the read.
   pub record IsReadBehind (result : Result Bool Halt) : Type 0 where
     pub settled : IsSettled written before after held left
     pub piece : TakesPiece most records_held records_after source source_after result
 
-  -- the device failed, and nothing was read
+  -- The device failed, and nothing was read.
   pub record IsUnread (sent : ℕ) : Type 0 where
     pub held_up : IsHeldUp written before after held left sent
     pub source_same : source_after ≡ source
     pub records_same : records_after ≡ records_held
 
-  -- by the result
+  -- The effect, by the result.
   abbrev pub Refills : Result Bool Halt → Type 0
   Refills (Err (halt.Unsent sent)) = IsUnread sent
   Refills (Err halt.NoRecord) = IsReadBehind (Err halt.NoRecord)

@@ -1,4 +1,4 @@
--- What the contracts of streams in pieces cite.
+-- The definitions that this crate's contracts use.
 pub mod Window
 pub mod Front
 pub mod Answer

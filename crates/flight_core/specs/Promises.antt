@@ -1,4 +1,4 @@
--- What a run promises.
+-- What `run` promises.
 use Rattle.std.specs.Prelude.{◌≤◌, List, Result, IfErr}
 use Rattle.lc_model.specs.Host.Outcome.{Devices, Ending}
 use Rattle.lc_model.specs.Kept.Executive.{Member}
@@ -12,45 +12,49 @@ use Rattle.flight_core.specs.Failures.{TellsFailures}
 use Rattle.flight_core.specs.Fitting.{RefusesUnfitAlone}
 use Rattle.flight_core.specs.Steps.{AnswersForItsReason}
 
--- what a run promises with this profile's applications in stock
+-- What a run promises if the stock has only this profile's applications.
 pub record PromisesOfProfile (m : Mission) (d : Devices) (ending : Ending) : Type 0 where
-  -- how the run ends and what it leaves, for all texts and every stream, whatever fails
+  -- How the run ends and what it leaves, for all texts, every stream and failing devices.
   pub is_run : IsRun m d ending
-  -- where nothing fails, hashes are the texts' own and raw files carry halves: exactly the packets, byte for byte and in order,
-  -- that the rule texts in force call for
+  -- The headline. If nothing fails, no two texts have the same hash, and each sound raw file is a half of a text: `run` writes
+  -- exactly the packets, byte for byte and in order, that the rule texts in force call for.
   pub by_texts : WritesWhatIsCalledFor m d ending
-  -- where nothing fails, without premises on hashes and raw files: what the bytes of files call for
+  -- If nothing fails, but without the premises on hashes and raw files: `run` writes what the bytes of the files call for,
+  -- hostile tables included.
   pub by_bytes : WritesWhatBytesCallFor m d ending
-  -- with one text whose tables stay
+  -- If nothing fails, with one text whose tables never change: `run` writes what that text calls for, without the premises on
+  -- hashes and raw files.
   pub fixed_tables : WritesWithFixedTables m d ending
-  -- with the premises on hashes and raw files, whatever fails: over the bytes that were taken, what the texts call for, or the
-  -- first bytes of it
+  -- With the premises on hashes and raw files, but with devices that may fail: the output is what the texts call for over the
+  -- bytes that were read; after a failed write it is the first bytes of that.
   pub whatever_fails : FollowsTexts m d ending
-  -- a failed read or write is reported where one failed, and nowhere else, with how many bytes the writer took; the bound of reads
-  -- only after as many reads as may be made
+  -- A failed read (143) or write (144) is reported exactly if one failed, a failed write with the number of bytes that the
+  -- writer took; the bound of reads (145) is reported only after that many reads.
   pub failures : TellsFailures m.most_reads d ending
-  -- commands to event services and to the counter, and orders that name neither LC nor SCH, can't touch the sequence requests:
-  -- with others, or with none, these are the same
+  -- Asides (event commands, COUNTER commands, and executive commands that name neither LC nor SCH) do not change the sequence
+  -- requests: with different asides in the stream, or with none, the same requests are written.
   pub asides : IsNotTouchedByAsides m d ending
-  -- the same without premises on hashes and raw files
+  -- Without the premises on hashes and raw files: asides do not change the sequence requests that the bytes of the files call
+  -- for.
   pub asides_in_bytes : IsNotTouchedByAsidesInBytes m d ending
 
--- what a run promises with these objects in stock, whatever they are, and where the stock is of this profile
+-- What a run with result `result` promises: `profile` holds if the stock is of this profile, the other fields hold whatever is in
+-- stock.
 pub record Promises (OfProfile : Type 0) (AreInStock : List Member → Type 0) (m : Mission) (d : Devices) (result : Result Report RunError) : Type 0 where
   pub profile : OfProfile → PromisesOfProfile m d (ending_of result)
-  -- memory aside, the refused text is the first one that has no reading, or over 176 watchpoints or rules, or a rule of over 32
-  -- words, with the first reason that applies; none is refused for how many operands of a condition wait. Then, and for lack of
-  -- memory, nothing was read and nothing written
+  -- After `Compile` the text is the first that has no reading, has over 176 watchpoints or rules, or has a rule of over 32
+  -- words, and its refusal is the first that applies. After any result but `Compile` and `Memory` every text is within these
+  -- limits. No text is refused because of the stack depth of its equations. After `Compile` or `Memory` nothing was read or
+  -- written.
   pub refuses : RefusesUnfitAlone m.sources d (ending_of result)
-  -- for error 28, a number of a rule or a stale age that is out of its range: its place is that of such a number of the text
+  -- Refusal 28 has the place of a number in a rule, or of a stale age, that is out of its range.
   pub named : IfErr result (NamesTheNumber m.sources)
-  -- each record was one step of a host that began with this stock, whatever the applications are, and each result is given for
-  -- its reason alone: a failed read or write, no record or a cut one, and the bound of reads are reported only where they
-  -- occurred, with true numbers
+  -- Each record was one step of a host that began with this stock, whatever its applications are. Each ending is reported only
+  -- for its own cause: a failed read or write, a bad or cut record, or the bound of reads.
   pub reasons : AnswersForItsReason AreInStock m d (ending_of result)
-  -- however it ends: at most this many reads were made
+  -- At most `most_reads` reads were made, however the run ended.
   pub bounded : d.source_after.reads ≤ m.most_reads
 
--- a run as `IsRun` describes it keeps all these promises
+-- Every run that `IsRun` describes keeps all promises of `PromisesOfProfile`.
 abbrev pub RunsKeepTheirPromises : Type 0
 RunsKeepTheirPromises = (m : Mission) (d : Devices) (ending : Ending) → IsRun m d ending → PromisesOfProfile m d ending

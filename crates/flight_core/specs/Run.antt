@@ -1,4 +1,4 @@
--- What a run returns and leaves.
+-- The terms of `run`'s contract: what the call is given, and how it ends.
 use Rattle.std.specs.Prelude.{◌≡◌, ◌≢◌, ℕ, List, map, Result, Err, ⊤}
 use Rattle.std.specs.List.{AllByRecursion, concat}
 use Rattle.std.specs.Borrow.{Bor}
@@ -22,15 +22,16 @@ use Rattle.flight_core.specs.Brought.{meanings_of}
 use Rattle.flight_core.specs.Compiled.{sources_of}
 use Rattle.flight_core.specs.Ending.{ending_of}
 
--- objects without their seats
+-- The objects' names and states, without the seats that they hold.
 abbrev pub members_of : List Object → List Member
 members_of stock = map member_of stock
 
--- these objects are in stock
+-- `members` are exactly these objects, in this order.
 abbrev pub AreThese : List Object → List Member → Type 0
 AreThese stock members = members ≡ members_of stock
 
--- what is run: the texts, the schedule, the names of the objects in stock, and the most reads
+-- The mission of a call: the edition in use, its texts, its schedule, the names of its stock in order, and the most reads that
+-- it may make.
 abbrev pub mission_of : List (Bor (List ℕ)) → Schedule → List Object → ℕ → Mission
 mission_of texts schedule stock most = record {
   edition = edition;
@@ -40,31 +41,32 @@ mission_of texts schedule stock most = record {
   most_reads = most;
 }
 
--- the stock has this profile's objects alone, each under its name: Limit Checkers, schedulers with this schedule, and counters
+-- Each object in stock is a Limit Checker, a scheduler with this schedule, or a counter, under its own name.
 abbrev pub IsOfProfile : Schedule → List Object → Type 0
 IsOfProfile schedule stock = AllByRecursion (IsSpare (as_bytes layouts) schedule) (members_of stock)
 
--- none is an object of an unknown kind
+-- No object in stock is of another application than LC, SCH and COUNTER.
 abbrev pub AreOfProfile : List Object → Type 0
 AreOfProfile stock = AllByRecursion (λ (member : Member). member.state ≢ Other) (members_of stock)
 
--- this is what the host in numbers writes over all records that a stream may bring, with these objects in stock
+-- `output` is the function from records to bytes that the host in numbers computes, starting with `members` in stock; `pairs` are
+-- the compiled texts.
 abbrev pub IsOutputFrom : List TablePair → List Member → ℕ → (List StreamEntry → List ℕ) → Type 0
 IsOutputFrom pairs members texts output = (entries : List StreamEntry) → AreBrought texts entries →
     concat (written_from on_board (first_executive members) (meanings_of pairs) entries) ≡ output entries
 
--- how a run ends that has begun
+-- How a run that started ends: as `IsOutcome` states, with the output that the host in numbers computes from the records.
 abbrev pub EndsSo : List TablePair → List Member → ℕ → ℕ → Devices → Result Report RunError → Type 0
 EndsSo pairs members texts most d result = (output : List StreamEntry → List ℕ) → IsOutputFrom pairs members texts output →
     IsOutcome (records_of texts) output most d (ending_of result)
 
--- whatever is in stock, a run whose texts are compiled refuses no text, and for lack of memory nothing was read
+-- The result is no `Compile` refusal; if it is `Memory`, nothing was read or written.
 abbrev pub RefusesNone : Devices → Result Report RunError → Type 0
 RefusesNone d (Err (Compile text refusal)) = ⊥
 RefusesNone d (Err Memory) = IsUntouched d
 RefusesNone d other = ⊤
 
--- how a run ends whose texts are compiled: for lack of memory nothing was read
+-- The result of a run whose texts are compiled: for `Memory` nothing was read or written, else `EndsSo`.
 abbrev pub RunsSo : List TablePair → List Member → ℕ → ℕ → Devices → Result Report RunError → Type 0
 RunsSo pairs members texts most d (Err Memory) = IsUntouched d
 RunsSo pairs members texts most d result = EndsSo pairs members texts most d result

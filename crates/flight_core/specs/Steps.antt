@@ -1,4 +1,4 @@
--- What a run is whatever is in stock: each record is one step of the host, and each result is given for its reason alone.
+-- What holds of a run with any applications in stock: each record is one step of the host, and each ending has its cause.
 use Rattle.std.specs.Prelude.{◌≡◌, ◌⊎◌, ℕ, List, [], ◌∷◌, ◌++◌, length, take, Some, ⊤}
 use Rattle.std.specs.List.{concat}
 use Rattle.std.specs.Io.KnownBytes.{Consumes}
@@ -21,8 +21,8 @@ use Rattle.flight_core.specs.Compiled.{AreAllCompiled}
 
 -- ---- one record
 
--- one step from a host to the next: what it brings is what the record says, and these bytes are all that is written of it. Where
--- those that may take part are of this profile, what there is afterwards is exact.
+-- The host `old` handles record `entry` in one step, becomes `new` and writes `part`. If the applications that may take part are
+-- of this profile, `new` is exactly what the model gives.
 pub record IsOneStep (meanings : FileMeanings (List ℕ)) (entry : StreamEntry) (old new : Hosted) (part : List ℕ) : Type 0 where
   pub given : Given
   pub moment : given.moment ≡ entry.moment
@@ -31,7 +31,8 @@ pub record IsOneStep (meanings : FileMeanings (List ℕ)) (entry : StreamEntry) 
   pub between : IsBetween new
   pub exact : AreKnownIn (party_of (input_by given.body)) old → in_numbers new ≡ host_after on_board given.moment (in_numbers old) (input_by given.body)
 
--- the same if a write failed: the first `sent` of these bytes were written, and the host stopped at that write
+-- One step in which a write fails: only the first `sent` bytes of `part` are written, and the host is closed. If the
+-- applications that may take part are of this profile, the host is the model's at that write.
 pub record IsCutStep (meanings : FileMeanings (List ℕ)) (entry : StreamEntry) (sent : ℕ) (old new : Hosted) (part : List ℕ) : Type 0 where
   pub given : Given
   pub moment : given.moment ≡ entry.moment
@@ -43,14 +44,14 @@ pub record IsCutStep (meanings : FileMeanings (List ℕ)) (entry : StreamEntry) 
 
 -- ---- one record after the other
 
--- a step each, and what is written of each
+-- The host handles these records one by one; `parts` are the bytes written for each.
 unfoldable pub AreSteps : FileMeanings (List ℕ) → List StreamEntry → List (List ℕ) → Hosted → Hosted → Type 0
 AreSteps meanings [] [] first now = now ≡ first
 AreSteps meanings (entry ∷ entries) (part ∷ parts) first now = (mid : Hosted) × IsOneStep meanings entry first mid part × AreSteps meanings entries parts mid now
 AreSteps meanings [] (part ∷ parts) first now = ⊥
 AreSteps meanings (entry ∷ entries) [] first now = ⊥
 
--- the write failed inside the next record
+-- A write fails while the host handles the next record; `part` is what that record would have written.
 pub record IsCutBehind (meanings : FileMeanings (List ℕ)) (now : Hosted) (others : List StreamEntry) (part : List ℕ) : Type 0 where
   pub entry : StreamEntry
   pub rest : List StreamEntry
@@ -61,14 +62,14 @@ pub record IsCutBehind (meanings : FileMeanings (List ℕ)) (now : Hosted) (othe
 
 -- ---- a run
 
--- where no write failed all records were handled
+-- Unless a write failed, no record is left.
 abbrev pub AreNoneLeft : Ending → List StreamEntry → Type 0
 AreNoneLeft (FailedToWrite sent) others = ⊤
 AreNoneLeft other others = others ≡ []
 
--- from this host on a run is answered for its reason: the records of what was taken were handled, the first of them where a write
--- failed, one step each; their bytes, and those of the record in which a write failed, are what was to be written; and the answer
--- says why the run ended
+-- The run's ending has its cause. Of the bytes `come` that were read, the host handled the records `entries` one by one; these
+-- are all records, unless a write failed. The output is `parts`, then `part` of the record in which a write failed; `IsOutcome`
+-- holds for it.
 pub record IsForItsReason (texts : ℕ) (meanings : FileMeanings (List ℕ)) (first : Hosted) (most : ℕ) (d : Devices) (ending : Ending) : Type 0 where
   pub come : List ℕ
   pub took : Consumes d.source.rest d.source_after.rest come
@@ -83,19 +84,19 @@ pub record IsForItsReason (texts : ℕ) (meanings : FileMeanings (List ℕ)) (fi
   pub last : (part ≡ []) ⊎ IsCutBehind meanings now others part
   pub outcome : IsOutcome (records_of texts) (λ all. concat parts ++ part) most d ending
 
--- from a host that runs nothing yet, with these objects in stock
+-- The run's ending has its cause, for a host that began with these members in stock and nothing running.
 pub record IsRunForItsReason (pairs : List TablePair) (members : List Member) (most : ℕ) (d : Devices) (ending : Ending) : Type 0 where
   pub first : Hosted
   pub begins : in_numbers first ≡ first_host members
   pub reason : IsForItsReason (length pairs) (meanings_of pairs) first most d ending
 
--- unless a text was refused, or there was no memory
+-- `IsRunForItsReason`, unless a text was refused or there was no memory; those endings claim nothing here.
 abbrev pub RunsForItsReason : List TablePair → List Member → ℕ → Devices → Ending → Type 0
 RunsForItsReason pairs members most d (Uncompiled text refusal) = ⊤
 RunsForItsReason pairs members most d NoMemory = ⊤
 RunsForItsReason pairs members most d ending = IsRunForItsReason pairs members most d ending
 
--- with the files of all texts, and with objects in stock of which this is so
+-- The run's ending has its cause, for the compiled texts of the mission and a stock of which `AreInStock` holds.
 pub record IsAnsweredForItsReason (AreInStock : List Member → Type 0) (m : Mission) (d : Devices) (ending : Ending) : Type 0 where
   pub pairs : List TablePair
   pub compiled : AreAllCompiled m.sources pairs
@@ -103,6 +104,7 @@ pub record IsAnsweredForItsReason (AreInStock : List Member → Type 0) (m : Mis
   pub stock : AreInStock members
   pub run : IsRunForItsReason pairs members m.most_reads d ending
 
+-- `IsAnsweredForItsReason`, unless a text was refused or there was no memory; those endings claim nothing here.
 abbrev pub AnswersForItsReason : (List Member → Type 0) → Mission → Devices → Ending → Type 0
 AnswersForItsReason AreInStock m d (Uncompiled text refusal) = ⊤
 AnswersForItsReason AreInStock m d NoMemory = ⊤

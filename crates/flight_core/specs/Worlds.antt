@@ -1,5 +1,5 @@
--- A host between two records stands for the world that its records so far have made of the rule texts, and the bytes that it
--- writes for the next record are the packets that this world sends.
+-- Law: between two records the host agrees with the world that its records so far give, by the rule texts; and for the next
+-- record it writes the packets that this world sends.
 use Rattle.std.specs.Prelude.{◌≡◌, ℕ, List, [], ◌∷◌, length, take, map}
 use Rattle.std.specs.List.{AllByRecursion, concat}
 use Rattle.std.specs.Io.KnownBytes.{Appends}
@@ -26,28 +26,28 @@ use Rattle.app_host.specs.Hosted.{Hosted, in_numbers}
 use Rattle.app_host.specs.Step.{StepsWhole, StepsPart}
 use Rattle.flight_core.specs.Flight.{AreAllKnown}
 
--- ---- what is on board
+-- ---- texts and files
 
--- a schedule, rule texts that are read and have hashes of their own, and the files that were compiled of them
+-- A schedule, texts with their rules and different hashes, and their compiled files.
 pub record AreOnBoard (schedule : Schedule) (texts : List Text) (compiled : Kind → ℕ → List ℕ) : Type 0 where
   pub slots : IsShort schedule
   pub read : AreRead texts
   pub hashes : HaveOwnHashes texts
   pub files : AreCompiledFiles edition texts compiled
 
--- a record brings bytes or a half of these texts, and its raw file carries a half of one of them where it is sound
+-- The record brings bytes or a half of one of these texts, and a sound raw file carries a half of one of them.
 pub record BringsHalves (texts : List Text) (contents : Contents) : Type 0 where
   pub brought : IsBrought (length texts) contents
   pub carries : (name : Name) (bytes : List ℕ) → contents ≡ File name bytes → CarriesHalf layouts texts bytes
 
--- all of them do
+-- Every record brings such contents.
 abbrev pub AllBringHalves : List Text → List StreamEntry → Type 0
 AllBringHalves texts entries = AllByRecursion (λ (entry : StreamEntry). BringsHalves texts entry.contents) entries
 
--- ---- a host and a world
+-- ---- host and world
 
--- The host stands for this world of the rule texts: the world of files' bytes goes with it, image by image; the host's services,
--- seats and stock are what that one's lists come to; and all its objects are of this profile.
+-- Host `h` stands for world `w`, which is by texts: there is a world by bytes that is related to `w` image by image and that the
+-- host's numbers agree with, and all objects are of this profile.
 pub record StandsFor (schedule : Schedule) (texts : List Text) (w : World TextImage) (h : Hosted) : Type 0 where
   pub bytes : World (List ℕ)
   pub alike : WorldAlike (IsImageOf layouts texts) (as_bytes layouts) (as_halves layouts) bytes w
@@ -55,33 +55,34 @@ pub record StandsFor (schedule : Schedule) (texts : List Text) (w : World TextIm
   pub whole : IsWhole (as_bytes layouts) AreBytes bytes
   pub known : AreAllKnown h
 
--- a new host with this stock, all of this profile
+-- A new host with this stock, which is of this profile.
 pub record IsFirst (schedule : Schedule) (stock : List Member) (h : Hosted) : Type 0 where
   pub host : in_numbers h ≡ first_host stock
   pub profile : AllByRecursion (IsSpare (as_bytes layouts) schedule) stock
 
 module _ (schedule : Schedule) (texts : List Text) (compiled : Kind → ℕ → List ℕ) where
-  -- what a record brings, in bytes; the world after it, and what that one sends
+  -- The record as an input by bytes.
   abbrev pub brought_by : Contents → Input (List ℕ)
   brought_by contents = input_of (byte_meanings compiled) contents
 
+  -- The world after the record, with the packets sent, by texts.
   abbrev pub sent_for : Moment → Contents → World TextImage → Sent TextImage
   sent_for moment contents w = handled (as_halves layouts) schedule moment (input_of (text_meanings layouts texts) contents) w
 
-  -- a whole step: the host stands for the world afterwards, and was given the packets that it sends
+  -- After a step the host stands for the new world, and has written the packets that this world sends.
   pub record FollowsTheWorld (moment : Moment) (contents : Contents) (w : World TextImage) (new : Hosted) (before now : Sink) : Type 0 where
     pub stands : StandsFor schedule texts (sent_for moment contents w).0 new
     pub gains : Appends before.gained now.gained (concat (sent_for moment contents w).1)
 
-  -- the host takes these records, one after the other, each whole
+  -- The host handles these records one by one, and no write fails.
   pub data Takes : Hosted → List StreamEntry → Hosted → Type 0 where
     none : {h : Hosted} → Takes h [] h
     one : {old between new : Hosted} {entry : StreamEntry} {entries : List StreamEntry} (before now : Sink) →
         StepsWhole entry.moment (brought_by entry.contents) old between before now → Takes between entries new →
         Takes old (entry ∷ entries) new
 
-  -- so it begins, goes on with each record, and stands after them for the world of its history; a step whose write fails gave the
-  -- first of these bytes
+  -- A new host stands for the first world; each record keeps this; and after any records the host stands for the world of its
+  -- history. If a write fails, the bytes written are the first of what the world sends.
   pub record StandForTheTexts : Type 0 where
     pub begins : (stock : List Member) (h : Hosted) → IsFirst schedule stock h →
         StandsFor schedule texts (first_world (map (λ (member : Member). member.called) stock)) h
@@ -96,6 +97,7 @@ module _ (schedule : Schedule) (texts : List Text) (compiled : Kind → ℕ → 
         StandsFor schedule texts w old → AllBringHalves texts entries → Takes old entries new →
         StandsFor schedule texts (world_after (as_halves layouts) schedule w (text_meanings layouts texts) entries) new
 
+-- Law: for every schedule, texts with different hashes, and their compiled files, hosts stand for the worlds by these texts.
 abbrev pub HostsStandForTheTexts : Type 0
 HostsStandForTheTexts = (schedule : Schedule) (texts : List Text) (compiled : Kind → ℕ → List ℕ) →
     AreOnBoard schedule texts compiled → StandForTheTexts schedule texts compiled

@@ -1,4 +1,4 @@
-//! What a record of a stream brings to the host.
+//! Turns what was read off a stream into a record for the host.
 
 ghost use Rattle.std.specs.Prelude.{◌≡◌, length};
 ghost use Rattle.flight_core.specs.Found.{IsShortNamed, NamesText};
@@ -9,7 +9,7 @@ use crate::found::Found;
 use lc_model::{Body, Kind, Record};
 use rpn_compiler::TablePair;
 
-/// The file of the table of this kind.
+/// The pair's file for this table.
 fn file(pair: &TablePair, kind: Kind) -> &[u8]
     ensures { result.now ≡ file_of kind pair.now }
 {
@@ -19,7 +19,7 @@ fn file(pair: &TablePair, kind: Kind) -> &[u8]
     }
 }
 
-/// The record that was found, with the compiled file in the place of a half; `None` if what was found is no record.
+/// The record for the host: a half becomes the compiled file that it names. `None` for a bad record.
 #[inline(always)]
 pub(crate) fn record_of<'a>(found: Found<'a>, pairs: &'a [TablePair]) -> Option<Record<'a>>
     requires named { IsShortNamed found }

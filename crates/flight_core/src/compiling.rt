@@ -1,4 +1,4 @@
-//! All rule texts of a run are compiled.
+//! Compiles all rule texts of a run.
 
 ghost use Rattle.std.specs.Prelude.{◌≡◌, ◌<◌, length, slice_get, IfErr, IfOk, Some};
 ghost use Rattle.flight_core.specs.Compiled.{sources_of, refusal_for, AreAllCompiled, IsNotCompiled};
@@ -7,7 +7,7 @@ use crate::error::RunError;
 use rpn_compiler::{CompileError, TablePair, compile};
 use std::alloc::Global;
 
-/// The error if the text with this number does not compile.
+/// The run's error for a text that the compiler refused.
 fn refusal(text: usize, error: CompileError) -> RunError
     ensures { result ≡ refusal_for text error }
 {
@@ -17,7 +17,7 @@ fn refusal(text: usize, error: CompileError) -> RunError
     }
 }
 
-/// The text with this number.
+/// The text `number`.
 fn text_at<'a>(texts: &[&'a [u8]], number: usize) -> &'a [u8]
     requires { number < length texts.now }
     ensures { slice_get (sources_of texts.now) number ≡ Some result.now }
@@ -25,8 +25,9 @@ fn text_at<'a>(texts: &[&'a [u8]], number: usize) -> &'a [u8]
     texts[number]
 }
 
-/// The table files of all texts, in order; or the first text that does not compile, numbered from 0, with its error. It takes
-/// all the memory that they need.
+/// Compiles all texts, in order, and allocates the memory for their table files.
+///
+/// Errors: `Compile` with the first text that does not compile, numbered from 0, and `Memory`.
 pub(crate) fn compile_all(alloc: Global, texts: &[&[u8]]) -> Result<Vec<TablePair>, RunError>
     ensures compiled { IfOk result (λ pairs. AreAllCompiled (sources_of texts.now) pairs.items) }
     ensures refused { IfErr result (IsNotCompiled (sources_of texts.now)) }

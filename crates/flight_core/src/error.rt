@@ -1,4 +1,4 @@
-//! How a run ends.
+//! The result of a run.
 
 ghost use Rattle.std.specs.Prelude.{◌≡◌};
 ghost use Rattle.flight_core.specs.Error.{error_code};
@@ -8,34 +8,34 @@ use rpn_compiler::CompileError;
 use std::alloc::AllocError;
 use thiserror::Error;
 
-/// What a run did.
+/// The counts of a run that came to the end of its stream.
 #[derive(Clone, Copy, Debug, PartialEq, Eq)]
 pub struct Report {
-    /// Records that were handled.
+    /// The number of records handled.
     pub records: u64,
-    /// Bytes that were written.
+    /// The number of bytes written.
     pub bytes: u128,
 }
 
-/// Why a run did not come to the end of its stream. Records count from 1, texts from 0.
+/// Why a run ended before the end of its stream. Records are numbered from 1, texts from 0.
 #[derive(Clone, Copy, Debug, PartialEq, Eq, Error)]
 pub enum RunError {
     /// A rule text does not compile; nothing was read.
     #[error("text {text}: {error}")]
     Compile { text: usize, error: CompileError },
-    /// Record `n` is not a record: another kind, a length that does not fit, another half, or a text that is not there.
+    /// Record `n` is bad: its kind, its length, its half or its text number is not valid.
     #[error("record {n} is none")]
     BadRecord { n: u64 },
     /// The stream ends inside a record.
     #[error("the stream ends inside record {n}")]
     Truncated { n: u64 },
-    /// A read failed. The output of the records before it stands.
+    /// A read failed. The output of the earlier records has been written.
     #[error("a read failed")]
     Read,
-    /// A write failed, after the writer had taken `sent` bytes of the run.
+    /// A write failed; the writer took `sent` bytes of this run.
     #[error("a write failed behind {sent} bytes")]
     Write { sent: u128 },
-    /// The run made as many reads as it may, and the stream has not ended.
+    /// The most reads were made, and the stream has not ended.
     #[error("the stream has not ended after as many reads as may be made")]
     ReadBound,
     /// Out of memory; nothing was read.
@@ -52,8 +52,7 @@ impl From<AllocError> for RunError {
 }
 
 impl RunError {
-    /// Returns the number of what ended the run, 141 to 145, or `None` for `Memory`, and for a text's refusal, which has the
-    /// compiler's number.
+    /// Returns the error's number, 141 to 145; `None` for `Memory`, and for `Compile`, which has the compiler's number.
     pub fn code(self) -> Option<u8>
         ensures { result ≡ error_code self }
     {

@@ -1,4 +1,4 @@
-//! A host that is fed: its stream comes in pieces, as the caller has them, and each call handles one record.
+//! A host whose stream the caller feeds in pieces, and which handles one record a call.
 
 ghost use Rattle.std.specs.Prelude.{◌≡◌, ◌≤◌, false, true, length, IfErr, IfOk};
 ghost use Rattle.app_host.specs.Hosted.{objects_in, shown};
@@ -18,7 +18,7 @@ use lc_model::ByteSink;
 use rpn_compiler::TablePair;
 use std::alloc::Global;
 
-/// A host, what is held of its stream, and the files of its rule texts. Contracts see it as these three (`Feeding`).
+/// A host, the unread bytes of its stream, and the table files of its rule texts. Contracts see it as `Feeding`.
 #[derive(Drop)]
 pub struct FedHost<B: App = Box<dyn App>> {
     host: Host<B>,
@@ -27,8 +27,10 @@ pub struct FedHost<B: App = Box<dyn App>> {
 }
 
 impl<B: App> FedHost<B> {
-    /// Compiles the rule texts, and creates a host with these applications in stock and nothing of a stream. It allocates all
-    /// memory that it ever needs. Condition: none of the applications holds a seat.
+    /// Compiles the rule texts, and creates a host with these applications as spares and an empty stream. It allocates all memory
+    /// that it ever needs.
+    ///
+    /// Condition: none of the applications holds a seat.
     ///
     /// Errors: `Compile` with the first text that does not compile, numbered from 0, and `Memory`.
     pub fn new(alloc: Global, texts: &[&[u8]], stock: Vec<B>) -> Result<FedHost<B>, RunError>
@@ -50,8 +52,8 @@ impl<B: App> FedHost<B> {
         }
     }
 
-    /// Takes a piece of the stream, and returns how many of its bytes it took: as many as leave at most 73,739 bytes held,
-    /// which are a longest record and a piece of 8,192 bytes. After what is no record it takes nothing.
+    /// Appends the start of `piece` to the unread bytes, as much as leaves at most 73,739 of them (a longest record and a piece
+    /// of 8,192 bytes), and returns the number of bytes taken. After a bad record it takes none.
     pub fn feed(&mut self, piece: &[u8]) -> usize
         requires ready { IsReady (feeding_of B.meaning self.old) }
         ensures ready { IsReady (feeding_of B.meaning self.new) }
@@ -63,10 +65,11 @@ impl<B: App> FedHost<B> {
         self.records.feed(piece)
     }
 
-    /// Handles the next record, if a whole one is held, writes what it leads to, and returns the number of these bytes; `None`
-    /// if no whole record is held. If a write fails, the host is closed, and handles no record from then on.
-    /// Errors: `NoRecord` if what comes next is no record, now and at each further call; `Unsent` with the bytes that were
-    /// written before a write failed, and with 0 if the host was closed before.
+    /// Handles the next record and writes its output, and returns the number of bytes written; `None` if the unread bytes have no
+    /// whole record. A failed write closes the host, which then handles no more records.
+    ///
+    /// Errors: `NoRecord` if the next record is bad, at this and each later call; `Unsent` with the number of the record's bytes
+    /// that were written before a write failed, 0 if the host was already closed.
     pub fn handle<W: ByteSink>(&mut self, writer: &mut W) -> Result<Option<u64>, Halt>
         requires ready { IsReady (feeding_of B.meaning self.old) }
         ensures ready { IsReady (feeding_of B.meaning self.new) }
@@ -84,14 +87,14 @@ impl<B: App> FedHost<B> {
         )
     }
 
-    /// The bytes of the record that was handled last, until a piece comes: its header, and its body.
+    /// The bytes, header and body, of the record that was handled last; empty after the next piece.
     pub fn last_record(&self) -> &[u8]
         ensures { result.now ≡ (feeding_of B.meaning self.now).held.last }
     {
         self.records.last_record()
     }
 
-    /// How many bytes are held: never more than 73,739.
+    /// The number of unread bytes, at most 73,739.
     pub fn held_size(&self) -> usize
         ensures held { result ≡ length (feeding_of B.meaning self.now).held.bytes }
         ensures few { length (feeding_of B.meaning self.now).held.bytes ≤ most_held }
@@ -99,21 +102,21 @@ impl<B: App> FedHost<B> {
         self.records.held()
     }
 
-    /// How many records were handled, up to 2^64 - 1; the one in which a write failed is among them.
+    /// The number of records handled, up to 2^64 - 1, with the one in which a write failed.
     pub fn records(&self) -> u64
         ensures { result ≡ (feeding_of B.meaning self.now).held.count }
     {
         self.records.count()
     }
 
-    /// The table files of the rule texts, in order.
+    /// The compiled table files of the rule texts, in order.
     pub fn files(&self) -> &[TablePair]
         ensures { result.now ≡ (feeding_of B.meaning self.now).files }
     {
         &self.pairs[..]
     }
 
-    /// The host, as it is after the records so far.
+    /// The host, as the records so far have left it.
     pub fn host(&self) -> &Host<B>
         ensures { shown B.meaning result.now ≡ (feeding_of B.meaning self.now).host }
     {
@@ -133,7 +136,7 @@ impl<B: App> FedHost<B> {
     }
 }
 
-/// Handles the next record, where a whole one is held and the host isn't closed.
+/// Handles the next record, if there is a whole one and the host is open.
 fn handle_one<W: ByteSink, B: App>(
     records: &mut Records,
     pairs: &[TablePair],

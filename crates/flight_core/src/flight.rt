@@ -1,4 +1,4 @@
-//! All records of a stream, one after the other.
+//! Handles all records of a stream.
 
 ghost use Rattle.std.specs.Prelude.{◌≡◌, ◌+◌, ◌*◌, ◌^◌, ◌<◌, ◌≤◌, false, [], length, Err};
 ghost use Rattle.lc_model.specs.Host.Outcome.{devices};
@@ -22,7 +22,7 @@ use host_refinement::{goes_on, records_of_bytes_are_fine, writes_are_the_steps};
 use lc_model::{ByteSink, ByteSource};
 use rpn_compiler::TablePair;
 
-/// The error of a run that halts so, after the records of the report, while `held` bytes of their output are still held.
+/// The error of a run that stops for `halt` after the counts of `report`; `held` bytes of its output have not reached the device.
 fn run_error(halt: Halt, report: Report, held: usize) -> RunError
     requires records { report.records + 1 < 2 ^ 64 }
     requires bytes { report.bytes + 2 ^ 64 < 2 ^ 128 }
@@ -40,8 +40,8 @@ fn run_error(halt: Halt, report: Report, held: usize) -> RunError
     }
 }
 
-/// Handles all records of the source: all whole ones of a piece before the next read. Before each read, and before the call
-/// returns, the device behind the sink has all output.
+/// Handles all records of the source: all whole records of a piece before the next read. Before each read, and before the call
+/// returns, all output has been given to the device.
 pub(crate) fn handle_all<R: ByteSource, T: ByteSink, O: Outlet<T>, B: App>(
     records: &mut Records,
     room: &mut [u8],
@@ -101,7 +101,7 @@ pub(crate) fn handle_all<R: ByteSource, T: ByteSink, O: Outlet<T>, B: App>(
     }
 }
 
-/// How a run ends at the end of its stream, after the records of the report.
+/// The result at the end of the stream: complete, or cut inside a record if bytes are left.
 fn result_at_end(records: &Records, report: Report) -> Result<Report, RunError>
     requires records { report.records + 1 < 2 ^ 64 }
     ensures so { result ≡ ended_by records.now.bytes report }

@@ -1,4 +1,4 @@
-//! What is taken off a stream.
+//! The records that are read off a stream.
 
 ghost use Rattle.std.specs.Prelude.{◌≡◌, ℕ, ◌==◌, ◌-◌, ◌≤◌, length, take, Some};
 ghost use Rattle.std.specs.List.{position_or_len};
@@ -12,21 +12,20 @@ use crate::front::Shape;
 use lc_model::stream::{HEADER, NAME, moment_of};
 use lc_model::{Body, Kind, Moment, Record, name_in};
 
-/// The next record of a stream, or the number of what is no record. Bytes and names are lent from where they lie.
+/// The next record of a stream, or the number of a bad one. It borrows its bytes and names from the buffer.
 #[derive(Clone, Copy, Debug, PartialEq, Eq)]
 pub enum Found<'a> {
     /// A packet, a tick or a file, with its moment.
     Record(Record<'a>),
-    /// At this moment the table file of this half of the rule text with this number, from 0, is to be stored under this name.
+    /// The compiled table file of this half of text `text`, numbered from 0, is to be stored under `name`.
     Half {
         moment: Moment,
-        /// The bytes before the first zero byte of the 40 that stand for a name.
+        /// The file name: the bytes before the first zero byte of its 40-byte field.
         name: &'a [u8],
         kind: Kind,
         text: usize,
     },
-    /// Record `n` is not a record: another kind, a length that doesn't fit, another half, or a text that isn't there. Records
-    /// count from 1, and `n` stops at 2^64 - 1.
+    /// Record `n`, numbered from 1 up to 2^64 - 1, is bad: its kind, its length, its half or its text number is not valid.
     Bad {
         n: u64,
     },
@@ -41,7 +40,7 @@ fn front_name(body: &[u8]) -> &[u8]
     name_in(&body[..NAME])
 }
 
-/// What a whole record of this shape brings.
+/// The record of this shape in these bytes.
 #[inline(always)]
 pub(crate) fn read_off(shape: Shape, bytes: &[u8]) -> Found<'_>
     requires long { header_size ≤ length bytes.now }

@@ -1,4 +1,4 @@
-//! What stands at the front of a stream (this project's own format).
+//! Judges the next record of a stream (this project's own format).
 
 ghost use Rattle.std.specs.Prelude.{◌≡◌, ◌+◌, ◌≤◌, true, length, take, slice_index, option_map, IfSome};
 ghost use Rattle.lc_model.specs.Bytes.{u16_at};
@@ -9,28 +9,28 @@ ghost use Rattle.flight_core.specs.Front.{contents_by, HasName, IsFront, IsOfTex
 use lc_model::stream::{HALF, HEADER, NAME, body_size, fits_body};
 use lc_model::{Kind, u16_at};
 
-/// What a whole record brings.
+/// The kind of a whole record.
 #[derive(Clone, Copy)]
 pub(crate) enum Shape {
     Packet,
     Tick,
     File,
-    /// The file of this table of the rule text with this number.
+    /// The file of this table of text `text`.
     Half { kind: Kind, text: usize },
 }
 
-/// What stands at the front of some bytes.
+/// What the unread bytes begin with.
 #[derive(Clone, Copy)]
 pub(crate) enum Front {
-    /// Nothing, or the beginning of a record.
+    /// Nothing, or a part of a record.
     Part,
-    /// No record, whatever follows.
+    /// A bad record, whatever follows.
     NoRecord,
     /// A whole record of `size` bytes.
     Record { shape: Shape, size: usize },
 }
 
-/// The half that a body names, if there is such a half and a text with this number; `texts` is the number of texts.
+/// The half that a body of kind 4 names; `None` if there is no such half, or no such text among `texts`.
 #[inline(never)]
 fn half(texts: usize, body: &[u8]) -> Option<Shape>
     requires { length body.now ≡ HALF }
@@ -57,7 +57,7 @@ fn half(texts: usize, body: &[u8]) -> Option<Shape>
     }
 }
 
-/// What a record of this kind brings by its body; `texts` is the number of texts.
+/// The shape of a record with this kind and body, among `texts` texts; `None` if its half or text number is not valid.
 #[inline(always)]
 fn shape_of(texts: usize, kind: u8, body: &[u8]) -> Option<Shape>
     requires { fits_body all_kinds kind (length body.now) ≡ true }
@@ -73,7 +73,7 @@ fn shape_of(texts: usize, kind: u8, body: &[u8]) -> Option<Shape>
     }
 }
 
-/// What stands at the front of the bytes; `texts` is the number of texts.
+/// Judges the next record; `texts` is the number of texts.
 #[inline(always)]
 pub(crate) fn front_of(texts: usize, bytes: &[u8]) -> Front
     ensures { IsFront texts bytes.now result }

@@ -1,4 +1,4 @@
-//! Output is gathered, and comes to its device in few writes.
+//! Output is collected, and given to its device in few writes.
 
 ghost use Rattle.std.specs.Prelude.{◌≡◌, ◌≤◌, ℕ, List, [], length, Option, vec_capacity};
 ghost use Rattle.flight_core.specs.Gathered.{Gives, HasGrown, most_gathered, with_held};
@@ -8,10 +8,10 @@ use crate::window::drop_front;
 use lc_model::{ByteSink, DeviceFault, write_all};
 use std::marker::{Brand, PhantomData};
 
-/// The most bytes that are held: what a piece of the stream leads to where each of its records leads to an event.
+/// The most bytes collected.
 pub(crate) const MOST_GATHERED: usize = 65_536;
 
-/// What a device had when a run began, where that is known. No code reads it.
+/// What the device had taken when the run began, if that is known. For proofs; no code reads it.
 pub(crate) trait Outset {
     ghost had: { Option (List ℕ) };
 }
@@ -22,8 +22,8 @@ impl Outset for Brand {
     ghost had = { None };
 }
 
-/// A device, and the output that is held for it: what is written fills 65,536 bytes before the device is asked.
-/// Nothing is lost, and nothing is given twice.
+/// A device with a buffer for its output: the device is written to only when 65,536 bytes have been collected, or by `settle`.
+/// Each byte is written once.
 #[derive(Drop)]
 pub(crate) struct Gathered<W: ByteSink, S: Outset> {
     device: W,
@@ -35,7 +35,7 @@ pub(crate) struct Gathered<W: ByteSink, S: Outset> {
 }
 
 impl<W: ByteSink, S: Outset> Gathered<W, S> {
-    /// Creates it with nothing held. Conditions: the buffer is empty, with room for a piece.
+    /// Creates it with an empty buffer. Condition: `held` is empty and has room for 65,536 bytes.
     pub fn new(device: W, held: Vec<u8>) -> Gathered<W, S>
         requires empty { held.items ≡ [] }
         requires room { MOST_GATHERED ≤ vec_capacity held }
@@ -50,7 +50,7 @@ impl<W: ByteSink, S: Outset> Gathered<W, S> {
         }
     }
 
-    /// Returns the device, and drops what is held.
+    /// Returns the device, and drops the buffer.
     pub fn into_device(self) -> W
         ensures { result ≡ self.device }
     {
@@ -62,7 +62,7 @@ impl<W: ByteSink, S: Outset> Gathered<W, S> {
         device
     }
 
-    /// Gives the device all that is held.
+    /// Writes all collected bytes to the device.
     fn give(&mut self) -> Result<(), DeviceFault>
         ensures { Gives (W.sink self.old.device) (W.sink self.new.device) self.old.held.items
             self.new.held.items result }
@@ -98,7 +98,7 @@ impl<W: ByteSink, S: Outset> ByteSink for Gathered<W, S> {
     }
 }
 
-/// Output is gathered.
+/// The outlet of collected output.
 pub(crate) struct Gathering;
 
 impl<W: ByteSink, S: Outset> Outlet<Gathered<W, S>> for Gathering {

@@ -1,4 +1,4 @@
-//! A whole run whose output is gathered for its device.
+//! A whole run whose output is collected for its device.
 
 ghost use Rattle.std.specs.Prelude.{◌≡◌, ◌≤◌, false, [], vec_capacity};
 ghost use Rattle.lc_model.specs.Host.Outcome.{devices};
@@ -18,7 +18,7 @@ use schedules::Schedule;
 use std::alloc::Global;
 use std::marker::Brand;
 
-/// Runs with this buffer, which is empty and has room for a piece.
+/// Runs with this buffer, which is empty and has room for 65,536 bytes.
 fn run_with_buffer<R: ByteSource, W: ByteSink, S: Outset, B: App>(
     alloc: Global,
     texts: &[&[u8]],
@@ -51,13 +51,13 @@ fn run_with_buffer<R: ByteSource, W: ByteSink, S: Outset, B: App>(
     (answer, out.into_device())
 }
 
-/// Runs as `run` does, with few writes to the device, which is returned: output is held until it fills 65,536 bytes. Before
-/// each read of the stream, and before the call returns, the device has all output. If the device fails, nothing is read any
-/// more, and `Write` has the bytes of the run that the device took. Each byte is given once.
+/// Runs as `run` does, but with few writes: output is collected up to 65,536 bytes. The device, which is returned, has all output
+/// before each read of the stream and before the call returns. If the device fails, nothing more is read, and `Write` has the
+/// number of this run's bytes that it took. Each byte is written once.
 ///
 /// Conditions: nothing in stock holds a seat; nothing was read or failed yet.
 ///
-/// Errors: those of `run`, where `Write` comes before every other.
+/// Errors: those of `run`; `Write` comes before every other.
 pub fn run_gathered<R: ByteSource, W: ByteSink, B: App>(
     alloc: Global,
     texts: &[&[u8]],
@@ -71,7 +71,7 @@ pub fn run_gathered<R: ByteSource, W: ByteSink, B: App>(
     requires readable { (R.source reader.old).failed ≡ false }
     requires writable { (W.sink device).failed ≡ false }
 
-    // All that a run promises, of the device itself: the fields of `Promises` and of `PromisesOfProfile`.
+    // All promises of a run, for the device itself: the fields of `Promises` and of `PromisesOfProfile`.
     ensures promises { let objects = objects_in B.meaning stock.items in
         let mission = mission_of texts.now schedule.now objects MOST_READS in
         let before_and_after = devices (R.source reader.old) (R.source reader.new) (W.sink device)

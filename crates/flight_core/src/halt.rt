@@ -1,14 +1,14 @@
-//! Why a run goes no further.
+//! Why a run stops.
 
-/// Why a run goes no further.
+/// Why a run stops.
 #[derive(Clone, Copy, Debug, PartialEq, Eq)]
 pub enum Halt {
-    /// What comes next is no record.
+    /// The next record is bad.
     NoRecord,
     /// A read failed.
     Fault,
-    /// The run made as many reads as it may.
+    /// The most reads were made.
     Bound,
-    /// A write failed, after this many bytes of those that the record leads to.
+    /// A write failed after this many bytes of the record's output.
     Unsent(u64),
 }

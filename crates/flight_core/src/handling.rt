@@ -1,4 +1,4 @@
-//! The next record of those that are held is handled.
+//! Handles the next record.
 
 ghost use Rattle.std.specs.Prelude.{◌≡◌, false, length};
 ghost use Rattle.app_host.specs.Hosted.{shown};
@@ -15,7 +15,7 @@ use app_host::{App, Host};
 use lc_model::ByteSink;
 use rpn_compiler::TablePair;
 
-/// Handles the next record, where a whole one is held, and returns how many bytes were written.
+/// Handles the next record, and returns the number of bytes written; `None` if there is no whole record yet.
 #[inline(always)]
 pub(crate) fn handle_next<W: ByteSink, B: App>(
     records: &mut Records,

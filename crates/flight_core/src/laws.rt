@@ -1,4 +1,4 @@
-//! However a stream is cut into pieces, the records that are taken off it are those of the whole.
+//! Laws: however a stream is cut into pieces, its records are those of the whole stream.
 
 ghost use Rattle.flight_core.specs.Cutting.{Begins, Comes, EndsBadly, EndsCut, EndsWhole, EveryCutting, Goes};
 ghost use Rattle.flight_core.specs.Promises.{RunsKeepTheirPromises};
@@ -6,38 +6,38 @@ ghost use Rattle.flight_core.specs.Worlds.{HostsStandForTheTexts};
 
 use host_refinement::{begins_as_the_world, keeps_to_the_world, records_of_bytes_are_fine};
 
-/// Bytes come and records are handed out, one after the other: whatever follows, the records of it all are those handed out,
-/// and then those of what is held and what follows.
+/// Law: at any time the records of the whole stream are those handed out so far, and then those of the unread bytes and whatever
+/// follows. It holds at the start, after each piece and after each record.
 pub fn records_are_handed_out()
     ensures begins { Begins }
     ensures comes { Comes }
     ensures goes { Goes }
 {}
 
-/// What stands in front of what is held when no more comes says how the records of all that has come end; what is no record
-/// ends them whatever follows.
+/// Law: when the stream has ended, the unread bytes tell how: none after a whole record, a part of a record (142), or a bad
+/// record (141), which ends it whatever follows.
 pub fn the_rest_says_the_end()
     ensures bad { EndsBadly }
     ensures whole { EndsWhole }
     ensures cut { EndsCut }
 {}
 
-/// The same holds for every list of calls.
+/// Law: for every list of calls of `Records`, the records handed out, their count and a bad record are those of the whole stream.
 pub fn every_cutting_has_the_records_of_the_whole()
     ensures { EveryCutting }
 {}
 
-/// All that a run of this profile's applications promises follows from how it ends.
+/// Law: the promises of a run with this profile's stock follow from `IsRun`.
 pub fn runs_keep_their_promises()
     ensures { RunsKeepTheirPromises }
 {}
 
-/// Between two records a host stands for the world that its records so far have made of the rule texts, and the bytes that it
-/// writes for the next one are the packets that this world sends: what `Host::step` promises, by the texts.
+/// Law: between two records the host agrees with the world that its records so far give, by the rule texts; and for the next
+/// record `Host::step` writes exactly the packets that this world sends.
 pub fn hosts_stand_for_the_texts()
     ensures { HostsStandForTheTexts }
 {
-    // For the proof: each record keeps the host in numbers to the world.
+    // For the proof: each record keeps the host in numbers and the world in agreement.
     begins_as_the_world();
     keeps_to_the_world();
     records_of_bytes_are_fine();

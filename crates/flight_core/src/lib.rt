@@ -1,4 +1,4 @@
-//! A run of the host, below its program: rule texts are compiled, and the records of a stream that comes in pieces are handled.
+//! A run of the host: rule texts are compiled, and the records of a stream, which is read in pieces, are handled.
 #![tactic(auto)]
 
 mod bringing;

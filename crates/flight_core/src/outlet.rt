@@ -1,4 +1,4 @@
-//! How output comes from a sink to the device behind it.
+//! How output reaches the device of a sink.
 
 ghost use Rattle.std.specs.Prelude.{◌≡◌, ℕ, List, length, Option};
 ghost use Rattle.lc_model.specs.Device.{Sink};
@@ -6,31 +6,32 @@ ghost use Rattle.flight_core.specs.Gathered.{Gives, MayHold, with_held};
 
 use lc_model::{ByteSink, DeviceFault};
 
-/// How what a sink takes comes to the device behind it.
+/// The device of a sink `T`, and the output that the sink has collected for it.
 pub(crate) trait Outlet<T: ByteSink> {
-    // The device behind a sink, and what the sink still holds for it.
+    // The sink's device, and the output that is collected for it.
     ghost device: { T → Sink };
 
     ghost held: { T → List ℕ };
-    // Whether the device had this when the run began.
+    // Whether the device had taken this when the run began.
     ghost Had: { Option (List ℕ) → Type 0 };
 
-    /// Gives the device all that is held. A device that fails has taken the first of it, and is not asked again.
+    /// Writes all collected output to the device. If the device fails, it has taken a part from the start, the rest stays
+    /// collected, and it is not written to again.
     fn settle(out: &mut T) -> Result<(), DeviceFault>
         ensures { Gives (device out.old) (device out.new) (held out.old) (held out.new) result };
 
-    /// How many bytes are held.
+    /// The number of bytes collected.
     fn held_in(out: &T) -> usize
         ensures { result ≡ length (held out.now) };
 
-    // As a sink it shows what the device has, and after it what is held.
+    // As a sink, it has gained the bytes that the device has taken, and then those that are collected.
     ghost shows: { (out : T) → T.sink out ≡ with_held (device out) (held out) };
-    // Nothing is held, or the device still begins with what it had.
+    // Nothing is collected, or the device's bytes begin with those that it had at the start.
     ghost grows: { (out : T) (had : Option (List ℕ)) → Had had →
         MayHold had (device out).gained (held out) };
 }
 
-/// Each write goes to the device at once: nothing is held.
+/// Each write goes to the device at once; nothing is collected.
 pub(crate) struct AtOnce;
 
 impl<W: ByteSink> Outlet<W> for AtOnce {

@@ -1,4 +1,4 @@
-//! A stream comes in pieces.
+//! Reads a stream in pieces.
 
 ghost use Rattle.std.specs.Prelude.{◌≡◌, ◌+◌, ◌<◌, ◌≤◌, false, length};
 ghost use Rattle.lc_model.specs.Host.Stream.{header_size, max_body};
@@ -17,7 +17,7 @@ pub const MOST_READS: u64 = 4_294_967_296;
 /// The most bytes of a piece.
 pub(crate) const PIECE: usize = stream::PIECE;
 
-/// The bytes are below 256: it reads each of them, and does nothing.
+/// For the proof, each byte is below 256. The loop reads the bytes and does nothing else.
 fn are_bytes(bytes: &[u8])
     ensures { AreBytes bytes.now }
 {
@@ -26,8 +26,9 @@ fn are_bytes(bytes: &[u8])
     }
 }
 
-/// Reads a piece of a stream, and appends it to what is held. Returns whether one came: none does at the end. Condition: fewer
-/// bytes than a longest record are held.
+/// Reads a piece of the stream into `records`, and returns whether there was one; `false` at the end of the stream.
+///
+/// Condition: the unread bytes are fewer than a longest record.
 pub(crate) fn take_piece<R: ByteSource>(
     records: &mut Records,
     room: &mut [u8],
@@ -51,7 +52,7 @@ pub(crate) fn take_piece<R: ByteSource>(
         Ok(0) => Ok(false),
         Ok(count) => {
             let piece = &room[..count];
-            // For the proof: what was read are bytes.
+            // For the proof: what was read is bytes.
             are_bytes(piece);
             records.feed(piece);
             Ok(true)
@@ -60,8 +61,8 @@ pub(crate) fn take_piece<R: ByteSource>(
     }
 }
 
-/// Takes the next piece. First the device is given what is held of the output so far, which is `written` bytes in all. A
-/// device that fails ends the run, and nothing is read.
+/// Writes the collected output to the device, and then reads the next piece; `written` is the number of bytes of output so far.
+/// If the device fails, the run ends and nothing is read.
 #[inline(never)]
 pub(crate) fn refill<R: ByteSource, T: ByteSink, O: Outlet<T>>(
     records: &mut Records,

@@ -1,4 +1,4 @@
-//! Records of a stream that comes in pieces.
+//! The records of a stream that comes in pieces.
 
 ghost use Rattle.std.specs.Prelude.{◌≡◌, ◌≤◌, ◌<◌, ◌+◌, false, length, IfOk, IfSome, IsNone};
 ghost use Rattle.std.specs.Borrow.{sem};
@@ -15,11 +15,11 @@ use crate::window::{MOST_HELD, Window};
 use std::alloc::{AllocError, Global};
 use std::marker::Model;
 
-/// The records of a stream, whatever the pieces in which it comes.
+/// The records of a stream, however it is cut into pieces.
 ///
-/// A piece is appended to what is held, and each record is judged and handed out where it lies. The time of all calls is a
-/// constant for each byte and each call. Contracts see what is held (`Held`): its bytes, how many records were handed out,
-/// whether what comes next was found to be no record, how many rule texts there are, and what was handed out last.
+/// A piece is appended to the unread bytes, and each record is judged and lent in place. The cost of all calls is a constant for
+/// each byte and each call. Contracts see it as `Held`: the unread bytes, the number of records handed out, whether the next
+/// record is bad, the number of rule texts, and the record handed out last.
 #[derive(Drop)]
 pub struct Records {
     window: Window,
@@ -44,8 +44,8 @@ impl Model for Records {
 }
 
 impl Records {
-    /// Creates it with nothing held, for a stream with halves of `texts` rule texts, numbered from 0. It allocates all memory
-    /// that it ever needs; out of memory is the only error.
+    /// Creates it for an empty stream that may name halves of `texts` rule texts. It allocates all memory that it ever needs;
+    /// running out of it is the only error.
     pub fn new(alloc: Global, texts: usize) -> Result<Records, AllocError>
         ensures { IfOk result (λ records. records ≡ nothing_held texts) }
     {
@@ -57,8 +57,8 @@ impl Records {
         })
     }
 
-    /// Takes a piece of the stream, and returns how many of its bytes it took: as many as leave at most 73,739 bytes held,
-    /// which are a longest record and a piece of 8,192 bytes. After what is no record it takes nothing.
+    /// Appends the start of `piece` to the unread bytes, as much as leaves at most 73,739 of them (a longest record and a piece
+    /// of 8,192 bytes), and returns the number of bytes taken. After a bad record it takes none.
     pub fn feed(&mut self, piece: &[u8]) -> usize
         ensures taken { result ≡ length (taken_of self.old piece.now) }
         ensures fed { self.new ≡ fed self.old piece.now }
@@ -78,8 +78,8 @@ impl Records {
         taken
     }
 
-    /// Takes the record at the front and lends it from where it lies; or reports that what stands there is no record, now and
-    /// at each further call. `None` if no whole record is held, and what is held may yet become one.
+    /// Takes the next record off the unread bytes and lends it in place. Returns `Bad` for a bad record, at this and each later
+    /// call, and `None` if no whole record is there yet.
     #[inline(always)]
     pub fn next(&mut self) -> Option<Found<'_>>
         ensures found { answer_in result ≡ next_answer self.old }
@@ -107,7 +107,7 @@ impl Records {
         }
     }
 
-    /// The bytes of the record that was handed out last, until more comes: its header, and its body.
+    /// The bytes, header and body, of the record handed out last; empty after the next piece.
     pub fn last_record(&self) -> &[u8]
         ensures { result.now ≡ self.now.last }
     {
@@ -121,7 +121,7 @@ impl Records {
         self.count
     }
 
-    /// How many bytes are held.
+    /// The number of unread bytes.
     pub fn held(&self) -> usize
         ensures held { result ≡ length self.now.bytes }
         ensures few { length self.now.bytes ≤ most_held }

@@ -30,14 +30,14 @@ use schedules::Schedule;
 use std::alloc::Global;
 use std::mem::size_of_val;
 
-/// Whether the type fits in memory: each type that has a value does.
+/// Whether the type fits in memory, as every type with a value does.
 fn fits_in_memory<T>(none: &Option<T>) -> bool
     ensures { result ≡ true → FitsInMemory T.row }
 {
     size_of_val(none) <= isize::MAX as usize
 }
 
-/// Whether a host of such applications fits in memory.
+/// Whether a host of these applications fits in memory.
 fn host_fits<B: App>() -> bool
     ensures { result ≡ true → HostFits B.row }
 {
@@ -45,7 +45,7 @@ fn host_fits<B: App>() -> bool
     fits_in_memory(&none)
 }
 
-/// Takes all memory, and then handles all records, with these files in the places of halves.
+/// Allocates all memory, and handles all records; `pairs` are the compiled texts.
 fn run_compiled<R: ByteSource, T: ByteSink, O: Outlet<T>, B: App>(
     alloc: Global,
     pairs: &[TablePair],
@@ -75,8 +75,7 @@ fn run_compiled<R: ByteSource, T: ByteSink, O: Outlet<T>, B: App>(
         (O.device out.new)) result }
     ensures bounded { (R.source reader.new).reads ≤ reads }
 {
-    // Always true, and known at compile time. From it the proof knows that a host fits in memory, whatever its applications
-    // are.
+    // Always true, and known at compile time. It shows the proof that a host fits in memory, whatever its applications are.
     if !host_fits::<B>() {
         return Err(RunError::Memory);
     }
@@ -100,7 +99,9 @@ fn run_compiled<R: ByteSource, T: ByteSink, O: Outlet<T>, B: App>(
     }
 }
 
-/// Runs as `run` does, with at most this many reads, up to 2^32.
+/// Runs as `run` does, with at most `reads` reads.
+///
+/// Condition: `reads` is at most 2^32.
 pub fn run_within<R: ByteSource, W: ByteSink, B: App>(
     alloc: Global,
     texts: &[&[u8]],
@@ -116,7 +117,7 @@ pub fn run_within<R: ByteSource, W: ByteSink, B: App>(
     requires writable { (W.sink writer.old).failed ≡ false }
     requires most { reads ≤ MOST_READS }
 
-    // All that a run promises: the fields of `Promises` and of `PromisesOfProfile`, each with its comment there.
+    // All promises of a run: the fields of `Promises` and of `PromisesOfProfile`, which have comments.
     ensures promises { let objects = objects_in B.meaning stock.items in
         let mission = mission_of texts.now schedule.now objects reads in
         let before_and_after = devices (R.source reader.old) (R.source reader.new)
@@ -129,7 +130,7 @@ pub fn run_within<R: ByteSource, W: ByteSink, B: App>(
     run_texts::<R, W, AtOnce, B>(alloc, texts, schedule, stock, reader, writer, reads)
 }
 
-/// Compiles the texts, and runs.
+/// Compiles the texts, and handles all records.
 pub(crate) fn run_texts<R: ByteSource, T: ByteSink, O: Outlet<T>, B: App>(
     alloc: Global,
     texts: &[&[u8]],
@@ -162,7 +163,7 @@ pub(crate) fn run_texts<R: ByteSource, T: ByteSink, O: Outlet<T>, B: App>(
 {
     // For the proof: the host in numbers writes what a mission calls for.
     writes_a_mission();
-    // For the proof: the schedule is one that a text can say.
+    // For the proof: the schedule is a valid one.
     let _slots = schedule.len();
     match compile_all(alloc, texts) {
         Ok(pairs) => run_compiled::<R, T, O, B>(alloc, pairs.as_slice(), stock, reader, out, reads),
@@ -170,18 +171,18 @@ pub(crate) fn run_texts<R: ByteSource, T: ByteSink, O: Outlet<T>, B: App>(
     }
 }
 
-/// Runs rule texts over a stream of records, and writes what the host's applications send.
+/// Runs rule texts over a stream of records, and writes the packets that the host sends.
 ///
-/// All texts are compiled first. All memory is allocated before anything is read. The stream is read in pieces of up to 8,192
-/// bytes, and all whole records of a piece are handled before the next read; what a record leads to is written after each call
-/// of an application and after each event of `HOST`. The host is closed before the call returns. At most 2^32 reads are made;
-/// a read or a write that fails is not tried again. What was written before a fault stands.
+/// All texts are compiled and all memory is allocated before the first read. The stream is read in pieces of up to 8,192 bytes;
+/// all whole records of a piece are handled before the next read. Output is written after each call of an application and after
+/// each event of `HOST`. At most 2^32 reads are made. A failed read or write is not tried again, and what was written before it
+/// stands. The host is closed before the call returns.
 ///
 /// Conditions: nothing in stock holds a seat; nothing was read or failed yet.
 ///
 /// Errors: `Compile` with the first text that does not compile, numbered from 0, and `Memory`, both before the first read;
-/// then `BadRecord` and `Truncated` with the record's number from 1, `Read`, `Write` with the bytes of the run that the writer
-/// took, `ReadBound`.
+/// `BadRecord` and `Truncated` with the record's number from 1; `Read`; `Write` with the number of this run's bytes that the
+/// writer took; `ReadBound`.
 pub fn run<R: ByteSource, W: ByteSink, B: App>(
     alloc: Global,
     texts: &[&[u8]],
@@ -195,7 +196,7 @@ pub fn run<R: ByteSource, W: ByteSink, B: App>(
     requires readable { (R.source reader.old).failed ≡ false }
     requires writable { (W.sink writer.old).failed ≡ false }
 
-    // All that a run promises: the fields of `Promises` and of `PromisesOfProfile`, each with its comment there.
+    // All promises of a run: the fields of `Promises` and of `PromisesOfProfile`, which have comments.
     ensures promises { let objects = objects_in B.meaning stock.items in
         let mission = mission_of texts.now schedule.now objects MOST_READS in
         let before_and_after = devices (R.source reader.old) (R.source reader.new)

@@ -1,4 +1,4 @@
-//! Output is given to its device.
+//! Writes collected output to its device.
 
 ghost use Rattle.flight_core.specs.Going.{EndsFor, Settles};
 
@@ -6,7 +6,8 @@ use crate::halt::Halt;
 use crate::outlet::Outlet;
 use lc_model::{ByteSink, DeviceFault};
 
-/// Gives the device what is held of the output so far, which is `written` bytes in all; if that is 0, nothing is held.
+/// Writes the collected output to the device; `written` is the number of bytes of output so far, and if it is 0 nothing is
+/// collected.
 pub(crate) fn settle<T: ByteSink, O: Outlet<T>>(out: &mut T, written: u128) -> Result<(), Halt>
     ensures { Settles written (O.device out.old) (O.device out.new) (O.held out.old)
         (O.held out.new) result }
@@ -20,8 +21,8 @@ pub(crate) fn settle<T: ByteSink, O: Outlet<T>>(out: &mut T, written: u128) -> R
     }
 }
 
-/// The reason for which a run ends that meets this one: after what is no record all output is given first, and if the device
-/// fails then, that is the reason. A device that has failed is not asked again.
+/// Why the run ends, if it stops for `halt`: at a bad record the collected output is written first, and if the device fails then,
+/// that is the reason. A device that has failed is not written to again.
 pub(crate) fn final_reason<T: ByteSink, O: Outlet<T>>(
     halt: Halt,
     out: &mut T,

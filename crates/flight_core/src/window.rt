@@ -1,4 +1,4 @@
-//! Bytes that come at the end and go at the front, in one buffer.
+//! A buffer of unread bytes: pieces are appended at its end, records are taken off its start.
 
 ghost use Rattle.std.specs.Prelude.{◌≡◌, ◌≤◌, ◌+◌, ◌++◌, [], length, take, drop, IfOk, vec_len, vec_capacity};
 ghost use Rattle.flight_core.specs.Window.{empty_window};
@@ -6,20 +6,20 @@ ghost use Rattle.flight_core.specs.Window.{empty_window};
 use std::alloc::{AllocError, Global};
 use std::marker::Model;
 
-/// The most bytes held: a longest record of 11 + 65,536 bytes, and a piece of 8,192.
+/// The most unread bytes: a longest record of 11 + 65,536 bytes, and a piece of 8,192.
 pub(crate) const MOST_HELD: usize = 73_739;
 
-/// The bytes of the buffer. Held bytes are moved to its front only where none are left at its end; then more than 16,384 bytes
-/// went at the front since the last move, so that moving costs a constant time a byte.
+/// The size of the buffer. Unread bytes are moved to its start only when its end is reached; then over 16,384 bytes were taken
+/// since the last move, so that moving costs a constant for each byte.
 const ROOM: usize = MOST_HELD + 16_384;
 
-/// What is held, and what went last. Contracts see both as lists.
+/// The unread bytes, and the record taken last. Contracts see both as lists.
 #[derive(Drop)]
 pub(crate) struct Window {
     room: Vec<u8>,
-    /// Where in the buffer what went last begins.
+    /// Where the record taken last begins.
     last: usize,
-    /// Where what is held begins.
+    /// Where the unread bytes begin.
     start: usize,
 }
 
@@ -39,7 +39,7 @@ impl Model for Window {
     ghost invariant = { λ w. IsWindow w.last w.start (vec_len w.room) (vec_capacity w.room) };
 }
 
-/// Removes the first `count` bytes, and moves the others to the front.
+/// Removes the first `count` bytes, and moves the rest to the start.
 #[cold]
 #[inline(never)]
 pub(crate) fn drop_front(bytes: &mut Vec<u8>, count: usize)
@@ -53,7 +53,7 @@ pub(crate) fn drop_front(bytes: &mut Vec<u8>, count: usize)
 }
 
 impl Window {
-    /// Nothing held. It takes all the memory there will ever be; out of memory is the only error.
+    /// Creates an empty one. It allocates all memory that it ever needs; running out of it is the only error.
     pub fn new(alloc: Global) -> Result<Window, AllocError>
         ensures { IfOk result (λ window. window ≡ empty_window) }
     {
@@ -64,7 +64,7 @@ impl Window {
         })
     }
 
-    /// What is held.
+    /// The unread bytes.
     #[inline(always)]
     pub fn contents(&self) -> &[u8]
         ensures held { result.now ≡ self.now.held }
@@ -73,7 +73,7 @@ impl Window {
         &self.room[self.start..]
     }
 
-    /// What went last.
+    /// The bytes taken last.
     #[inline(always)]
     pub fn last(&self) -> &[u8]
         ensures { result.now ≡ self.now.last }
@@ -81,7 +81,7 @@ impl Window {
         &self.room[self.last..self.start]
     }
 
-    /// Takes the first `size` bytes of what is held.
+    /// Takes the first `size` unread bytes.
     #[inline(always)]
     pub fn take(&mut self, size: usize)
         requires { size ≤ length self.old.held }
@@ -92,7 +92,7 @@ impl Window {
         self.start += size;
     }
 
-    /// Appends bytes, for which there is room.
+    /// Appends bytes. Condition: at most 73,739 bytes are unread then.
     pub fn add(&mut self, bytes: &[u8])
         requires { length self.old.held + length bytes.now ≤ MOST_HELD }
         ensures { self.new ≡ record { last = []; held = self.old.held ++ bytes.now } }

@@ -1,4 +1,4 @@
--- Which rule text is in force. This project's own.
+-- The rule text in force. This project's own.
 use Rattle.std.specs.Prelude.{◌≡◌, ℕ, Bool, false, ◌&&◌, List, bytes_eq, drop, Option, Some, None}
 use Rattle.std.specs.List.{position}
 use Rattle.lc_model.specs.declared.kind.Kind.TheVariants.{Wdt, Adt}
@@ -10,23 +10,23 @@ use Rattle.rpn_compiler.specs.declared.files.TablePair.{TablePair}
 use Rattle.tbl_service.specs.Images.{active_of}
 use Rattle.flight_core.specs.Compiled.{AreAllCompiled}
 
--- there is an image, and it is that of the table file
+-- Whether there is an image, and it is that of this table file.
 abbrev pub is_of_file : Option (List ℕ) → List ℕ → Bool
 is_of_file None file = false
 is_of_file (Some image) file = bytes_eq image (drop headers_length file)
 
--- the active images of the two tables are those of a text's files
+-- Whether the active images of the two tables are those of this text's files.
 abbrev pub is_of_pair : (wdt adt : Option (List ℕ)) → TablePair → Bool
 is_of_pair wdt adt pair = is_of_file wdt pair.wdt.items && is_of_file adt pair.adt.items
 
--- the active image of a table
+-- The active image of a table.
 abbrev pub active_in : Executive (List ℕ) → Name → Option (List ℕ)
 active_in now name = active_of (now.services.slots name)
 
--- the number, from 0, of the text in force among those that these files are of: the first whose two images are active
+-- The number, from 0, of the text in force: the first text of whose files both images are active.
 abbrev pub text_in_force : List TablePair → Executive (List ℕ) → Option ℕ
 text_in_force pairs now = position (is_of_pair (active_in now (table_name Wdt)) (active_in now (table_name Adt))) pairs
 
--- the same with the files that these texts compile to
+-- `force` is the number of the text in force, by the files to which these texts compile.
 abbrev pub IsInForce : List (List ℕ) → Executive (List ℕ) → Option ℕ → Type 0
 IsInForce sources now force = (pairs : List TablePair) × AreAllCompiled sources pairs × (force ≡ text_in_force pairs now)

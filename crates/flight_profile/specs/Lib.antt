@@ -1,4 +1,4 @@
--- What the contracts of the stock cite.
+-- The definitions that this crate's contracts use.
 pub mod Stock
 pub mod Members
 pub mod Checkers

@@ -1,4 +1,4 @@
--- What commands to tables change under each name.
+-- Laws: table commands by name.
 use Rattle.std.specs.Prelude.{◌≡◌, ◌⊎◌, List, ℕ, map, Ok, IfOk}
 use Rattle.std.specs.List.{AllByRecursion}
 use Rattle.lc_model.specs.Name.{Name}
@@ -13,18 +13,18 @@ use Rattle.lc_model.specs.Services.Seen.{files_seen, slot_among}
 use Rattle.lc_model.specs.Services.Settled.{form_of, wdt_form, adt_form}
 use Rattle.lc_model.specs.Services.Tables.{Table, TableService, IsTableService, table_commanded}
 
--- a table has the name and the sizes of one of the Limit Checker's two
+-- The table has the name and the sizes of LC's WDT or ADT.
 abbrev pub HasKnownForm : Table → Type 0
 HasKnownForm table = (form_of table ≡ wdt_form) ⊎ (form_of table ≡ adt_form)
 
--- a command that moves a waiting image changes what a name has as the host in numbers says
+-- Law: validate, activate and abort change the named slot as in the host in numbers.
 abbrev pub MovesByName : Type 0
 MovesByName = (move : Move) (name : Name) (service : TableService) (services : ServicesNow (List ℕ)) → IsTableService service →
     services.slots ≡ slot_among service.places →
     managed_now (as_bytes layouts) (Manage move name) services
     ≡ (table_commanded (Manage move name) service >>= (λ after. Ok (record services { slots = slot_among after.places })))
 
--- the same for a load, where all tables are the Limit Checker's
+-- Law: a load changes the named slot as in the host in numbers, if all tables are LC's.
 abbrev pub LoadsByName : Type 0
 LoadsByName = (file : Name) (service : TableService) (services : ServicesNow (List ℕ)) → IsTableService service →
     AllByRecursion (λ (tables : List Table). AllByRecursion HasKnownForm tables) service.places →
@@ -32,7 +32,7 @@ LoadsByName = (file : Name) (service : TableService) (services : ServicesNow (Li
     managed_now (as_bytes layouts) (Load file) services
     ≡ (table_commanded (Load file) service >>= (λ after. Ok (record services { slots = slot_among after.places })))
 
--- whatever the command is, tables keep their names, sizes and seats, and files stay
+-- Law: commands keep the names, sizes and seats of tables, and the stored files.
 abbrev pub CommandsKeepForms : Type 0
 CommandsKeepForms = (command : TableCommand) (service : TableService) →
     IfOk (table_commanded command service) (λ (after : TableService). (map (map form_of) after.places ≡ map (map form_of) service.places) × (after.files ≡ service.files))

@@ -1,5 +1,6 @@
--- When the host in numbers keeps to the world: its services hold what the world's lists come to, each application that
--- runs stands on one seat with the numbers of its lists, and the stock is the world's. This project's own.
+-- The relation between the world (lists of all that happened) and the host in numbers (counters, seats, pipes). The services
+-- store what the lists give, each running application has one seat and the state that its lists give, and the stock is the
+-- world's. This project's own.
 use Rattle.std.specs.Prelude.{◌≡◌, ℕ, suc, Bool, true, false, List, [], ◌∷◌, map, length, count_by, if◌then◌else◌, Option, Some, None, is_some, option_map}
 use Rattle.std.specs.Option.{option_map_or}
 use Rattle.std.specs.List.{AllByRecursion}
@@ -15,11 +16,11 @@ use Rattle.lc_model.specs.Kept.Summary.{LcNow, lc_now, lc_own, EventState, event
 use Rattle.lc_model.specs.Kept.Call.{ServicesNow, lc_subscriptions, sch_subscriptions, counter_subscriptions}
 use Rattle.lc_model.specs.Kept.Executive.{Member, Pipe, Executive, is_called, seat_count}
 
--- the three applications of this profile
+-- The three applications of this profile.
 pub data App : Type 0 where
   LimitChecker Scheduler Counter : App
 
--- by name
+-- The application's name.
 abbrev pub name_of : App → Name
 name_of LimitChecker = lc_name
 name_of Scheduler = sch_name
@@ -27,37 +28,37 @@ name_of Counter = counter_name
 
 -- ---- seats
 
--- the seat is this application's
+-- Whether this seat is the application's.
 abbrev pub holds : App → Option App → Bool
 holds LimitChecker (Some LimitChecker) = true
 holds Scheduler (Some Scheduler) = true
 holds Counter (Some Counter) = true
 holds app seat = false
 
--- how many seats an application has
+-- The number of seats that an application has.
 unfoldable pub times : App → List (Option App) → ℕ
 times app [] = 0
 times app (seat ∷ seats) = if holds app seat then suc (times app seats) else times app seats
 
--- packets that wait for each application
+-- The packets that wait in each application's pipe, oldest first.
 abbrev pub Queues : Type 0
 Queues = App → List (List ℕ)
 
--- none wait
+-- All pipes are empty.
 abbrev pub no_packets : Queues
 no_packets app = []
 
--- the object on a seat, where the applications are in these states
+-- The object on a seat, if `states` gives each application's state.
 abbrev pub seat_with : (App → AppState) → Option App → Option Member
 seat_with states None = None
 seat_with states (Some app) = Some (record { called = name_of app; state = states app })
 
--- its pipe, with these subscriptions and packets
+-- The pipe of a seat, with its application's subscriptions and waiting packets.
 abbrev pub pipe_with : (App → List ℕ) → Queues → Option App → Option Pipe
 pipe_with subscriptions queues None = None
 pipe_with subscriptions queues (Some app) = Some (record { subscriptions = subscriptions app; waiting = queues app })
 
--- an executive with such seats
+-- An executive with these spares, these applications on its seats, and these services.
 abbrev pub executive_by : {Image : Type 0} → List Member → List (Option App) → (App → AppState) → (App → List ℕ) → Queues → ServicesNow Image → Executive Image
 executive_by stock seats states subscriptions queues services = record {
   stock = stock;
@@ -66,13 +67,13 @@ executive_by stock seats states subscriptions queues services = record {
   services = services;
 }
 
--- ---- what a world comes to
+-- ---- what a world gives
 
--- the state of an application, where it runs
+-- The state of an application, or `None` if it does not run.
 abbrev pub state_of : {State : Type 0} → Application State → Option State
 state_of {State} app = option_map (λ (r : Running State). r.state) app.running
 
--- a world but for its logs and sent packets: files, what runs, and how many spares there are
+-- The part of a world that has no logs and no sent packets: files, states of the running applications, and numbers of spares.
 pub record Standing (Image : Type 0) : Type 0 where
   pub files : List (Name × FileMeaning Image)
   pub lc : Option (Lc Image)
@@ -83,6 +84,7 @@ pub record Standing (Image : Type 0) : Type 0 where
   pub counter_spares : ℕ
 
 module _ {Image : Type 0} where
+  -- The standing part of a world.
   abbrev pub standing_of : World Image → Standing Image
   standing_of w = record {
     files = w.files;
@@ -94,22 +96,24 @@ module _ {Image : Type 0} where
     counter_spares = w.counter.spares;
   }
 
-  -- an application runs, and how many spares it has
+  -- Whether an application runs.
   abbrev pub runs_in : Standing Image → App → Bool
   runs_in s LimitChecker = is_some s.lc
   runs_in s Scheduler = is_some s.sch
   runs_in s Counter = is_some s.counter
 
+  -- How many spares an application has.
   abbrev pub spares_in : Standing Image → App → ℕ
   spares_in s LimitChecker = s.lc_spares
   spares_in s Scheduler = s.sch_spares
   spares_in s Counter = s.counter_spares
 
-  -- the filters and types of each registered sender
+  -- The event filters and types of a registered sender; `None` for a name that is not registered.
   abbrev pub events_of : World Image → Name → Option EventState
   events_of w name = option_map event_state (log_of w name)
 
--- the applications that run, in numbers, the Limit Checker's effort, which no list determines, and the services
+-- The host's numbers: each running application's numbers, the services', and the Limit Checker's effort, which no list
+-- determines.
 pub record Numbers (Image : Type 0) : Type 0 where
   pub lc : Option (LcNow Image)
   pub sch : Option ℕ
@@ -118,17 +122,17 @@ pub record Numbers (Image : Type 0) : Type 0 where
   pub services : ServicesNow Image
 
 module _ {Image : Type 0} (images : Interpretation Image) (schedule : Schedule) where
-  -- the slot of a kind of table
+  -- The slot of the WDT or of the ADT.
   abbrev pub slot_now : Kind → LcNow Image → Slot Image
   slot_now Wdt lc = lc.wdt
   slot_now Adt lc = lc.adt
 
-  -- the registered tables are the running Limit Checker's
+  -- The slots by table name: `LC.LC_WDT` and `LC.LC_ADT` if the Limit Checker runs, else none.
   abbrev pub slots_in : Option (LcNow Image) → Name → Option (Slot Image)
   slots_in None name = None
   slots_in (Some lc) name = option_map (λ kind. slot_now kind lc) (kind_named name)
 
-  -- the numbers of the files and of what runs, with this effort, these senders and sequence counts
+  -- The numbers for these files and states, this effort, these event senders and these sequence counts.
   abbrev pub numbers_by : Effort → Standing Image → (Name → Option EventState) → (ℕ → ℕ) → Numbers Image
   numbers_by effort s events counts = record {
     lc = option_map (lc_now images) s.lc;
@@ -138,57 +142,59 @@ module _ {Image : Type 0} (images : Interpretation Image) (schedule : Schedule) 
     services = record { files = s.files; slots = slots_in (option_map (lc_now images) s.lc); events = events; counts = counts };
   }
 
-  -- the numbers of a world, with this effort
+  -- The numbers of a world `w`, with this effort.
   abbrev pub numbers_of : Effort → World Image → Numbers Image
   numbers_of effort w = numbers_by effort (standing_of w) (events_of w) (counts_of w.sent)
 
-  -- what an application's object is by now
+  -- The state of an application's object; `Other` if it does not run.
   abbrev pub state_in : Numbers Image → App → AppState
   state_in n LimitChecker = option_map_or (λ lc. LcState (lc_own images n.effort lc)) n.lc Other
   state_in n Scheduler = option_map_or (SchState schedule) n.sch Other
   state_in n Counter = option_map_or CounterState n.counter Other
 
-  -- what its pipe is subscribed to
+  -- The message ids that an application's pipe is subscribed to.
   abbrev pub subscriptions_in : Numbers Image → App → List ℕ
   subscriptions_in n LimitChecker = option_map_or (lc_subscriptions images) n.lc []
   subscriptions_in n Scheduler = sch_subscriptions
   subscriptions_in n Counter = counter_subscriptions
 
-  -- the executive with these spares, these seats, these packets and these numbers
+  -- The executive with these spares, applications on seats, waiting packets and numbers.
   abbrev pub executive_of : List Member → List (Option App) → Queues → Numbers Image → Executive Image
   executive_of stock seats queues n = executive_by stock seats (state_in n) (subscriptions_in n) queues n.services
 
   -- ---- stock
 
-  -- an object of the profile: a Limit Checker, a scheduler with this schedule, or a counter, under its name
+  -- An object of the profile: a Limit Checker, a scheduler with this schedule, or a counter, each under its own name.
   abbrev pub IsOfProfile : Name → AppState → Type 0
   IsOfProfile name (LcState own) = name ≡ lc_name
   IsOfProfile name (SchState own slot) = (name ≡ sch_name) × (own ≡ schedule)
   IsOfProfile name (CounterState count) = name ≡ counter_name
   IsOfProfile name Other = ⊥
 
+  -- An object in stock is one of the profile.
   abbrev pub IsSpare : Member → Type 0
   IsSpare member = IsOfProfile member.called member.state
 
   -- ---- seats and stock of a world
 
-  -- each application that runs has one seat and each other none, and the stock has as many objects of each name
+  -- Each running application has exactly one of the eight seats, any other none; the stock has only objects of the profile, and
+  -- as many of each name as the world counts.
   pub record IsSeated (s : Standing Image) (stock : List Member) (seats : List (Option App)) : Type 0 where
     pub eight : length seats ≡ seat_count
     pub placed : (app : App) → times app seats ≡ (if runs_in s app then 1 else 0)
     pub profile : AllByRecursion IsSpare stock
     pub spares : (app : App) → spares_in s app ≡ count_by (is_called (name_of app)) stock
 
-  -- the executive keeps to the world
+  -- Executive `e` agrees with world `w`.
   pub record KeepsTo (w : World Image) (e : Executive Image) : Type 0 where
-    -- which application stands where
+    -- The application of each seat, if any.
     pub order : List (Option App)
-    -- the Limit Checker's effort, left free
+    -- The Limit Checker's effort, which may be anything.
     pub effort : Effort
     pub seated : IsSeated (standing_of w) e.stock order
-    -- the objects on the seats, by name and numbers
+    -- The objects on the seats have the names and states that the world gives.
     pub seats : e.seats ≡ map (seat_with (state_in (numbers_of effort w))) order
-    -- their subscriptions, and no packet waits
+    -- The pipes have the subscriptions that the world gives, and no packet waits.
     pub pipes : e.pipes ≡ map (pipe_with (subscriptions_in (numbers_of effort w)) no_packets) order
-    -- files, table slots, filters and sequence counts
+    -- Files, table slots, event filters and sequence counts are those of the world.
     pub services : e.services ≡ (numbers_of effort w).services

@@ -1,4 +1,4 @@
-//! The host in numbers keeps to the world, and over whole runs writes what the rule texts call for. Each function does
+//! The host in numbers agrees with the world, and over whole runs writes what the rule texts call for. Each function does
 //! nothing: it is a law. `app_host` and `flight_core` call those that their proofs need; nothing calls those marked *to read*.
 #![tactic(auto)]
 
@@ -22,16 +22,17 @@ pub fn begins_as_the_world()
         BeginsSo (as_bytes layouts) AreBytes schedule }
 {}
 
-/// Each record keeps the host in numbers to the world, and the packets that it writes are those that the world sends.
+/// Each record keeps the host in numbers and the world in agreement, and the packets that it writes are those that the world
+/// sends.
 pub fn keeps_to_the_world()
     ensures { (layouts : List Layout) (schedule : Schedule) →
         EachRecordKeeps (as_bytes layouts) AreBytes schedule }
 {}
 
-/// What each record keeps, part by part. To read.
+/// Each record keeps the agreement, part by part. To read.
 pub fn each_part_is_kept()
-    // The stored files, the registered tables with their slots, the senders of events with their types and filters, and each
-    // message id's sequence count are the world's.
+    // The stored files, the registered tables with their slots, the event senders with their types and filters, and the
+    // sequence count of each message id are the world's.
     ensures files { (layouts : List Layout) (schedule : Schedule) →
         IsKept (as_bytes layouts) schedule AreBytes (HoldsFiles (as_bytes layouts) schedule) }
     ensures tables { (layouts : List Layout) (schedule : Schedule) →
@@ -41,7 +42,7 @@ pub fn each_part_is_kept()
     ensures counts { (layouts : List Layout) (schedule : Schedule) →
         IsKept (as_bytes layouts) schedule AreBytes (HoldsCounts (as_bytes layouts) schedule) }
 
-    // An application that runs has one seat, and any other none; its object has the state that its lists come to.
+    // An application that runs has one seat, and any other none; its object has the state that its lists give.
     ensures seats { (layouts : List Layout) (schedule : Schedule) →
         IsKept (as_bytes layouts) schedule AreBytes (RunsOnOneSeat (as_bytes layouts) schedule) }
     ensures states { (layouts : List Layout) (schedule : Schedule) →
@@ -60,76 +61,77 @@ pub fn writes_what_is_called_for()
         WritesWhatIsCalledFor (as_bytes layouts) AreBytes schedule }
 {}
 
-/// What the host in numbers writes for one record more comes after all else.
+/// The host in numbers writes the packets of one more record after all earlier ones.
 pub fn goes_on()
     ensures { (layouts : List Layout) → RunsGoOn (as_bytes layouts) }
 {}
 
-/// A stream of bytes brings files of bytes and halves of its texts, and these meet the laws' premises on records.
+/// The records of a stream of bytes have files of bytes and halves of its texts, and these meet the laws' premises on records.
 pub fn records_of_bytes_are_fine()
     ensures brought { StreamsBring }
     ensures fine { RecordsAreFine }
 {}
 
-/// A schedule's text says 1 to 64 slots of at most eight entries. To read.
+/// The schedule of a text has 1 to 64 slots of at most eight entries. To read.
 pub fn schedules_fit()
     ensures { SchedulesFit }
 {}
 
-/// Over a mission the host in numbers writes exactly what the promise of `run` says: by the bytes of files, by the rule texts,
-/// and by one text whose tables stay.
+/// Over a mission the host in numbers writes exactly what `run` promises: by the bytes of files, by the rule texts, and by one
+/// text whose tables never change.
 pub fn writes_a_mission()
     ensures bytes { (m : Mission) → WritesByBytes m }
     ensures texts { (m : Mission) → WritesByTexts m }
     ensures fixed { (m : Mission) → WritesWithFixedTables m }
 {}
 
-/// What an application's object means goes with the services of the host, from its start on.
+/// From its start on, an application's object agrees with the services of the host.
 pub fn calls_go_with_services()
-    // After its start an object goes with the services, and so it does after each packet.
+    // An object agrees with the services after its start, and still does after each packet.
     ensures start { (layouts : List Layout) → StartsGoWith (as_bytes layouts) }
     ensures packet { (layouts : List Layout) → PacketsKeep (as_bytes layouts) }
 
-    // Calls of other applications keep this, and so do commands to services, stored files and what is sent.
+    // Calls of other applications, commands to services, stored files and sent requests keep this agreement.
     ensures others { (layouts : List Layout) → CallsKeepOthers (as_bytes layouts) }
     ensures host { (layouts : List Layout) → TheHostKeeps (as_bytes layouts) }
 
-    // What the Limit Checker does by its own copy of the tables in force is what it does by the tables.
+    // The Limit Checker does the same by its own copy of the tables in force as by the tables.
     ensures copies { (layouts : List Layout) → CopiesServe (as_bytes layouts) }
 
-    // A call publishes at most eight packets, for a tick alone, and never a tick.
+    // A call publishes at most eight packets, only for a tick, and no tick.
     ensures publications { (layouts : List Layout) → PublishesFew (as_bytes layouts) }
 {}
 
-/// Each object on a seat of an executive that keeps to a world goes with its services. To read.
+/// Each object on a seat of an executive that agrees with a world agrees with its services. To read.
 pub fn seats_go_with_services()
     ensures { (layouts : List Layout) (schedule : Schedule) →
         SeatsGoWith (as_bytes layouts) AreBytes schedule }
 {}
 
-/// One call asks to write at most 65,536 bytes. To read.
+/// One call writes at most 65,536 bytes. To read.
 pub fn calls_write_little()
     ensures start { (layouts : List Layout) → StartsWriteLittle (as_bytes layouts) }
     ensures packet { (layouts : List Layout) → WritesLittle (as_bytes layouts) }
 {}
 
-/// Write by write a host does what its step does, with at most 520 calls of `on_packet`; and where a write fails, what was
-/// written is the first part of what the record leads to.
+/// A host's writes make up its step, with at most 520 calls of `on_packet`; if a write fails, the first bytes of the record's
+/// output were written.
 pub fn writes_are_the_steps()
     ensures packets { (layouts : List Layout) → WritesAreTheSteps (as_bytes layouts) }
     ensures calls { (layouts : List Layout) → CallsAreBounded (as_bytes layouts) }
     ensures taken { (layouts : List Layout) → OpenHostsTake (as_bytes layouts) }
 {}
 
-/// What every step keeps, for any input: the stored files are at most eight, each under a name of its own; no two seats have
-/// objects of one name; and a pipe is subscribed to what its object's state says, so that no other call can change that. To read.
+/// Every step keeps, for any input: at most eight stored files with different names; no two seats with objects of one name; and
+/// pipes that have the subscriptions that their objects' states give, so that no other call can change them. To read.
 pub fn steps_keep_their_order()
     ensures files { (layouts : List Layout) → FilesStayAMap (as_bytes layouts) }
     ensures names { (layouts : List Layout) → NamesStayOwn (as_bytes layouts) }
     ensures pipes { (layouts : List Layout) → PipesFollowStates (as_bytes layouts) }
 {}
 
-/// What a command to a table does at the table's seat is what the host in numbers says of its name. A table keeps its form.
+/// A table command changes the slot on the table's seat as the host in numbers changes it by name. A table keeps its name and
+/// sizes.
 pub fn table_commands_go_by_names()
     ensures moves { MovesByName }
     ensures loads { LoadsByName }

@@ -1,10 +1,10 @@
--- Counts of 16 bits. This project's own.
+-- 16-bit counts. This project's own.
 use Rattle.std.specs.Prelude.{ℕ, min}
 
--- the greatest number of 16 bits
+-- The greatest 16-bit number.
 abbrev pub last_count : ℕ
 last_count = 65535
 
--- a count that stops there
+-- The count, capped at 65,535.
 abbrev pub capped : ℕ → ℕ
 capped count = min count last_count

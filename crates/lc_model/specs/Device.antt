@@ -1,41 +1,42 @@
--- Sources and sinks: what is known of them, what a read takes, and what a write adds. This project's own, in the words of
--- Rust's standard library for readers and writers: where bytes are known they stay known.
+-- Byte sources and sinks: what a read takes and what a write adds. This project's own, after the readers and writers of Rust's
+-- standard library. If the bytes before a call are known, so are those after it.
 use Rattle.std.specs.Prelude.{◌≡◌, ℕ, ◌+◌, ◌-◌, ◌^◌, ◌<◌, ◌≤◌, Bool, true, min, List, length, take, Option}
 use Rattle.std.specs.Io.KnownBytes.{Appends, Consumes, IsAtEnd, Keeps}
 
--- a source: the bytes that are left, or unknown; all reads so far, those that failed among them, up to 2 ^ 64 - 1; whether a
--- read has returned a fault
+-- A source: its unread bytes (or unknown), the number of reads so far including failed ones (capped at 2 ^ 64 - 1), and whether a
+-- read has failed.
 pub record Source : Type 0 where
   pub rest : Option (List ℕ)
   pub reads : ℕ
   pub failed : Bool
 
--- a sink: the bytes that were taken, or unknown; whether a write has returned a fault
+-- A sink: the bytes that it has taken (or unknown), and whether a write has failed.
 pub record Sink : Type 0 where
   pub gained : Option (List ℕ)
   pub failed : Bool
 
 -- ---- one call
 
--- one call more; the count stops at 2 ^ 64 - 1
+-- The count of calls after one more.
 abbrev pub one_call_more : ℕ → ℕ
 one_call_more calls = min (calls + 1) (2 ^ 64 - 1)
 
--- what a read leaves: the bytes in front of the buffer are the first that were left; none came only where none were left
+-- A read of `count` bytes succeeded: they are the next unread bytes and stand at the start of the buffer; `count` is 0 only at
+-- the end of the source.
 pub record ReadsSome (before now : Source) (count : ℕ) (buffer : List ℕ) : Type 0 where
   pub fits : count ≤ length buffer
   pub takes : Consumes before.rest now.rest (take count buffer)
   pub at_the_end : count ≡ 0 → IsAtEnd now.rest
   pub as_before : now.failed ≡ before.failed
 
--- what a write leaves: the sink took the first of the bytes offered, at least one
+-- A write succeeded: the sink took the first `count` of the offered bytes, at least one.
 pub record WritesSome (before now : Sink) (count : ℕ) (offered : List ℕ) : Type 0 where
   pub some : 0 < count
   pub fits : count ≤ length offered
   pub gains : Appends before.gained now.gained (take count offered)
   pub as_before : now.failed ≡ before.failed
 
--- what a fault leaves: it moves no byte, and is remembered
+-- A read or a write failed: no byte moved, and the device remembers the failure.
 pub record ReadFails (before now : Source) : Type 0 where
   pub unmoved : Keeps before.rest now.rest
   pub remembered : now.failed ≡ true
@@ -44,9 +45,9 @@ pub record WriteFails (before now : Sink) : Type 0 where
   pub unmoved : Keeps before.gained now.gained
   pub remembered : now.failed ≡ true
 
--- ---- all bytes
+-- ---- output cut short
 
--- the sink took this many of the bytes, the first ones, and then failed
+-- The sink took only the first `sent` of these bytes, and a write failed.
 pub record IsCutShort (before now : Sink) (bytes : List ℕ) (sent : ℕ) : Type 0 where
   pub fewer : sent < length bytes
   pub gains : Appends before.gained now.gained (take sent bytes)

@@ -1,4 +1,4 @@
--- The services of the host, as lists: what each of their calls returns and changes.
+-- The services by seats: what each of their calls returns and changes.
 pub mod Bus
 pub mod Events
 pub mod EventCalls

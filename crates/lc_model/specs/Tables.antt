@@ -1,4 +1,4 @@
--- The tables of a rule text: equations, images, files, and their faults and meaning.
+-- The tables of a rule text: equations, images, files, their faults and their meaning.
 pub mod Equation
 pub mod Compiling
 pub mod Lowering

@@ -11,18 +11,18 @@ ghost use Rattle.std.specs.Io.KnownBytes.{Appends};
 
 use thiserror::Error;
 
-/// A source or a sink failed. It says only that it happened.
+/// A source or a sink failed. The cause is not given.
 #[derive(Clone, Copy, Debug, PartialEq, Eq, Error)]
 #[error("the device failed")]
 pub struct DeviceFault;
 
 /// A source of bytes, which chooses how many it gives at each read.
 pub trait ByteSource {
-    // The bytes that are left, where they are known; the reads so far; and whether one failed.
+    // The bytes that are left, if they are known; the reads so far; and whether one failed.
     ghost source: { Self → Source };
 
-    /// Reads bytes into the front of the buffer and returns how many: at least one, or 0 at the end of the source. A
-    /// fault moves no byte.
+    /// Reads bytes to the start of the buffer and returns their number: at least one, or 0 at the end of the source. A fault
+    /// moves no byte.
     fn read(&mut self, buffer: &mut [u8]) -> Result<usize, DeviceFault>
         requires { 0 < length buffer.old }
         ensures read { IfOk result
@@ -41,7 +41,7 @@ pub trait ByteSource {
 
 /// A sink for bytes, which chooses how many it takes at each write.
 pub trait ByteSink {
-    // The bytes that were taken, where they are known; and whether a write failed.
+    // The bytes that were taken, if they are known; and whether a write failed.
     ghost sink: { Self → Sink };
 
     /// Takes the first of the bytes, at least one, and returns how many. A sink that can take none returns a fault,

@@ -4,7 +4,7 @@ ghost use Rattle.std.specs.Prelude.{◌≡◌, ◌≤◌, ◌==◌, length};
 ghost use Rattle.std.specs.List.{position_or_len};
 ghost use Rattle.lc_model.specs.Name.{name_in};
 
-/// How many bytes come before the first zero byte, or all of them.
+/// The number of bytes before the first zero byte, or of all bytes.
 fn name_length(field: &[u8]) -> usize
     ensures place { result ≡ position_or_len (λ b. b == 0) field.now }
     ensures inside { result ≤ length field.now }

@@ -1,5 +1,5 @@
-//! Packets: why they are refused, what is read of them, and sequence requests (CCSDS 133.0-B and the cFE user's guide; the
-//! time code and the checks on what comes in are this project's own).
+//! Packets: their faults, their fields, and sequence requests (CCSDS 133.0-B and the cFE user's guide; the time code and the
+//! checks of incoming packets are this project's own).
 
 ghost use Rattle.std.specs.Prelude.{◌≡◌, ◌≤◌, ◌+◌, ◌++◌, ◌%◌, ◌<◌, ◌&&◌, None, IfSome, is_some, length, nat_le};
 ghost use Rattle.lc_model.specs.Bytes as number;
@@ -30,7 +30,7 @@ pub const COUNT_END: u16 = 16_384;
 /// The sequence flags of a packet that is no part of another.
 pub const UNSEGMENTED: u16 = 0xC000;
 
-/// How many message ids there are.
+/// The number of message ids.
 pub const MESSAGE_IDS: usize = 8_192;
 
 // ---- reading
@@ -62,9 +62,9 @@ pub fn function_code(command: &[u8]) -> u8
     command[6] % 128
 }
 
-/// Why the bytes are no packet: 1 too short for its headers, 2 another version than 0, 3 no secondary header, 4 a part of a
-/// packet, 5 another length than its header says, 6 over 2,048 bytes. Without a fault they are a whole packet, of at least
-/// the eight bytes of a command's headers.
+/// The first fault of bytes as a packet: 1 too short for its headers, 2 another version than 0, 3 no secondary header, 4 a part
+/// of a packet, 5 another length than its header gives, 6 over 2,048 bytes. Without a fault they are a whole packet, of at
+/// least the eight bytes of a command's headers.
 pub fn header_fault(bytes: &[u8]) -> Option<u8>
     ensures fault { result ≡ header_fault bytes.now }
     ensures shortest { result ≡ None → COMMAND_HEADERS ≤ length bytes.now }
@@ -93,15 +93,14 @@ pub fn header_fault(bytes: &[u8]) -> Option<u8>
     }
 }
 
-/// Whether the message id is the host's own to send.
+/// Whether only the host may send this message id.
 fn is_own_mid(mid: u16) -> bool
     ensures { result ≡ is_own_mid mid }
 {
     mid == mids::EVENT || mid == mids::LC_HOUSEKEEPING || mid == mids::SEQUENCE || mid == mids::TICK
 }
 
-/// Why the bytes are no packet that a stream may bring: 1 to 6 as in any packet, 7 a message id that is the host's own to
-/// send.
+/// The first fault of bytes as a packet of a stream: 1 to 6 as of any packet, 7 a message id that only the host may send.
 pub fn stream_fault(bytes: &[u8]) -> Option<u8>
     ensures fault { result ≡ stream_fault bytes.now }
     ensures shortest { result ≡ None → COMMAND_HEADERS ≤ length bytes.now }

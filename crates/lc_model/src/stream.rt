@@ -1,4 +1,4 @@
-//! What the header of a stream's record says (this project's own format): kind, seconds, subseconds and length of the body.
+//! The header of a stream's record (this project's own format): kind, seconds, subseconds and length of the body.
 
 ghost use Rattle.std.specs.Prelude.{◌≡◌, ◌≤◌, true, length};
 ghost use Rattle.lc_model.specs.Host.Stream.{all_kinds, body_size, fits_body, header_size, max_body, moment_of};
@@ -18,10 +18,10 @@ pub const HALF: usize = 43;
 /// The most bytes of a body.
 pub const LONGEST_BODY: usize = 65_536;
 
-/// The most bytes that are read of a stream at a time.
+/// The most bytes of one read of a stream.
 pub const PIECE: usize = 8_192;
 
-/// The moment of the record in front, as its header says.
+/// The moment in the header of the next record.
 pub fn moment_of(bytes: &[u8]) -> Moment
     requires { header_size ≤ length bytes.now }
     ensures { result ≡ moment_of bytes.now }
@@ -32,7 +32,7 @@ pub fn moment_of(bytes: &[u8]) -> Moment
     }
 }
 
-/// How many bytes the body of the record in front has, as its header says.
+/// The number of bytes of the next record's body, from its header.
 pub fn body_size(bytes: &[u8]) -> usize
     requires { header_size ≤ length bytes.now }
     ensures { result ≡ body_size bytes.now }

@@ -1,4 +1,5 @@
--- What an adoption starts from. From the cFS Limit Checker user's guide, table definitions; hashes are this project's own.
+-- The tables from which an adoption starts. From the cFS Limit Checker user's guide, table definitions; hashes are this
+-- project's own.
 use Rattle.std.specs.Prelude.{◌≡◌, ℕ, Bool, ◌&&◌, ◌==◌, bytes_eq, List}
 use Rattle.lc_model.specs.declared.kind.Kind.{Kind}
 use Rattle.lc_model.specs.declared.kind.Kind.TheVariants.{Wdt, Adt}
@@ -10,19 +11,19 @@ use Rattle.lc_model.specs.Kept.GoesWith.{IsJudged}
 use Rattle.table_validator.specs.Sound.{TableImage}
 use Rattle.app_host.specs.Shared.{on_board}
 
--- two images belong together
+-- Whether two images belong together: equal hashes and equal watchpoint counts.
 abbrev pub are_matching : List ℕ → List ℕ → Bool
 are_matching wdt adt = bytes_eq (hash_of wdt) (hash_of adt) && watchpoint_count wdt == watchpoint_count adt
 
--- what is active, valid or activated is sound
+-- The slot's active image, and a valid or activated waiting one, are sound.
 abbrev pub HasSoundSlot : Kind → Slot (List ℕ) → Type 0
 HasSoundSlot kind slot = IsJudged on_board kind slot
 
--- the bytes of two sound images
+-- The two sound images as a pair of byte lists.
 abbrev pub pair_of : TableImage × TableImage → Pair (List ℕ)
 pair_of images = record { wdt = images.0.bytes; adt = images.1.bytes }
 
--- one is of watchpoints, one of actionpoints, and they belong together
+-- The first is a WDT image, the second an ADT image, and they belong together.
 pub record IsSoundPair (images : TableImage × TableImage) : Type 0 where
   pub wdt : images.0.kind ≡ Wdt
   pub adt : images.1.kind ≡ Adt

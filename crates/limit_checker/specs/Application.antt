@@ -1,4 +1,4 @@
--- What the application leaves with a packet, on the seat that it holds. From the cFS Limit Checker user's guide; seats are this
+-- The application on its seat, and the effect of a packet on it. From the cFS Limit Checker user's guide; seats are this
 -- project's own.
 use Rattle.std.specs.Prelude.{ℕ, List, Option, IfSome, IsSomeAnd}
 use Rattle.lc_model.specs.Name.{lc_name}
@@ -10,19 +10,20 @@ use Rattle.app_host.specs.declared.services.Services.{Services}
 use Rattle.app_host.specs.Shared.{on_board, held_by, shared}
 use Rattle.app_host.specs.Calls.{IsAtHome, Leaves}
 
--- the object: its engine, and the seat that it holds
+-- The object: its engine, and the seat that it holds.
 pub record LcObject : Type 0 where
   pub engine : LcOwn
   pub seat : Option ℕ
 
--- it is at home there, and the packet may be given to it
+-- The object holds a seat, and is at home there.
 abbrev pub IsHome : Option ℕ → LcOwn → Services → Type 0
 IsHome place own s = IsSomeAnd place (λ seat. IsAtHome (LcState own) lc_name seat s)
 
+-- The packet may be given to the object on its seat.
 abbrev pub MayHave : Option ℕ → List ℕ → Services → Type 0
 MayHave place packet s = IfSome place (λ seat. MayBeGiven seat lc_name packet (held_by s))
 
--- it keeps the rules of the interface, and leaves what the definitions say
+-- After `on_packet` the object has kept the rules of the interface, and has done exactly what the model gives.
 pub record Answers (place : Option ℕ) (old new : LcOwn) (packet : List ℕ) (before after : Services) : Type 0 where
   pub rules : IfSome place (λ seat. IsGiven seat lc_name packet (held_by before) (held_by after))
   pub exact : IfSome place (λ seat. IfSome (next_on_packet on_board before.moment (LcState old) packet (shared before)) (Leaves seat (LcState new) before after))

@@ -1,4 +1,4 @@
--- Commands to the application, as they are read and obeyed. From the cFS Limit Checker user's guide; the refusals are this
+-- Commands to the application, as they are read and executed. From the cFS Limit Checker user's guide; the refusals are this
 -- project's own.
 use Rattle.std.specs.Prelude.{ℕ, List, [], ◌∷◌, Result, Ok, Err}
 use Rattle.lc_model.specs.declared.command.CommandRefusal.{CommandRefusal}
@@ -14,29 +14,29 @@ use Rattle.limit_checker.specs.declared.command.Command.TheVariants.{NoOperation
 use Rattle.limit_checker.specs.declared.command.Refused.{Refused}
 use Rattle.limit_checker.specs.declared.command.Refused.TheVariants.{Unread, Unobeyed}
 
--- a command as the definitions have it
+-- The program's command as one of the model.
 abbrev pub command_of : Command → LcCommand
 command_of NoOperation = command.NoOperation
 command_of (SetMode number) = command.SetMode number
 command_of (SetState index number) = command.SetState index number
 command_of (TurnPermanentlyOff index) = command.TurnPermanentlyOff index
 
--- what is read of a packet, with the refusal's number
+-- The result of reading a command, with its refusal as a number.
 abbrev pub read_of : Result Command CommandRefusal → Result LcCommand Refusal
 read_of (Ok command) = Ok (command_of command)
 read_of (Err refusal) = Err (command.refusal_number refusal ∷ [])
 
--- the number of a refusal
+-- The number of a refusal, 151 to 155.
 abbrev pub refusal_number : Refused → ℕ
 refusal_number (Unread refusal) = command.refusal_number refusal
 refusal_number (Unobeyed refusal) = states.refusal_number refusal
 
--- a result without a value, with the refusal's number
+-- A call's result with its refusal as a number.
 abbrev pub answered : Result (Unit {0}) Refused → Result (Unit {0}) Refusal
 answered (Ok done) = Ok tt
 answered (Err refusal) = Err (refusal_number refusal ∷ [])
 
--- the object after a command, without its tables
+-- The object after a command, or the command's refusal.
 abbrev pub own_obeyed : LcCommand → LcOwn → Result LcOwn Refusal
 own_obeyed command.NoOperation own = Ok own
 own_obeyed (command.SetMode number) own = do
@@ -49,7 +49,7 @@ own_obeyed (command.TurnPermanentlyOff index) own = do
   points ← one_set index turned_permanently_off own.points
   Ok (record own { points = points })
 
--- and after a packet that brings one
+-- The object after a packet 0x18A4, or the refusal of its command.
 abbrev pub own_commanded : List ℕ → LcOwn → Result LcOwn Refusal
 own_commanded packet own = do
   command ← lc_command (function_code packet) (payload packet)

@@ -1,5 +1,5 @@
-//! Adoption: tables come into force when an image is activated and belongs together with that of the other table (cFS Limit
-//! Checker user's guide, tables).
+//! Adoption: tables come into force if an image is activated and matches that of the other table (cFS Limit Checker user's
+//! guide, tables).
 
 ghost use Rattle.std.specs.Prelude.{◌≡◌, ◌||◌, true, IfSome, IsSomeAnd, IsTrue, is_some, if◌then◌else◌, option_map};
 ghost use Rattle.lc_model.specs.declared.kind.Kind.TheVariants.{Wdt, Adt};
@@ -34,7 +34,7 @@ pub(crate) const REQUESTS: [u16; 3] = [
     mids::SAMPLE,
 ];
 
-/// The image that a table would have: the activated one, or else the active one.
+/// The image with which a table would be adopted: the activated one, or else the active one.
 fn candidate(tables: &Tables, slot: Slot) -> Option<&[u8]>
     requires { IsTrue (is_some (table_at slot tables.now.places)) }
     ensures { option_map (λ image. image.now) result ≡ model.candidate (slot_at slot tables.now) }
@@ -56,7 +56,7 @@ fn is_activated(tables: &Tables, slot: Slot) -> bool
     }
 }
 
-/// Whether an activated image waits at one of two tables.
+/// Whether at least one of the two tables has an activated image.
 fn is_one_activated(tables: &Tables, wdt: Slot, adt: Slot) -> bool
     requires wdt { IsTrue (is_some (table_at wdt tables.now.places)) }
     requires adt { IsTrue (is_some (table_at adt tables.now.places)) }
@@ -67,7 +67,7 @@ fn is_one_activated(tables: &Tables, wdt: Slot, adt: Slot) -> bool
     is_activated(tables, wdt) || is_activated(tables, adt)
 }
 
-/// The image that a table would have, which was judged when it came.
+/// The image with which a table would be adopted; it was validated before.
 fn sound_candidate<'a>(tables: &'a Tables, slot: Slot, kind: Kind) -> Option<ValidImage<'a>>
     requires registered { IsTrue (is_some (table_at slot tables.now.places)) }
     requires sound { HasSoundSlot kind (slot_at slot tables.now) }
@@ -81,7 +81,7 @@ fn sound_candidate<'a>(tables: &'a Tables, slot: Slot, kind: Kind) -> Option<Val
     }
 }
 
-/// Whether a table of watchpoints and one of actionpoints belong together: they have one hash and one count of watchpoints.
+/// Whether a WDT and an ADT match: they have equal hashes and equal watchpoint counts.
 pub(crate) fn belong_together(wdt: &ValidImage<'_>, adt: &ValidImage<'_>) -> bool
     requires wdt { wdt.now.kind ≡ Wdt }
     requires adt { adt.now.kind ≡ Adt }
@@ -91,8 +91,8 @@ pub(crate) fn belong_together(wdt: &ValidImage<'_>, adt: &ValidImage<'_>) -> boo
         && preamble::watchpoint_count(wdt.image()) == preamble::watchpoint_count(adt.image())
 }
 
-/// The pair that is to be adopted, if there is one: the activated image of each table, or else its active one. At least one of
-/// them is activated, and both belong together.
+/// The pair that is adopted, if there is one: the activated image of each table, or else its active one. At least one of them
+/// is activated, and the two match.
 fn pair_to_adopt<'a>(
     tables: &'a Tables,
     wdt: Slot,
@@ -122,7 +122,7 @@ fn pair_to_adopt<'a>(
     }
 }
 
-/// Takes an activated image into use, where one waits.
+/// Makes an activated image active, if there is one.
 fn take_activated(tables: &mut Tables, slot: Slot)
     requires { IsTrue (is_some (table_at slot tables.old.places)) }
     ensures { tables.new ≡ slot_changed taken slot tables.old }
@@ -132,7 +132,7 @@ fn take_activated(tables: &mut Tables, slot: Slot)
     }
 }
 
-/// Whether the watchpoints of a table have the message ids of these, in the same order.
+/// Whether the watchpoints of a table have the same message ids as these, in the same order.
 fn has_ids_of(wdt: &ValidImage<'_>, terms: &[Term]) -> bool
     requires { wdt.now.kind ≡ Wdt }
     ensures { result ≡ true → mids_of (spelled_terms wdt.now.bytes) ≡ mids_of terms.now }
@@ -148,8 +148,8 @@ fn has_ids_of(wdt: &ValidImage<'_>, terms: &[Term]) -> bool
     true
 }
 
-/// Puts a pair of tables in force: the pipe hears the message ids of requests and of the new watchpoints alone. New tables mostly
-/// watch the packets that the old ones watched; then no subscription changes.
+/// Puts a pair of tables in force: the pipe is then subscribed only to the message ids of requests and of the new watchpoints.
+/// New tables mostly watch the same packets as the old ones; then no subscription changes.
 fn put_in_force(
     engine: &mut Engine,
     bus: &mut Bus,
@@ -178,8 +178,8 @@ fn put_in_force(
 }
 
 /// Adopts the pair of images of a seat (`pair_to_adopt`), and returns whether there is one: the engine has these tables,
-/// without any history, what waits activated is taken, and the pipe hears the message ids of requests and of the new
-/// watchpoints alone.
+/// without any history, activated images become active, and the pipe is then subscribed only to the message ids of requests and
+/// of the new watchpoints.
 pub(crate) fn adopt(engine: &mut Engine, services: &mut Services, seat: Seat) -> bool
     requires { MayRenew seat engine.old services.old }
     ensures answer { result ≡ is_some (pair_at seat services.old.tables) }

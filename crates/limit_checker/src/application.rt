@@ -29,7 +29,7 @@ use lc_model::{EventKind, Seat, sample_request};
 use limit_engine::Engine;
 use std::alloc::{AllocError, Global};
 
-/// The parts of the application: its engine, the seat that it holds, and room for what a sample asks for.
+/// The parts of the application: its engine, the seat that it holds, and room for the result of a sample.
 #[derive(Debug, Drop)]
 pub(crate) struct Application {
     pub(crate) engine: Engine,
@@ -51,7 +51,7 @@ impl Application {
         })
     }
 
-    /// A command (message id 0x18A4) is obeyed, or refused: events 8 and 9.
+    /// Executes a command (message id 0x18A4, event 8), or refuses it (event 9).
     pub(crate) fn command(&mut self, services: &mut Services, packet: &[u8])
         requires home { IsHome self.old.seat self.old.engine services.old }
         requires given { MayHave self.old.seat packet.now services.old }
@@ -80,7 +80,7 @@ impl Application {
         }
     }
 
-    /// A packet of telemetry (message ids 0x0800 to 0x0FFF) is seen: event 7, where it is too short for a watchpoint of its id.
+    /// Compares a telemetry packet (message ids 0x0800 to 0x0FFF); event 7 if it is too short for a watchpoint of its id.
     pub(crate) fn telemetry(&mut self, services: &mut Services, packet: &[u8])
         requires home { IsHome self.old.seat self.old.engine services.old }
         requires given { MayHave self.old.seat packet.now services.old }
@@ -89,8 +89,8 @@ impl Application {
         ensures answers { Answers self.old.seat self.old.engine self.new.engine packet.now
             services.old services.new }
     {
-        // For the proof: each call of the services keeps the rules of the interface, and what is sent adds up from call to
-        // call.
+        // For the proof: each call of the services keeps the rules of the interface, and the requests of several calls are sent
+        // in order.
         seats_are_kept_by_the_rules();
         telling_goes_on();
         if self.engine.telemetry(packet) {
@@ -99,7 +99,8 @@ impl Application {
         }
     }
 
-    /// A sample request (message id 0x18A6) is taken: what the rules ask for is sent, in order. One that is refused: event 9.
+    /// Handles a sample request (message id 0x18A6): sends the requests and events of its rules, in order; or refuses it (event
+    /// 9).
     pub(crate) fn sample(&mut self, services: &mut Services, packet: &[u8])
         requires home { IsHome self.old.seat self.old.engine services.old }
         requires given { MayHave self.old.seat packet.now services.old }
@@ -137,7 +138,7 @@ impl Application {
         services.send_housekeeping(self.engine.mode(), standings.as_slice());
     }
 
-    /// Gives the seat back, with its pipe, sender of events and tables. Condition: nothing waits to be written.
+    /// Closes the seat with its pipe, event sender and tables. Condition: no output waits.
     pub(crate) fn leave(&mut self, services: &mut Services)
         requires home { IsHome self.old.seat self.old.engine services.old }
         requires idle { services.old.outgoing ≡ [] }
@@ -150,7 +151,7 @@ impl Application {
             (LeavesEmpty seat services.old services.new)) }
     {
         // For the proof: each call of the services keeps the rules of the interface, and tables and files are within their
-        // bounds, each under a name of its own.
+        // bounds, and no name is used twice.
         seats_are_kept_by_the_rules();
         services.tables.is_service();
         if let Some(seat) = self.seat.take() {

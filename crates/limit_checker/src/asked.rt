@@ -1,4 +1,4 @@
-//! What a sample asks for.
+//! The result of a sample.
 
 ghost use Rattle.std.specs.Prelude.{◌≡◌, [], IfOk};
 ghost use Rattle.limit_engine.specs.Engine.{after_sample, points_sampled};
@@ -9,7 +9,7 @@ use limit_engine::{Asked, Engine};
 use std::alloc::{AllocError, Global};
 use std::marker::Model;
 
-/// What the rules of a sample ask for, with room for an item of each rule. Contracts see the items.
+/// The reactions of the rules of a sample, with room for an item of each rule. Contracts see the items.
 #[derive(Debug, Drop)]
 pub(crate) struct AskedList {
     items: Vec<Asked>,
@@ -43,7 +43,7 @@ impl AskedList {
         self.items.as_slice()
     }
 
-    /// Samples the rules that a request names; afterwards the items are what they ask for, in order.
+    /// Samples the rules that a request takes; then the items are their reactions, in order.
     pub(crate) fn sample(&mut self, engine: &mut Engine, request: &SampleRequest)
         ensures after { engine.new ≡ after_sample request.now engine.old }
         ensures asked { requests_in engine.old.rules self.new ≡

@@ -25,9 +25,9 @@ pub(crate) enum Command {
 /// Why a command is refused.
 #[derive(Clone, Copy)]
 pub(crate) enum Refused {
-    /// It can't be read.
+    /// Its code or its length is not valid.
     Unread(CommandRefusal),
-    /// It can't be obeyed.
+    /// It cannot be executed.
     Unobeyed(StateRefusal),
 }
 
@@ -68,7 +68,7 @@ fn read(packet: &[u8]) -> Result<Command, CommandRefusal>
     }
 }
 
-/// Obeys the command of a packet. A refused one changes nothing.
+/// Executes the command of a packet. A refused one changes nothing.
 pub(crate) fn obey(engine: &mut Engine, packet: &[u8]) -> Result<(), Refused>
     requires { command_header_size ≤ length packet.now }
     ensures answer { answered result ≡ outcome (own_commanded packet.now engine.old) }

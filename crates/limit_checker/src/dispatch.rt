@@ -21,8 +21,8 @@ impl Application {
         ensures answers { Answers self.old.seat self.old.engine self.new.engine packet.now
             services.old services.new }
     {
-        // For the proof: each call of the services keeps the rules of the interface, and what is sent adds up from call to
-        // call.
+        // For the proof: each call of the services keeps the rules of the interface, and the requests of several calls are sent
+        // in order.
         seats_are_kept_by_the_rules();
         telling_goes_on();
         let mid = message_id(packet);

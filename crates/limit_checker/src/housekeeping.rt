@@ -30,7 +30,7 @@ use tbl_service::Slot;
 /// The bytes of a request's headers. It has no payload.
 const HEADERS: usize = 8;
 
-/// What became of the two tables.
+/// The result of validation and adoption.
 #[derive(Clone, Copy)]
 pub(crate) struct Renewal {
     wdt: Verdict,
@@ -54,8 +54,8 @@ fn check_request(packet: &[u8]) -> Result<(), CommandRefusal>
     Ok(())
 }
 
-/// Validates the images that a seat's owner is asked about, those of watchpoints first, and then adopts the pair with an
-/// activated image, if there is one that belongs together.
+/// Validates the images that are asked to be validated, the WDT's first, and then adopts the pair with an activated image, if
+/// there is one that matches.
 fn renew(engine: &mut Engine, services: &mut Services, seat: Seat) -> Renewal
     requires { MayRenew seat engine.old services.old }
     ensures { Renews seat engine.old engine.new services.old services.new result }
@@ -73,7 +73,8 @@ fn tell_adoption(adopted: bool, from: &Option<Seat>, services: &mut Services)
     ensures told { Tells from.now lc_name (adoption_requests adopted) services.old services.new }
     ensures size { length services.new.outgoing ≤ length services.old.outgoing + event_packet_size }
 {
-    // For the proof: each call of the services keeps the rules of the interface, and what is sent adds up from call to call.
+    // For the proof: each call of the services keeps the rules of the interface, and the requests of several calls are sent in
+    // order.
     seats_are_kept_by_the_rules();
     telling_goes_on();
     if adopted {
@@ -82,14 +83,14 @@ fn tell_adoption(adopted: bool, from: &Option<Seat>, services: &mut Services)
     }
 }
 
-/// Reports what became of the tables: events 10, 11 and 2.
+/// Reports validation and adoption: events 10, 11 and 2.
 fn tell_renewal(renewal: &Renewal, from: &Option<Seat>, services: &mut Services)
     requires sends { MaySend from.now services.old }
     requires room { length services.old.outgoing + largest_renewal ≤ outgoing_room }
     ensures told { Tells from.now lc_name (renewal_requests renewal.now) services.old services.new }
     ensures size { length services.new.outgoing ≤ length services.old.outgoing + largest_renewal }
 {
-    // For the proof: what is sent adds up from call to call.
+    // For the proof: the requests of several calls are sent in order.
     telling_goes_on();
     tell_verdict(Kind::Wdt, renewal.wdt, from, services);
     tell_verdict(Kind::Adt, renewal.adt, from, services);
@@ -97,7 +98,7 @@ fn tell_renewal(renewal: &Renewal, from: &Option<Seat>, services: &mut Services)
 }
 
 impl Application {
-    /// Reports what became of the tables, and then the mode and the rules: events 10, 11 and 2, and message id 0x08A7.
+    /// Reports validation and adoption (events 10, 11 and 2), and then sends housekeeping (message id 0x08A7).
     fn report(&self, renewal: &Renewal, services: &mut Services)
         requires sends { MaySend self.now.seat services.old }
         requires room { length services.old.outgoing + largest_report ≤ outgoing_room }
@@ -107,14 +108,14 @@ impl Application {
         ensures size { length services.new.outgoing ≤
             length services.old.outgoing + largest_report }
     {
-        // For the proof: what is sent adds up from call to call.
+        // For the proof: the requests of several calls are sent in order.
         telling_goes_on();
         tell_renewal(renewal, &self.seat, services);
         self.tell_standing(services);
     }
 
-    /// Handles a housekeeping request (message id 0x18A5): validates the images for which that was asked, adopts a pair with
-    /// an activated image that belongs together, and reports this (events 10, 11 and 2) and then housekeeping (message id
+    /// Handles a housekeeping request (message id 0x18A5): validates the images that are asked to be validated, adopts a
+    /// matching pair with an activated image, reports this (events 10, 11 and 2), and then sends housekeeping (message id
     /// 0x08A7). A refused request: event 9.
     pub(crate) fn housekeeping(&mut self, services: &mut Services, packet: &[u8])
         requires home { IsHome self.old.seat self.old.engine services.old }
@@ -125,7 +126,7 @@ impl Application {
             services.old services.new }
     {
         // For the proof: each call of the services keeps the rules of the interface, and tables and files are within their
-        // bounds, each under a name of its own.
+        // bounds, and no name is used twice.
         seats_are_kept_by_the_rules();
         services.tables.is_service();
         match check_request(packet) {

@@ -1,5 +1,5 @@
-//! The Limit Checker application `LC` of the core Flight System (cFS Limit Checker user's guide): the engine of `limit_engine` on
-//! a seat of the host, with its tables, its commands and what it sends.
+//! The Limit Checker application `LC` of the core Flight System (cFS Limit Checker user's guide): the engine of `limit_engine`
+//! on a seat of the host, with its tables, its commands and its packets.
 #![tactic(auto)]
 
 mod adoption;

@@ -1,4 +1,4 @@
-//! What sampled rules ask for is sent, in order (cFS Limit Checker user's guide).
+//! Sends the requests and events of sampled rules, in order (cFS Limit Checker user's guide).
 
 ghost use Rattle.std.specs.Prelude.{◌≡◌, ◌+◌, ◌<◌, ◌≤◌, length, slice_get, Some};
 ghost use Rattle.lc_model.specs.Codes.{rule_text_size};
@@ -25,7 +25,8 @@ fn tell_turn(rule: u16, turn: Option<Turn>, from: &Option<Seat>, services: &mut 
     ensures told { Tells from.now lc_name (turn_requests rule turn) services.old services.new }
     ensures size { length services.new.outgoing ≤ length services.old.outgoing + turn_size turn }
 {
-    // For the proof: each call of the services keeps the rules of the interface, and what is sent adds up from call to call.
+    // For the proof: each call of the services keeps the rules of the interface, and the requests of several calls are sent in
+    // order.
     seats_are_kept_by_the_rules();
     telling_goes_on();
     match turn {
@@ -51,7 +52,8 @@ fn request(rule: u16, run: u16, event: &RuleEvent<'_>, from: &Option<Seat>, serv
         services.new }
     ensures size { length services.new.outgoing ≤ length services.old.outgoing + largest_request }
 {
-    // For the proof: each call of the services keeps the rules of the interface, and what is sent adds up from call to call.
+    // For the proof: each call of the services keeps the rules of the interface, and the requests of several calls are sent in
+    // order.
     seats_are_kept_by_the_rules();
     telling_goes_on();
     services.request_sequence(event.sequence);
@@ -59,7 +61,7 @@ fn request(rule: u16, run: u16, event: &RuleEvent<'_>, from: &Option<Seat>, serv
     tell(services, *from, event.id, event.kind, text.as_bytes());
 }
 
-/// What enough failures in a row lead to is sent.
+/// Sends the reaction to enough failures in a row.
 fn tell_failure(
     rule: u16,
     failure: Failure,
@@ -91,7 +93,7 @@ fn tell_failure(
     }
 }
 
-/// All that a sampled rule leads to is sent, the turn first.
+/// Sends all reactions of a sampled rule, the turn first.
 #[inline(never)]
 fn tell_reactions(
     rule: u16,
@@ -108,7 +110,7 @@ fn tell_reactions(
     ensures size { length services.new.outgoing ≤ length services.old.outgoing + reactions_size
         reactions }
 {
-    // For the proof: what is sent adds up from call to call.
+    // For the proof: the requests of several calls are sent in order.
     telling_goes_on();
     tell_turn(rule, reactions.turn, from, services);
     match reactions.failure {
@@ -117,7 +119,7 @@ fn tell_reactions(
     }
 }
 
-/// All that an item of a sample asks for is sent.
+/// Sends the reactions of one item of a sample.
 fn tell_item(engine: &Engine, item: &Asked, from: &Option<Seat>, services: &mut Services)
     requires sends { MaySend from.now services.old }
     requires room { length services.old.outgoing + sizes
@@ -129,7 +131,7 @@ fn tell_item(engine: &Engine, item: &Asked, from: &Option<Seat>, services: &mut 
         (requests_at (slice_get engine.now.rules item.now.rule) item.now) }
     ensures sends { MaySend from.now services.new }
 {
-    // For the proof: what is sent adds up from call to call.
+    // For the proof: the requests of several calls are sent in order.
     telling_goes_on();
     let index = usize::from(item.rule);
     if index < engine.rule_count() {
@@ -138,7 +140,7 @@ fn tell_item(engine: &Engine, item: &Asked, from: &Option<Seat>, services: &mut 
     }
 }
 
-/// All that a sample asks for is sent, in order.
+/// Sends all reactions of a sample, in order.
 pub(crate) fn tell_all(
     engine: &Engine,
     asked: &[Asked],
@@ -153,7 +155,7 @@ pub(crate) fn tell_all(
     ensures size { length services.new.outgoing ≤ length services.old.outgoing + sizes
         (requests_in engine.now.rules asked.now) }
 {
-    // For the proof: what is sent adds up from call to call.
+    // For the proof: the requests of several calls are sent in order.
     telling_goes_on();
     for item in asked {
         tell_item(engine, item, from, services);

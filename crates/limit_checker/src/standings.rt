@@ -1,4 +1,5 @@
-//! How the rules stand, as housekeeping reports it (cFS Limit Checker user's guide; the layout is this project's own).
+//! The state and last result of each rule, as housekeeping reports it (cFS Limit Checker user's guide; the layout is this
+//! project's own).
 
 ghost use Rattle.std.specs.Prelude.{◌≡◌, ◌≤◌, length, map};
 ghost use Rattle.lc_model.specs.Codes.{table_entries};
@@ -11,7 +12,7 @@ use arrayvec::ArrayVec;
 use lc_model::{ApResult, TABLE_ENTRIES};
 use limit_engine::{Engine, Standing};
 
-/// How a rule stands, in one byte: its state in the upper four bits, its last result in the lower.
+/// A rule in one byte: its state in the upper four bits, its last result in the lower.
 fn byte_of(standing: Standing) -> u8
     ensures { result ≡ standing_byte (standing_of standing) }
 {

@@ -1,4 +1,4 @@
-//! How the application begins on a seat (cFS Limit Checker user's guide, tables; the default files are this project's own).
+//! The start of the application on a seat (cFS Limit Checker user's guide, tables; the default files are this project's own).
 
 ghost use Rattle.std.specs.Prelude.{◌≡◌, ◌<◌, ◌∷◌, [], IfSome, is_some, option_map};
 ghost use Rattle.lc_model.specs.declared.kind.Kind.TheVariants.{Wdt, Adt};
@@ -29,7 +29,7 @@ use tbl_service::{Slot, Tables};
 /// The application's name.
 pub(crate) const NAME: &[u8] = b"LC";
 
-/// The file that a table is started from.
+/// The default file of a table.
 fn default_file(kind: Kind) -> &'static [u8]
     ensures { result.now ≡ default_file kind }
 {
@@ -39,7 +39,7 @@ fn default_file(kind: Kind) -> &'static [u8]
     }
 }
 
-/// The image that a table starts with: that of its default file, where that is stored, opens, is for this table and has a
+/// The image with which a table starts: that of its default file, if the file is stored, opens, is for this table, and has a
 /// sound image.
 fn default_image(tables: &Tables, kind: Kind) -> Option<ValidImage<'_>>
     ensures image { option_map (λ valid. valid.bytes) result ≡ start_image kind tables.now }
@@ -61,7 +61,7 @@ fn default_image(tables: &Tables, kind: Kind) -> Option<ValidImage<'_>>
     }
 }
 
-/// The pair of tables that the application starts with: both have an image to start with, and these belong together.
+/// The pair of tables with which the application starts: both default files have such an image, and the two match.
 fn default_pair(tables: &Tables) -> Option<(ValidImage<'_>, ValidImage<'_>)>
     ensures pair { option_map pair_of result ≡ start_pair tables.now }
     ensures sound { IfSome result IsSoundPair }
@@ -87,7 +87,7 @@ fn register_both(tables: &mut Tables, seat: Seat)
     requires unused { AreUnused tables.old }
     ensures { tables.new ≡ with_both seat tables.old }
 {
-    // For the proof: tables and files are within their bounds, each under a name of its own.
+    // For the proof: tables and files are within their bounds, and no name is used twice.
     tables.is_service();
     tables
         .register(
@@ -107,8 +107,8 @@ fn register_both(tables: &mut Tables, seat: Seat)
         .unwrap();
 }
 
-/// Puts the default files' tables in force, if they are a pair, and returns whether they are. Condition: the seat has both
-/// tables, without images.
+/// Puts the default files' tables in force, if they match, and returns whether they do. Condition: the seat has both tables,
+/// without images.
 fn begin(engine: &mut Engine, tables: &mut Tables, seat: Seat) -> bool
     requires { tables_at seat tables.old.places ≡ new_wdt ∷ new_adt ∷ [] }
     ensures answer { result ≡ is_some (start_pair tables.old) }
@@ -125,8 +125,8 @@ fn begin(engine: &mut Engine, tables: &mut Tables, seat: Seat) -> bool
     true
 }
 
-/// The application takes a free seat: with a pipe, a sender of events and its two tables; with the default files' tables in
-/// force if they are a pair; event 1 reports whether they are. Conditions: as for each application's start.
+/// Starts the application on a free seat: with a pipe, an event sender and its two tables; with the default files' tables in
+/// force if they match; event 1 reports whether they are. Conditions: as for each application's start.
 pub(crate) fn take_seat(engine: &mut Engine, seat: Seat, services: &mut Services)
     requires { MayBeStarted seat lc_name (held_by services.old) }
     ensures rules { IsStarted seat lc_name (held_by services.old) (held_by services.new) }
@@ -135,8 +135,8 @@ pub(crate) fn take_seat(engine: &mut Engine, seat: Seat, services: &mut Services
         (Leaves seat (LcState engine.new) services.old services.new) }
     ensures settled { IsSettled (LcState engine.new) seat (held_by services.new) }
 {
-    // For the proof: each call of the services keeps the rules of the interface, and tables and files are within their
-    // bounds, each under a name of its own.
+    // For the proof: each call of the services keeps the rules of the interface, and tables and files are within their bounds,
+    // and no name is used twice.
     seats_are_kept_by_the_rules();
     services.tables.is_service();
     services.open(seat, NAME, &[]);

@@ -10,8 +10,8 @@ ghost use Rattle.app_host.specs.Telling.{Tells};
 use app_host::Services;
 use lc_model::{EventKind, Seat};
 
-/// Sends an event of the seat's application as `Services::tell` does, with the code for that in one place. Where many packets
-/// may each lead to an event, `Services::tell` is called directly.
+/// Sends an event of the seat's application as `Services::tell` does; the code for it stands in one place. Code that handles
+/// many packets calls `Services::tell` directly.
 #[inline(never)]
 pub(crate) fn tell(
     services: &mut Services,

@@ -66,7 +66,7 @@ pub(crate) fn short_packet(mid: u16) -> EventText
     text
 }
 
-/// Event 8, of type information: a command was obeyed.
+/// Event 8, of type information: a command was executed.
 pub(crate) fn command_done(code: u8) -> EventText
     ensures { Event lc_name 8 Information result ≡ request.lc_command_done code }
 {

@@ -1,4 +1,4 @@
-//! Verdicts on the images that the application is asked about (cFE user's guide, table services: validation by the owner).
+//! Verdicts on the images that are asked to be validated (cFE user's guide, table services: validation by the owner).
 
 ghost use Rattle.std.specs.Prelude.{◌≡◌, ◌+◌, ◌≤◌, length, IsTrue, is_some, option_map};
 ghost use Rattle.lc_model.specs.Codes.{kind_code};
@@ -20,7 +20,7 @@ use lc_model::{EventKind, Kind, Seat};
 use table_validator::{TableFault, validate};
 use tbl_service::{Slot, Stage, Tables};
 
-/// What was found of the image of a table.
+/// The verdict on a table's image.
 #[derive(Clone, Copy)]
 pub(crate) enum Verdict {
     /// No validation was asked for.
@@ -31,7 +31,7 @@ pub(crate) enum Verdict {
     Faulty(TableFault),
 }
 
-/// The number of a table, as events have it.
+/// The number of a table in events.
 fn number_of(kind: Kind) -> u16
     ensures { result ≡ kind_code kind }
 {
@@ -41,7 +41,7 @@ fn number_of(kind: Kind) -> u16
     }
 }
 
-/// The verdict on the image that the owner of a table is asked about.
+/// The verdict on a table's image that is asked to be validated.
 fn verdict_on(tables: &Tables, slot: Slot, kind: Kind) -> Verdict
     requires { IsTrue (is_some (table_at slot tables.now.places)) }
     ensures { verdict_seen result ≡ option_map (fault_on_board kind)
@@ -56,7 +56,7 @@ fn verdict_on(tables: &Tables, slot: Slot, kind: Kind) -> Verdict
     }
 }
 
-/// Validates the image that the owner of a table is asked about, and sets the verdict. If it is not asked, nothing changes.
+/// Validates a table's image that is asked to be validated, and sets the verdict. Otherwise nothing changes.
 pub(crate) fn judge(tables: &mut Tables, slot: Slot, kind: Kind) -> Verdict
     requires { IsTrue (is_some (table_at slot tables.old.places)) }
     ensures after { tables.new ≡ slot_changed (validation kind) slot tables.old }
@@ -83,7 +83,8 @@ pub(crate) fn tell_verdict(
     ensures told { Tells from.now lc_name (requests_of kind verdict) services.old services.new }
     ensures size { length services.new.outgoing ≤ length services.old.outgoing + event_packet_size }
 {
-    // For the proof: each call of the services keeps the rules of the interface, and what is sent adds up from call to call.
+    // For the proof: each call of the services keeps the rules of the interface, and the requests of several calls are sent in
+    // order.
     seats_are_kept_by_the_rules();
     telling_goes_on();
     match verdict {

@@ -1,8 +1,8 @@
--- named by the engine's contracts, for the crates above: the effects of its calls, reactions to a sample, and refusals
+-- Used by the engine's contracts, for the crates above: the effects of its calls, the reactions to a sample, and the refusals.
 pub mod Reactions
 pub mod Engine
 pub mod States
--- named by its own functions and invariants
+-- Used only by its own functions and invariants.
 pub mod Ids
 pub mod Bytes
 pub mod Ranges

@@ -11,16 +11,17 @@ use Rattle.lc_model.specs.LimitChecker.Reaction.{Reaction}
 use Rattle.lc_model.specs.Kept.Summary.{Tally}
 use Rattle.lc_model.specs.Kept.Next.{by_counts, is_last}
 
--- the point of the rule with this number after this result, and the requests and events
+-- The point of rule `n` after a sample with this result, and the requests and events.
 abbrev pub point_with : Actionpoint → ℕ → LcMode → ApResult → Point Tally → Point Tally × List Request
 point_with rule n mode outcome point =
     let after : Tally × Reaction = by_counts.sampled rule n mode outcome point.state point.past in
     (record { state = after.1.state; past = after.0 }, after.1.requests)
 
--- neither this result nor the last one is a failure, so nothing is requested, and only the run and the last result change
+-- Whether a sample requests nothing and changes only the run and the last result: neither this result nor the last one is a
+-- failure.
 abbrev pub is_quiet : ℕ → ApResult → Option ApResult → Bool
 is_quiet fails outcome last = nat_lt 0 fails && not (is_result Fail outcome) && not (is_last Fail last)
 
--- the point after such a result
+-- The point after such a sample.
 abbrev pub noted : ApResult → Point Tally → Point Tally
 noted outcome point = record { state = point.state; past = record point.past { last = Some outcome; run = 0 } }

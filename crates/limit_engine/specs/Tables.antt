@@ -1,4 +1,4 @@
--- The invariants of a Limit Checker's tables.
+-- The invariants of the engine's tables.
 use Rattle.std.specs.Prelude.{◌≡◌, ℕ, ◌*◌, ◌≤◌, List, length, map, All}
 use Rattle.lc_model.specs.declared.field.Term.{Term}
 use Rattle.lc_model.specs.declared.mode.LcMode.{LcMode}
@@ -13,7 +13,7 @@ use Rattle.limit_engine.specs.Plan.{AreEvaluated, IsPlanned, Planned}
 use Rattle.limit_engine.specs.Running.{truths_of}
 use Rattle.limit_engine.specs.Shared.{AreShared}
 
--- the engine's value in the contracts, with its effort
+-- The engine as the model's object of a Limit Checker.
 abbrev pub own_of : LcMode → List Term → List WatchResult → List RuleEntry → List (Point Tally) → List ℕ → (steps probes : ℕ) → LcOwn
 own_of mode terms watch entries points words steps probes = record {
   mode = mode;
@@ -24,8 +24,8 @@ own_of mode terms watch entries points words steps probes = record {
   effort = record { steps = steps; probes = probes };
 }
 
--- each watchpoint has its result, each entry its point; equal watchpoints have equal results, and each entry's words are a
--- sound equation
+-- Each watchpoint has a result, and each entry an actionpoint; equal watchpoints have equal results, and the words of each
+-- entry are a sound equation.
 pub record AreTables (terms : List Term) (watch : List WatchResult) (entries : List RuleEntry) (points : List (Point Tally)) (words : List ℕ) : Type 0 where
   pub few : length terms ≤ table_entries
   pub few_rules : length entries ≤ table_entries
@@ -34,25 +34,26 @@ pub record AreTables (terms : List Term) (watch : List WatchResult) (entries : L
   pub shared : AreShared terms watch
   pub runnable : All (IsRunnable terms words) entries
 
--- the tables, and a plan with the truth of each rule that a request takes
+-- The tables are consistent, and the plan has the truth of each rule that the request samples.
 pub record AreFound (request : SampleRequest) (terms : List Term) (watch : List WatchResult) (entries : List RuleEntry) (points : List (Point Tally)) (words : List ℕ) (plan : Planned) : Type 0 where
   pub tables : AreTables terms watch entries points words
   pub planned : IsPlanned (length terms) words entries plan.steps plan.roots
   pub evaluated : AreEvaluated request (truths_of watch) words entries plan.roots plan.places
 
--- the most words of a sample, 32 for each of 176 rules; and the most message ids that a packet's id is compared with
+-- The most words that a sample evaluates: 32 for each of 176 rules.
 abbrev pub most_steps : ℕ
 most_steps = 5632
 
+-- The most message ids with which a packet's id is compared.
 abbrev pub most_probes : ℕ
 most_probes = 8
 
--- bounds on the words evaluated and on the message ids compared
+-- The words evaluated and the message ids compared are within these bounds.
 pub record IsFewEffort (steps probes : ℕ) : Type 0 where
   pub few_steps : steps ≤ most_steps
   pub few_probes : probes ≤ most_probes
 
--- the capacities are enough for the largest tables
+-- The lists have room for the largest tables.
 pub record HasRoom (watch entries points words : ℕ) : Type 0 where
   pub for_watch : table_entries ≤ watch
   pub for_entries : table_entries ≤ entries

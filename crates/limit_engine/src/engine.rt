@@ -34,8 +34,8 @@ pub(crate) const TABLE_WORDS: usize = 32 * TABLE_ENTRIES;
 
 /// The engine of a Limit Checker, with the tables in force.
 ///
-/// Watchpoints are in groups by message id, actionpoints and words in flat tables in the order of their image. `new` takes all
-/// the memory. Contracts see its mode, watchpoints and rules, each watchpoint's last result, each rule's state and counts, and
+/// Watchpoints are in groups by message id, actionpoints and words in flat tables in the order of their image. `new` allocates
+/// all memory. Contracts see its mode, watchpoints and rules, each watchpoint's last result, each rule's state and counts, and
 /// its effort: the words evaluated and the message ids compared last.
 #[derive(Debug, Drop)]
 pub struct Engine {
@@ -175,7 +175,7 @@ impl Engine {
         self.mode
     }
 
-    /// The words of the equations that the last sample took, EQUAL included: at most 32 for each of 176 rules.
+    /// The number of words, EQUAL included, of the equations that the last sample evaluated: at most 32 for each of 176 rules.
     pub fn steps(&self) -> usize
         ensures steps { result ≡ self.now.effort.steps }
         ensures few { result ≤ most_steps }
@@ -184,7 +184,7 @@ impl Engine {
     }
 
     /// How many watched message ids the last telemetry packet's id was compared with: 1 if its id is watched, at most 8 if not,
-    /// and 0 if the Limit Checker is disabled. A comparison says less, equal or greater.
+    /// and 0 if the Limit Checker is disabled. A comparison gives less, equal or greater.
     pub fn probes(&self) -> usize
         ensures probes { result ≡ self.now.effort.probes }
         ensures few { result ≤ most_probes }
@@ -263,9 +263,9 @@ impl Engine {
         watchpoint::see_group(found.group, self.watch.as_mut_slice(), packet)
     }
 
-    /// Samples the active and passive rules that the request takes, in order; then ages all watchpoints, if the request says so.
-    /// Each rule that leads to a request or an event adds one item to `asked`, in the order of the rules. `asked` is empty
-    /// before, with room for `TABLE_ENTRIES` items. A disabled Limit Checker samples and ages nothing.
+    /// Samples the active and passive rules that the request takes, in order; then ages all watchpoints, if the request asks
+    /// for it. Each rule that leads to a request or an event adds one item to `asked`, in the order of the rules. `asked` is
+    /// empty before, with room for `TABLE_ENTRIES` items. A disabled Limit Checker samples and ages nothing.
     pub fn sample(&mut self, request: &SampleRequest, asked: &mut Vec<Asked>)
         requires none { asked.old.items ≡ [] }
         requires room { TABLE_ENTRIES ≤ vec_capacity asked.old }

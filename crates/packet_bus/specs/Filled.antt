@@ -1,7 +1,8 @@
--- What a receipt leaves in its buffer.
+-- The buffer of a receiver.
 use Rattle.std.specs.Prelude.{ℕ, List, ◌++◌, length, drop, Option, Some, None}
 
--- the packet is at the front, and the bytes after it stay
+-- The buffer after `receive`: the packet stands at its start, and the bytes after the packet are unchanged; without a packet
+-- all are.
 abbrev pub filled : Option (List ℕ) → List ℕ → List ℕ
 filled None buffer = buffer
 filled (Some packet) buffer = packet ++ drop (length packet) buffer

@@ -2,21 +2,21 @@
 use Rattle.std.specs.Prelude.{ℕ, ◌==◌, Bool, false, ◌&&◌, ◌||◌, List, [], ◌∷◌, map}
 use Rattle.std.specs.Int.{bit_at}
 
--- whether a seat is in a set, where that is said of each
+-- The value for one seat: whether it is in the set.
 abbrev pub is_in : Bool → Bool
 is_in inside = inside
 
--- for each seat, in order, whether it is in the set
+-- The set of these bits: for each seat, in order, whether it is in the set.
 abbrev pub seats_in : ℕ → List Bool
 seats_in bits = map (λ seat. bit_at bits seat == 1) (0 ∷ 1 ∷ 2 ∷ 3 ∷ 4 ∷ 5 ∷ 6 ∷ 7 ∷ [])
 
--- whether a seat is in both
+-- Whether some seat is in both sets.
 abbrev pub meet : List Bool → List Bool → Bool
 meet [] others = false
 meet (inside ∷ seats) [] = false
 meet (inside ∷ seats) (other ∷ others) = (inside && other) || meet seats others
 
--- the seats of both
+-- The seats that are in one set or the other.
 abbrev pub together : List Bool → List Bool → List Bool
 together [] others = []
 together (inside ∷ seats) [] = inside ∷ seats

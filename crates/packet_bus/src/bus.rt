@@ -33,7 +33,7 @@ use std::marker::Model;
 pub struct Bus {
     places: Vec<PipePlace>,
     pool: Pool,
-    /// For each message id who is subscribed to it.
+    /// For each message id the seats whose pipes are subscribed to it.
     audience: Vec<SeatSet>,
     /// The seats with a packet.
     ready: SeatSet,
@@ -53,7 +53,7 @@ impl Model for Bus {
     ghost invariant = { λ b. IsBus b.places.items b.pool b.audience.items b.ready b.full };
 }
 
-/// A row for each message id, with nobody in it.
+/// An empty set of seats for each message id.
 fn empty_rows(alloc: Global) -> Result<Vec<SeatSet>, AllocError>
     ensures { IfOk result (λ rows. rows.items ≡ replicate message_id_end nobody) }
 {
@@ -75,7 +75,7 @@ fn empty_places(alloc: Global) -> Result<Vec<PipePlace>, AllocError>
     Ok(places)
 }
 
-/// Appends a slot to the packets that wait on a seat. The seat's pipe has room.
+/// Appends a slot to the packets that wait on a seat, whose pipe has room.
 fn deliver_to(seat: Seat, slot: u16, places: &mut Vec<PipePlace>, full: &mut SeatSet)
     requires eight { length places.old.items ≡ seat_count }
     requires open { is_some (place_at places.old.items seat) ≡ true }
@@ -90,7 +90,7 @@ fn deliver_to(seat: Seat, slot: u16, places: &mut Vec<PipePlace>, full: &mut Sea
     }
 }
 
-/// Stores a packet for these seats, whose pipes have room, appends its slot to what waits there, and returns the slot.
+/// Stores a packet for these seats, whose pipes have room, appends its slot to their waiting packets, and returns the slot.
 #[cold]
 #[inline(never)]
 fn deliver_to_each(
@@ -122,7 +122,7 @@ fn deliver_to_each(
     slot
 }
 
-/// Delivers a packet to these seats, which are ready then. Most packets have one subscriber.
+/// Delivers a packet to these seats, which then have a waiting packet. Most packets have one subscriber.
 fn deliver(
     hearers: SeatSet,
     packet: &[u8],
@@ -156,7 +156,7 @@ fn deliver(
     slot
 }
 
-/// Takes the oldest slot that waits on a seat, if one does.
+/// Takes the oldest waiting slot of a seat, if there is one.
 fn take_oldest(
     seat: Seat,
     places: &mut Vec<PipePlace>,
@@ -328,8 +328,8 @@ impl Bus {
         self.audience[judged_message_id(packet) as usize].only()
     }
 
-    /// Moves the oldest packet of the seat's pipe to the front of `buffer`, whose further bytes stay, and returns its length
-    /// in bytes, or `None` if no packet waits. Its header has no fault. Error: `NoPipe` (93).
+    /// Moves the oldest packet of the seat's pipe to the start of `buffer`, whose further bytes stay, and returns its length in
+    /// bytes, or `None` if no packet waits. Its header has no fault. Error: `NoPipe` (93).
     pub fn receive(
         &mut self,
         seat: Seat,
@@ -382,7 +382,7 @@ impl Bus {
         }
     }
 
-    /// Takes the oldest packet of a seat into the front of a buffer, and returns how many bytes it has.
+    /// Takes the oldest packet of a seat to the start of a buffer, and returns its length in bytes.
     fn take_packet(&mut self, seat: Seat, buffer: &mut [u8; PACKET_SIZE]) -> Option<usize>
         ensures after { self.new ≡ changed seat model.without_oldest self.old }
         ensures size { result ≡ option_map length (oldest_at seat self.old) }

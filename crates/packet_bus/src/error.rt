@@ -11,7 +11,7 @@ use thiserror::Error;
 /// Why the bus refuses a call, or a lack of memory. A refused call leaves the bus as it was.
 #[derive(Clone, Copy, Debug, PartialEq, Eq, Error)]
 pub enum BusError {
-    /// The bytes are not a packet of this profile, for this reason.
+    /// The bytes are not a packet of this profile; this is the fault.
     #[error("bad packet: {reason}")]
     BadPacket { reason: HeaderFault },
     /// A pipe that is subscribed to the packet's message id holds 72 packets. No pipe gets the packet.

@@ -8,7 +8,7 @@ use lc_model::packet::{COMMAND_HEADERS, LONGEST_PACKET, TELEMETRY_HEADERS};
 use lc_model::{packet, u16_at};
 use thiserror::Error;
 
-/// Why bytes are not a packet of this profile: the first reason that applies.
+/// Why bytes are not a packet of this profile: the first fault that applies.
 #[derive(Clone, Copy, Debug, PartialEq, Eq, Error)]
 pub enum HeaderFault {
     /// Fewer bytes than the header has: 8 of a command, 12 of telemetry.
@@ -23,7 +23,7 @@ pub enum HeaderFault {
     /// The sequence flags aren't 3: a part of a packet.
     #[error("a part of a packet")]
     Segment,
-    /// The length field says another length.
+    /// The length field is not that of the number of bytes.
     #[error("the packet has another length than its header says")]
     WrongLength,
     /// Over 2,048 bytes.
@@ -32,7 +32,7 @@ pub enum HeaderFault {
 }
 
 impl HeaderFault {
-    /// The reason's number, 1 to 6.
+    /// The fault's number, 1 to 6.
     pub fn number(self) -> u8
         ensures { result ≡ fault_number self }
     {
@@ -47,7 +47,7 @@ impl HeaderFault {
     }
 }
 
-/// What a packet is, by the type bit of its header.
+/// The kind of a packet, by the type bit of its header.
 #[derive(Clone, Copy, Debug, PartialEq, Eq)]
 pub enum PacketKind {
     /// A command, with its function code, below 128. Its payload begins at byte 8.
@@ -68,12 +68,12 @@ impl PacketKind {
     }
 }
 
-/// What the header of a packet says.
+/// The parts of a packet's header.
 #[derive(Clone, Copy, Debug, PartialEq, Eq)]
 pub struct Header {
     /// The first 16 bits: version, type, secondary header flag and application id.
     pub message_id: u16,
-    /// How many packets of this message id were sent before, modulo 16,384.
+    /// The number of packets of this message id sent before, modulo 16,384.
     pub sequence_count: u16,
     /// A command or telemetry.
     pub kind: PacketKind,
@@ -145,7 +145,7 @@ pub(crate) fn judged_message_id(bytes: &[u8]) -> u16
     u16_at(bytes, 0)
 }
 
-/// Reads a packet's header. The error is the first of the reasons 1 to 6 why the bytes are not a packet.
+/// Reads a packet's header. The error is the first of the faults 1 to 6 that applies.
 pub fn parse_header(bytes: &[u8]) -> Result<Header, HeaderFault>
     ensures exact { fault_in result ≡ header_fault bytes.now }
     ensures says { IfOk result (λ header. header ≡ header_of bytes.now) }

@@ -1,5 +1,5 @@
 //! The packet bus of the core Flight System: packet headers, pipes with their subscriptions, and a pool in which each packet is
-//! kept once, however many pipes wait for it (CCSDS 133.0-B; cFE user's guide, software bus services).
+//! stored once, in however many pipes it waits (CCSDS 133.0-B; cFE user's guide, software bus services).
 #![tactic(auto)]
 
 mod bus;

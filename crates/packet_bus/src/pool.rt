@@ -1,4 +1,4 @@
-//! The pool: each packet that waits, kept once (this project's own).
+//! The pool: each waiting packet is stored once (this project's own).
 
 ghost use Rattle.std.specs.Prelude.{◌≡◌, ◌<◌, ◌≤◌, ◌-◌, ◌+◌, ◌++◌, ◌==◌, [], ◌∷◌, length, take, drop, slice_set, replicate, IfOk, slice_index_or, vec_len, vec_capacity};
 ghost use Rattle.lc_model.specs.Packet.{longest_packet};

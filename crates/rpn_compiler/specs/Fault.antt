@@ -1,4 +1,4 @@
--- What the compiler's errors say of a text. This project's own.
+-- The compiler's errors as refusals of a text. This project's own.
 use Rattle.std.specs.Prelude.{◌≡◌, ℕ, ◌⊎◌, Option, Some, None, option_map}
 use Rattle.lc_model.specs.Text.Reading as model
 use Rattle.lc_model.specs.Text.Reading.{ParseFault, TextRefusal, ForText, AtPlace, Unparsed, ForRule, nested_too_deep, unexpected_token}
@@ -16,29 +16,35 @@ use Rattle.watch_sharing.specs.declared.error.ShareError.TheVariants as sharing
 use Rattle.rpn_compiler.specs.declared.error.CompileError.{CompileError}
 use Rattle.rpn_compiler.specs.declared.error.CompileError.TheVariants.{Lex, Parse, Check, TooManyWatchpoints, TooManyRules, EquationTooLong, Memory}
 
--- ---- the compiler's error where a part of it has one
+-- ---- the compiler's error for an error of one of its stages
 
+-- The compiler's error for a lexer's error.
 abbrev pub error_of_lexer : LexError → CompileError
 error_of_lexer lexer.Memory = Memory
 error_of_lexer error = Lex error
 
+-- The compiler's error for a parser's error.
 abbrev pub error_of_parser : ParseError → CompileError
 error_of_parser parser.Memory = Memory
 error_of_parser error = Parse error
 
+-- The compiler's error for a checker's error.
 abbrev pub error_of_checker : CheckError → CompileError
 error_of_checker checker.Memory = Memory
 error_of_checker error = Check error
 
+-- The compiler's error for an error of sharing watchpoints.
 abbrev pub error_of_sharing : ShareError → CompileError
 error_of_sharing sharing.TooManyWatchpoints = TooManyWatchpoints
 error_of_sharing sharing.Memory = Memory
 
--- ---- the refusal that an error is; lack of memory is none
+-- ---- the refusal of an error; `None` for lack of memory
 
+-- The refusal with this number at this place.
 abbrev at_place : (code at : ℕ) → Option TextRefusal
 at_place code at = Some (AtPlace (record { code = code; at = at }))
 
+-- The refusal of a lexer's error, 1 to 5.
 abbrev refusal_of_lexer : LexError → Option TextRefusal
 refusal_of_lexer (lexer.BadByte at) = at_place 1 at
 refusal_of_lexer (lexer.BadNumber at) = at_place 2 at
@@ -47,11 +53,13 @@ refusal_of_lexer (lexer.BadString at) = at_place 4 at
 refusal_of_lexer lexer.TextTooLong = Some (ForText 5)
 refusal_of_lexer lexer.Memory = None
 
+-- The refusal of a parser's error, 11 or 12.
 abbrev refusal_of_parser : ParseError → Option TextRefusal
 refusal_of_parser (parser.Expected at what) = Some (Unparsed (model.Expected at (class_of_what what)))
 refusal_of_parser (parser.TooNested at) = Some (Unparsed (model.TooNested at))
 refusal_of_parser parser.Memory = None
 
+-- The refusal of the compiler's error; `None` for lack of memory.
 abbrev pub refusal_of : CompileError → Option TextRefusal
 refusal_of (Lex error) = refusal_of_lexer error
 refusal_of (Parse error) = refusal_of_parser error
@@ -61,17 +69,18 @@ refusal_of TooManyRules = Some (ForText too_many_rules)
 refusal_of (EquationTooLong rule) = Some (ForRule equation_too_long rule)
 refusal_of Memory = None
 
--- the number of a fault of the parser, and of a refusal
+-- The number of a parser's fault.
 abbrev code_of_fault : ParseFault → ℕ
 code_of_fault (model.Expected at what) = unexpected_token
 code_of_fault (model.TooNested at) = nested_too_deep
 
+-- The number of a refusal.
 abbrev pub code_of : TextRefusal → ℕ
 code_of (ForText code) = code
 code_of (AtPlace fault) = fault.code
 code_of (Unparsed fault) = code_of_fault fault
 code_of (ForRule code rule) = code
 
--- lack of memory, or a refusal with this property
+-- The error is lack of memory, or a refusal with property `P`.
 abbrev pub Refuses : (TextRefusal → Type 0) → CompileError → Type 0
 Refuses P error = (error ≡ Memory) ⊎ ((refusal : TextRefusal) × (refusal_of error ≡ Some refusal) × P refusal)

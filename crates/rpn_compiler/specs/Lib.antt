@@ -1,4 +1,4 @@
--- What the compiler's contracts cite.
+-- The definitions that this crate's contracts use.
 pub mod Fault
 pub mod Naming
 pub mod Read

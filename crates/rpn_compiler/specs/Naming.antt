@@ -1,4 +1,4 @@
--- Where a number of a text is out of its range. This project's own.
+-- Which number of a text refusal 28 is about. This project's own.
 use Rattle.std.specs.Prelude.{ℕ, List, ⊤}
 use Rattle.lc_model.specs.Text.Token.{Token, Splits}
 use Rattle.lc_model.specs.Text.Syntax.{Item}
@@ -8,7 +8,7 @@ use Rattle.field_checker.specs.Number.{NamesItsNumber}
 use Rattle.rpn_compiler.specs.declared.error.CompileError.{CompileError}
 use Rattle.rpn_compiler.specs.declared.error.CompileError.TheVariants.{Lex, Parse, Check}
 
--- where the error says that a number is out of its range, one of the text's items has one there; a text has one list of items
+-- If the checker's error is 28, one of the text's items has a number out of range at its place.
 pub record NamesItsNumberIn (text : List ℕ) (error : CheckError) : Type 0 where
   pub tokens : List Token
   pub items : List Item
@@ -16,12 +16,12 @@ pub record NamesItsNumberIn (text : List ℕ) (error : CheckError) : Type 0 wher
   pub parses : Parses tokens items
   pub names : NamesItsNumber items error
 
--- the compiler's error names the place of such a number, if it is about a number's range
+-- If the compiler's error is 28, one of the text's items has a number out of range at its place; other errors claim nothing.
 abbrev pub NamesTheNumberIn : List ℕ → CompileError → Type 0
 NamesTheNumberIn text (Check error) = NamesItsNumberIn text error
 NamesTheNumberIn text error = ⊤
 
--- the error is that the rules exceed the limits of the tables, or a lack of memory
+-- The error is 31, 41, 42 or lack of memory.
 abbrev pub IsOfTables : CompileError → Type 0
 IsOfTables (Lex error) = ⊥
 IsOfTables (Parse error) = ⊥

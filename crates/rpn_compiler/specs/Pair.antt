@@ -1,4 +1,4 @@
--- The two tables of a rule text, in files. This project's own.
+-- The compiled pair of a rule text. This project's own.
 use Rattle.std.specs.Prelude.{◌≡◌, ℕ, List, length}
 use Rattle.std.specs.List.{AllByRecursion}
 use Rattle.lc_model.specs.declared.kind.Kind.TheVariants.{Wdt, Adt}
@@ -11,8 +11,8 @@ use Rattle.lc_model.specs.Tables.Half.{HasWords, IsFileOfHalf}
 use Rattle.lc_model.specs.Rule.{actions}
 use Rattle.rpn_compiler.specs.declared.files.TablePair.{TablePair}
 
--- the files of both tables of a text that says these rules, with the words in the order in force, in which few operands wait,
--- and the counts of the tables, which are those of the text
+-- `pair` has both table files of `text`, whose rules are `rules`: words with the heavier operand first, a small stack depth, and
+-- the two counts.
 pub record AreTables (text : List ℕ) (rules : List NamedRule) (pair : TablePair) : Type 0 where
   pub wdt : IsFileOfHalf layouts Wdt pair.wdt.items text
   pub adt : IsFileOfHalf layouts Adt pair.adt.items text

@@ -1,4 +1,4 @@
-//! The words of rules' conditions, operands first and the heavier of two before the other (cFS Limit Checker user's guide,
+//! The words of rules' conditions in postfix form, with the operand that needs more room first (cFS Limit Checker user's guide,
 //! actionpoint definitions; the words are this project's own).
 
 ghost use Rattle.std.specs.Prelude.{◌≡◌, ◌≤◌, ◌<◌, ◌+◌, ◌^◌, ◌++◌, List, ℕ, if◌then◌else◌, length, map, max, nat_lt, IfOk, OnOk};
@@ -13,15 +13,15 @@ use lc_model::equation_words::{AND, NOT, OR, XOR};
 use lc_model::{Cond, EQUATION_WORDS, Rule};
 use std::alloc::{AllocError, Global};
 
-/// What is left after a condition whose words were added: the numbers of the mentions after it, and the greatest number of
-/// operands that wait in its words at once.
+/// The result of adding the words of a condition: the numbers of the mentions after it, and the most operands on the stack
+/// while its words run.
 #[derive(Clone, Copy)]
 struct Pushed<'n> {
     left: &'n [u16],
     need: usize,
 }
 
-/// How many operands wait in the words of two operands, of which the one of greater need comes first.
+/// The most operands on the stack while the words of two operands run, the one of greater need first.
 fn need_of_both(first: usize, second: usize) -> usize
     requires { first < 2 ^ 63 }
     ensures { result ≡
@@ -31,8 +31,8 @@ fn need_of_both(first: usize, second: usize) -> usize
     first.max(second).max(lighter + 1)
 }
 
-/// Puts the words of the second operand, which begin at `middle`, before those of the first, which begin at `start`, where it
-/// has the greater need.
+/// Puts the words of the second operand, which begin at `middle`, before those of the first, which begin at `start`, if the
+/// second has the greater need.
 fn put_heavier_first(words: &mut [u16], start: usize, middle: usize, first: usize, second: usize)
     requires order { start ≤ middle }
     requires within { middle ≤ length words.old }
@@ -128,7 +128,7 @@ fn words_of_rule(alloc: Global, rule: &Rule, numbers: &[u16]) -> Result<Vec<u16>
     Ok(words)
 }
 
-/// The words of each rule's condition, where its mentions have the numbers that they have among the rules' watchpoints.
+/// The words of each rule's condition; its mentions have their numbers among the rules' watchpoints.
 pub fn words_of_rules(
     alloc: Global,
     rules: &[Rule],

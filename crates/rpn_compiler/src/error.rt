@@ -1,4 +1,4 @@
-//! Why a text isn't compiled.
+//! Why a text does not compile.
 
 ghost use Rattle.std.specs.Prelude.{◌≡◌, option_map};
 ghost use Rattle.rpn_compiler.specs.declared.error.CompileError.TheVariants.{Memory};
@@ -11,17 +11,17 @@ use std::alloc::{AllocError, AllocFailed};
 use thiserror::Error;
 use watch_sharing::ShareError;
 
-/// Why a text has no compiled form: the first refusal of the first part of the compiler that has one, each part over the
-/// whole text.
+/// Why a text does not compile: the first refusal of the first stage of the compiler that has one, each stage over the whole
+/// text.
 #[derive(Clone, Copy, Debug, PartialEq, Eq, Error)]
 pub enum CompileError {
     /// A bad token, or a text that is too long: 1 to 5.
     #[error("{0}")]
     Lex(LexError),
-    /// A token that continues no reading, or one that nests too deep: 11 and 12.
+    /// A token that cannot follow those before it, or the 65th nesting token of a condition: 11 and 12.
     #[error("{0}")]
     Parse(ParseError),
-    /// A name, a place or a number that isn't right: 21 to 29.
+    /// A name, a place or a number that is not valid: 21 to 29.
     #[error("{0}")]
     Check(CheckError),
     /// Over 176 distinct watchpoints: 31.
@@ -33,7 +33,7 @@ pub enum CompileError {
     /// The first rule, counted from 0, that has over 32 words, EQUAL included: 42.
     #[error("the equation of rule {rule}, counted from 0, has over 32 words")]
     EquationTooLong { rule: usize },
-    /// No memory for what is compiled.
+    /// No memory for compiling.
     #[error("out of memory")]
     Memory,
 }

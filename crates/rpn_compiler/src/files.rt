@@ -29,9 +29,9 @@ pub struct TablePair {
     pub wdt: Vec<u8>,
     /// The file of the table of actionpoints, of version 2: 19,516 bytes.
     pub adt: Vec<u8>,
-    /// How many of the 176 entries of the first table are used.
+    /// The number of used entries of the WDT, at most 176.
     pub watchpoints: u16,
-    /// How many of the 176 entries of the second table are used.
+    /// The number of used entries of the ADT, at most 176.
     pub rules: u16,
 }
 

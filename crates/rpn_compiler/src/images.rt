@@ -32,7 +32,7 @@ fn entry(alloc: Global, rule: &Rule, words: &[u16]) -> Result<TableEntry, AllocE
     })
 }
 
-/// The entries of the rules, in their order, where for each rule these are the words of its condition, at most 32.
+/// The entries of the rules, in their order; for each rule these are the words of its condition, at most 32.
 pub fn entries(
     alloc: Global,
     rules: &[Rule],

@@ -1,4 +1,4 @@
-//! Which rules fit into the tables (176 actionpoints are the cFS Limit Checker's; the words are this project's own).
+//! The limits of rules (176 actionpoints are the cFS Limit Checker's; the words are this project's own).
 
 ghost use Rattle.std.specs.Prelude.{◌≡◌, ◌-◌, ◌^◌, ◌≤◌, None, length, min, IfErr, MatchResult};
 ghost use Rattle.lc_model.specs.Condition.{condition_of};
@@ -13,7 +13,7 @@ ghost use Rattle.rpn_compiler.specs.Naming.{IsOfTables};
 use crate::error::CompileError;
 use lc_model::{Cond, EQUATION_WORDS, Rule, TABLE_ENTRIES};
 
-/// How many words spell the condition without EQUAL, or the largest number where there are more.
+/// The number of words of the condition without EQUAL, or the largest number if there are more.
 fn size(cond: &Cond) -> usize
     ensures { result ≡ min (size_of (condition_of cond.now)) (2 ^ 64 - 1) }
 {
@@ -26,7 +26,7 @@ fn size(cond: &Cond) -> usize
     }
 }
 
-/// Whether the equation of the rule with this number is short enough. Then few operands wait at once in its compiled words,
+/// Whether the equation of the rule with this number is short enough. Then its compiled words need few operands on the stack,
 /// whatever the order of its operands in the text.
 fn judge_rule(number: usize, rule: &Rule) -> Result<(), CompileError>
     ensures judged { MatchResult result (λ _. refusal_of_rule number (rule_of rule.now) ≡ None)

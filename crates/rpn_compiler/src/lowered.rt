@@ -1,4 +1,4 @@
-//! What is compiled of rules before it is laid out in tables (this project's own).
+//! Rules in compiled form, before they are written into tables (this project's own).
 
 use lc_model::Term;
 

@@ -1,4 +1,4 @@
-//! From rules to what is laid out in their tables.
+//! From rules to their compiled form.
 
 ghost use Rattle.std.specs.Prelude.{◌≡◌, ◌≤◌, None, Some, IfErr, IfOk, length, map};
 ghost use Rattle.lc_model.specs.Codes.{table_entries};
@@ -18,8 +18,8 @@ use lc_model::RuleSet;
 use std::alloc::Global;
 use watch_sharing::{Shared, share};
 
-/// The watchpoints of rules that keep to the limits of the tables, and which of them each rule mentions. The error is the first
-/// limit that they exceed, or a lack of memory.
+/// The watchpoints of rules within the limits of the tables, and which of them each rule mentions. The error is the first limit
+/// that the rules exceed, or a lack of memory.
 pub fn share_within(alloc: Global, rules: &RuleSet) -> Result<Shared, CompileError>
     ensures within { IfOk result (λ _. limit_refusal limits rules.now.rules ≡ None) }
     ensures terms { IfOk result (λ shared. shared.terms.items ≡ terms_of rules.now.rules) }
@@ -35,7 +35,7 @@ pub fn share_within(alloc: Global, rules: &RuleSet) -> Result<Shared, CompileErr
     Ok(shared)
 }
 
-/// The watchpoints and the words of rules that keep to the limits of the tables. The error is the first limit that they exceed,
+/// The watchpoints and the words of rules within the limits of the tables. The error is the first limit that the rules exceed,
 /// or a lack of memory.
 pub fn lower(alloc: Global, rules: &RuleSet) -> Result<Lowered, CompileError>
     ensures within { IfOk result (λ _. limit_refusal limits rules.now.rules ≡ None) }

@@ -20,7 +20,7 @@ use rule_lexer::{Token, lex};
 use rule_parser::{RuleFile, parse};
 use std::alloc::Global;
 
-/// A rule text that was read (`RuleText::read`): its tokens and items are those that its bytes have, and its rules are what the
+/// A rule text that was read (`RuleText::read`): its tokens and items are those of its bytes, and its rules are those that the
 /// items mean.
 #[derive(Debug, Drop)]
 pub struct RuleText<'a> {
@@ -35,14 +35,14 @@ pub struct RuleText<'a> {
 }
 
 impl<'a> RuleText<'a> {
-    /// Reads a text. It doesn't check how many rules and watchpoints there are: `check_limits` and `compile` do that.
+    /// Reads a text. It does not count rules and watchpoints: `check_limits` and `compile` do that.
     ///
-    /// Errors: the first refusal, where the whole text is lexed, then parsed, then checked; `Memory`.
+    /// Errors: the first refusal; the whole text is lexed, then parsed, then checked. `Memory`.
     pub fn read(alloc: Global, text: &'a [u8]) -> Result<RuleText<'a>, CompileError>
         ensures bytes { IfOk result (λ it. it.bytes.now ≡ text.now) }
         ensures reads { IfOk result IsRuleText }
         ensures refused { IfErr result (Refuses (IsUnreadable text.now)) }
-        // Where the error says that a number is out of its range, the text has such a number.
+        // If the error is 28, the text has a number that is out of its range at the error's place.
         ensures named { IfErr result (NamesTheNumberIn text.now) }
         ensures accepts { (rules : List NamedRule) → Reads text.now rules →
             MatchResult result (λ it. it.rules.rules ≡ rules) (λ error. error ≡ Memory) }
@@ -60,7 +60,7 @@ impl<'a> RuleText<'a> {
         })
     }
 
-    /// Reads a valid text: one that compiles, though nothing is compiled.
+    /// Reads a valid text, which is one that compiles; nothing is compiled.
     ///
     /// Errors: the first refusal, as of `compile`; `Memory`.
     pub fn read_valid(alloc: Global, text: &'a [u8]) -> Result<RuleText<'a>, CompileError>
@@ -75,7 +75,7 @@ impl<'a> RuleText<'a> {
         Ok(it)
     }
 
-    /// Whether its rules and watchpoints keep to the limits of the tables.
+    /// Whether its rules and watchpoints are within the limits of the tables.
     ///
     /// Errors: the first limit that they exceed, as of `compile`; `Memory`.
     pub fn check_limits(&self, alloc: Global) -> Result<(), CompileError>
@@ -88,8 +88,8 @@ impl<'a> RuleText<'a> {
         Ok(())
     }
 
-    /// Makes the files of its two tables: its watchpoints in order of first mention, its rules in the order of the text, with
-    /// the words of each equation operands first, and in both the SHA-256 of the text.
+    /// Makes the files of its two tables: its watchpoints in order of first mention, its rules in the order of the text, each
+    /// equation in postfix form, and in both files the SHA-256 of the text.
     ///
     /// Errors: over 176 watchpoints, then over 176 rules, then the first rule of over 32 words; `Memory`.
     pub fn compile(&self, alloc: Global) -> Result<TablePair, CompileError>

@@ -11,7 +11,8 @@ use Rattle.lc_model.specs.Words.{type_word}
 use Rattle.rule_lexer.specs.declared.token.TokenKind.{TokenKind}
 use Rattle.rule_lexer.specs.declared.token.TokenKind.TheVariants.{Packet, Field, Rule, Mid, Length, At, Mask, Stale, Fails, Sequence, Event, Report, When, Or, Xor, And, Not, FieldKind, State, Level, Name, Number, Text, Equals, Semicolon, Open, Close, Compare}
 
--- the one text of a kind; none for names, numbers and strings, which have many
+-- The only text of a token kind; `None` for names, numbers and strings, which have many, and for "permanently off", which no
+-- text has.
 abbrev pub spelling : TokenKind → Option (List ℕ)
 spelling Packet = Some (codes "packet")
 spelling Field = Some (codes "field")
@@ -53,7 +54,7 @@ spelling (Compare Equal) = Some (codes "==")
 spelling (Compare GreaterOrEqual) = Some (codes ">=")
 spelling (Compare Greater) = Some (codes ">")
 
--- whether tokens of this kind belong to the class
+-- Whether tokens of this kind belong to the class.
 abbrev pub kind_fits : Class → TokenKind → Bool
 kind_fits class.Item Packet = true
 kind_fits class.Item Field = true
@@ -80,7 +81,7 @@ kind_fits class.Compare kind = false
 kind_fits (class.Word letters) kind = option_map_or (λ text. is_word text && bytes_eq letters text) (spelling kind) false
 kind_fits (class.Sign letters) kind = option_map_or (λ text. is_sign text && bytes_eq letters text) (spelling kind) false
 
--- the words that the grammar needs are reserved
+-- The class is one of the grammar: if it is a word, the word is reserved.
 abbrev pub IsOfGrammar : Class → Type 0
 IsOfGrammar (class.Word letters) = IsTrue (is_reserved letters)
 IsOfGrammar other = Unit {0}

@@ -8,12 +8,12 @@ use Rattle.rule_lexer.specs.Token.{IsKind}
 use Rattle.rule_lexer.specs.Fault.{IsFault}
 use Rattle.rule_lexer.specs.Fitting.{IsOfGrammar, kind_fits}
 
--- a text has at most one fault, and none if it splits into tokens
+-- A text has at most one fault, and none if it splits into tokens.
 pub record AtMostOneFault (text : List ℕ) : Type 0 where
   pub one_fault : (error other : LexError) → IsFault text error → IsFault text other → error ≡ other
   pub not_both : (tokens : List Token) (error : LexError) → Splits text tokens → ¬ IsFault text error
 
--- the kind of a token decides to which classes it belongs
+-- Law: the kind of a token decides to which classes of the grammar it belongs.
 abbrev pub KindsDecideClasses : Type 0
 KindsDecideClasses = (class : Class) (kind : TokenKind) (text : List ℕ) →
     IsOfGrammar class → IsKind kind text → fits class text ≡ kind_fits class kind

@@ -1,4 +1,4 @@
--- What the lexer's contracts cite.
+-- The definitions that the lexer's contracts use.
 pub mod Token
 pub mod Fault
 pub mod Fitting

@@ -7,15 +7,15 @@ use Rattle.rule_lexer.specs.declared.token.Token.{Token}
 use Rattle.rule_lexer.specs.declared.token.TokenKind.{TokenKind}
 use Rattle.rule_lexer.specs.declared.token.TokenKind.TheVariants.{Packet, Field, Rule, Mid, Length, At, Mask, Stale, Fails, Sequence, Event, Report, When, Or, Xor, And, Not, FieldKind, State, Level, Name, Number, Text, Equals, Semicolon, Open, Close, Compare}
 
--- the part of a text that a token stands for, with its place
+-- The program's token as one of the model: its bytes with their place.
 abbrev pub token_of : Token → model.Token
 token_of t = record { at = t.at; text = t.text.now }
 
--- the parts, in order
+-- The program's tokens as tokens of the model, in order.
 abbrev pub tokens_of : List Token → List model.Token
 tokens_of = map token_of
 
--- what the kind says of the token's text: the value that it reads, or which word or sign it is
+-- The text is one of this token kind, and has the kind's value if it has one.
 abbrev pub IsKind : TokenKind → List ℕ → Type 0
 IsKind Packet text = text ≡ codes "packet"
 IsKind Field text = text ≡ codes "field"
@@ -46,6 +46,6 @@ IsKind Open text = text ≡ codes "("
 IsKind Close text = text ≡ codes ")"
 IsKind (Compare op) text = comparison text ≡ Some op
 
--- the token's text fits its kind
+-- The token's text is one of its kind.
 abbrev pub HasItsKind : Token → Type 0
 HasItsKind t = IsKind t.kind t.text.now

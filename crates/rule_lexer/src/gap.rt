@@ -14,7 +14,7 @@ fn line_length(rest: &[u8]) -> usize
     rest.iter().take_while(|byte| **byte != LINE_FEED).count()
 }
 
-/// The length of the comment in front, in bytes: from `#` up to the next line feed or the end.
+/// The length of the comment at the start, in bytes: from `#` up to the next line feed or the end.
 fn comment_length(rest: &[u8]) -> usize
     requires { IsTrue (begins is_number_sign rest.now) }
     ensures within { result ≤ length rest.now }
@@ -24,7 +24,7 @@ fn comment_length(rest: &[u8]) -> usize
     line_length(rest)
 }
 
-/// Returns the number of bytes that the blanks and comments at the front of `rest` take, 0 if there are none.
+/// Returns the number of bytes of the blanks and comments at the start of `rest`, 0 if there are none.
 pub fn gap_length(rest: &[u8]) -> usize
     ensures { IsGap rest.now result }
 {

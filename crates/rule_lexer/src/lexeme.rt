@@ -1,4 +1,4 @@
-//! The token at the front of a text.
+//! The token at the start of a text.
 
 ghost use Rattle.std.specs.Prelude.{◌≡◌, ◌<◌, false, IsTrue, MatchResult, length};
 ghost use Rattle.lc_model.specs.Text.Token.{is_letter};
@@ -15,7 +15,7 @@ use crate::word::{begins_word, word_length};
 /// The largest length of a name, in bytes.
 const LONGEST_NAME: usize = 32;
 
-/// A token at the front of a text: its length in bytes, quotes included, and its kind.
+/// A token at the start of a text: its length in bytes, quotes included, and its kind.
 #[derive(Clone, Copy, Debug, PartialEq, Eq)]
 pub struct Lexeme {
     /// The token's bytes, quotes included.
@@ -24,7 +24,7 @@ pub struct Lexeme {
     pub kind: TokenKind,
 }
 
-/// Reads the word in front; `at` is the place of its first byte.
+/// Reads the word at the start; `at` is the place of its first byte.
 fn word(at: usize, rest: &[u8]) -> Result<Lexeme, LexError>
     requires { IsTrue (begins is_letter rest.now) }
     ensures { MatchResult result (IsFrontToken rest.now) (IsBadFront at rest.now) }
@@ -37,7 +37,7 @@ fn word(at: usize, rest: &[u8]) -> Result<Lexeme, LexError>
     Ok(Lexeme { length, kind })
 }
 
-/// Reads the number in front; `at` is the place of its first byte.
+/// Reads the number at the start; `at` is the place of its first byte.
 fn numeral(at: usize, rest: &[u8]) -> Result<Lexeme, LexError>
     requires { IsTrue (begins_numeral rest.now) }
     ensures { MatchResult result (IsFrontToken rest.now) (IsBadFront at rest.now) }
@@ -52,7 +52,7 @@ fn numeral(at: usize, rest: &[u8]) -> Result<Lexeme, LexError>
     }
 }
 
-/// Reads the string in front; `at` is the place of its opening quote.
+/// Reads the string at the start; `at` is the place of its opening quote.
 fn string(at: usize, rest: &[u8]) -> Result<Lexeme, LexError>
     requires { IsTrue (begins is_quote rest.now) }
     ensures { MatchResult result (IsFrontToken rest.now) (IsBadFront at rest.now) }
@@ -66,8 +66,8 @@ fn string(at: usize, rest: &[u8]) -> Result<Lexeme, LexError>
     }
 }
 
-/// Reads the longest token at the front of `rest`, which must not begin with a blank or comment.
-/// `at` is the place of its first byte, for the error: `BadByte`, `BadNumber`, `NameTooLong` or `BadString`.
+/// Reads the longest token at the start of `rest`, which must not begin with a blank or comment. `at` is the place of its first
+/// byte, for the error: `BadByte`, `BadNumber`, `NameTooLong` or `BadString`.
 pub fn front_lexeme(at: usize, rest: &[u8]) -> Result<Lexeme, LexError>
     requires some { 0 < length rest.now }
     requires no_gap { begins is_gap_byte rest.now ≡ false }

@@ -29,8 +29,8 @@ pub fn begins_numeral(rest: &[u8]) -> bool
     matches!(without_sign(rest), [byte, ..] if byte.is_ascii_digit())
 }
 
-/// Returns the length in bytes of the number in front. It includes letters directly after the digits: they make
-/// the number invalid.
+/// Returns the length in bytes of the number at the start. It includes letters directly after the digits: they make the number
+/// invalid.
 pub fn numeral_length(rest: &[u8]) -> usize
     requires { IsTrue (begins_numeral rest.now) }
     ensures { IsFront is_numeral rest.now result }

@@ -1,4 +1,4 @@
-//! Reasons: what is wrong with a text, more precisely than an error's number says (this project's own).
+//! Reasons for a text's fault, more precise than an error's number (this project's own).
 
 ghost use Rattle.std.specs.Prelude.{◌≡◌, drop, is_some};
 ghost use Rattle.std.specs.List.{list_all};

@@ -39,7 +39,7 @@ impl<'a> Scanner<'a> {
         front
     }
 
-    /// Moves over the lexeme in front and returns it as a token with its place.
+    /// Moves over the lexeme at the start and returns it as a token with its place.
     fn take(&mut self, lexeme: Lexeme) -> Token<'a>
         requires within { lexeme.length ≤ length self.old.rest.now }
         requires fits { self.old.at + length self.old.rest.now ≤ longest_text }

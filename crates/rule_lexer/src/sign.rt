@@ -8,7 +8,7 @@ use crate::lexeme::Lexeme;
 use crate::token::TokenKind;
 use lc_model::CmpOp;
 
-/// Reads the longest sign at the front of `rest`, one or two bytes; `None` if no sign stands there.
+/// Reads the longest sign at the start of `rest`, one or two bytes; `None` if no sign stands there.
 pub fn sign(rest: &[u8]) -> Option<Lexeme>
     ensures { MatchOption result (LacksSign rest.now) (IsFrontSign rest.now) }
 {

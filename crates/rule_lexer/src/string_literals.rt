@@ -11,7 +11,7 @@ use lc_model::is_text_byte;
 /// The largest number of bytes between the quotes.
 const LONGEST_STRING: usize = 31;
 
-/// Returns the number of bytes at the front that may stand between quotes (0x20 to 0x7E without the quote).
+/// Returns the number of bytes at the start that may stand between quotes (0x20 to 0x7E without the quote).
 pub fn inner_length(rest: &[u8]) -> usize
     ensures value { result ≡ prefix_len is_text_byte rest.now }
     ensures within { result ≤ length rest.now }
@@ -26,7 +26,7 @@ pub fn begins_string(rest: &[u8]) -> bool
     matches!(rest, [QUOTE, ..])
 }
 
-/// Returns the length in bytes of the string in front, both quotes included; `None` if no valid string stands there.
+/// Returns the length in bytes of the string at the start, both quotes included; `None` if no valid string stands there.
 pub fn string_length(rest: &[u8]) -> Option<usize>
     requires { IsTrue (begins is_quote rest.now) }
     ensures { MatchOption result (BeginsNoLexeme rest.now) (IsFront is_string rest.now) }

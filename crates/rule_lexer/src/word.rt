@@ -14,14 +14,14 @@ pub fn begins_word(rest: &[u8]) -> bool
     matches!(rest, [byte, ..] if is_letter(*byte))
 }
 
-/// Returns the number of letters, digits and `_` at the front.
+/// Returns the number of letters, digits and `_` at the start.
 pub fn run_length(rest: &[u8]) -> usize
     ensures { result ≡ prefix_len is_word_byte rest.now }
 {
     rest.iter().take_while(|byte| is_word_byte(**byte)).count()
 }
 
-/// Returns the length in bytes of the word in front, whatever its length.
+/// Returns the length in bytes of the word at the start, whatever its length.
 pub fn word_length(rest: &[u8]) -> usize
     requires { IsTrue (begins is_letter rest.now) }
     ensures { IsFront is_word rest.now result }

@@ -1,4 +1,4 @@
--- Reading a condition: the tokens that are read and those that are left, or the first fault. This project's own.
+-- Reading a condition: its tokens and those after it, or the first fault. This project's own.
 use Rattle.std.specs.Prelude.{◌≡◌, ℕ, ◌+◌, ◌≤◌, Bool, false, ◌||◌, List, ◌∷◌, ◌++◌, Some}
 use Rattle.lc_model.specs.Condition as condition
 use Rattle.lc_model.specs.Text.Token.{Token}
@@ -17,53 +17,53 @@ use Rattle.rule_parser.specs.Stack.{Symbol, operand, after, inside, fault_at}
 
 -- ---- operators
 
--- the kind of an operator's tokens
+-- The token kind of an operator.
 abbrev pub kind_of_operator : Operator → TokenKind
 kind_of_operator Or = kind.Or
 kind_of_operator Xor = kind.Xor
 kind_of_operator And = kind.And
 
--- the operator in conditions of the model
+-- The operator as the model's.
 abbrev pub operator_of : Operator → condition.Operator
 operator_of Or = condition.Or
 operator_of Xor = condition.Xor
 operator_of And = condition.And
 
--- the part of a condition that the operator builds
+-- The part of the grammar that the operator builds.
 abbrev pub part_of : Operator → Part
 part_of Or = grammar.cond
 part_of Xor = grammar.xors
 part_of And = grammar.ands
 
--- the part of a condition that each operand is
+-- The part of the grammar that its operands are.
 abbrev pub operands_of : Operator → Part
 operands_of Or = grammar.xors
 operands_of Xor = grammar.ands
 operands_of And = grammar.nots
 
--- ---- tokens that nest
+-- ---- nesting tokens
 
--- a token of the class stands next, and `room` allows no more nesting
+-- The next token is of this class, and is one nesting token too many: fault 12.
 abbrev pub NoRoom : Class → Left → (room : ℕ) → ParseFault → Type 0
 NoRoom wanted before room fault =
     (t : Token) × (ts : List Token) × (before.tokens ≡ t ∷ ts) × Fits wanted t × (room ≡ 0) × (fault ≡ TooNested t.at)
 
--- a token of the class is read, and the room is one less
+-- The next token is read, and one fewer may nest.
 abbrev pub Nested : Class → (before left : Left) → (room rest : ℕ) → Type 0
 Nested wanted before left room rest =
     (t : Token) × (before.tokens ≡ t ∷ left.tokens) × Fits wanted t × (left.end ≡ before.end) × (room ≡ rest + 1)
 
 -- ---- parts of a condition
 
--- whether the next token is an operator that would continue the part
+-- Whether the next token is an operator that continues this part.
 abbrev pub is_continued : Part → List Token → Bool
 is_continued grammar.nots ts = false
 is_continued grammar.ands ts = begins (word "and") ts
 is_continued grammar.xors ts = begins (word "xor") ts || begins (word "and") ts
 is_continued grammar.cond ts = begins (word "or") ts || (begins (word "xor") ts || begins (word "and") ts)
 
--- The tokens in front are this part of a condition, with this meaning. No operator after them continues the other part.
--- Whatever follows the condition, the first fault of the tokens before is that of the tokens after.
+-- The next tokens are this part of a condition, with meaning `e`, and no operator after them continues the part `other`. The
+-- first fault from here on is the first fault after the part.
 pub record Took (part other : Part) (before left : Left) (room rest : ℕ) (e : Expression) : Type 0 where
   pub front : List Token
   pub tokens : before.tokens ≡ front ++ left.tokens
@@ -74,11 +74,11 @@ pub record Took (part other : Part) (before left : Left) (room rest : ℕ) (e : 
   pub goes_on : (close : Class) (s : List Symbol) →
       fault_at before.end (inside room) (operand close ∷ s) before.tokens ≡ fault_at left.end (inside rest) (after close ∷ s) left.tokens
 
--- whatever follows the condition, this is the first fault
+-- Whatever follows the condition, this is the first fault.
 abbrev pub Stops : Left → (room : ℕ) → ParseFault → Type 0
 Stops before room fault =
     (close : Class) (s : List Symbol) → fault_at before.end (inside room) (operand close ∷ s) before.tokens ≡ Some fault
 
--- a whole condition
+-- A whole condition was read.
 abbrev pub TookCondition : (before left : Left) → Expression → Type 0
 TookCondition before left e = (rest : ℕ) × Took grammar.cond grammar.cond before left most_nested rest e

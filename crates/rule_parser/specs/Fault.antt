@@ -6,13 +6,13 @@ use Rattle.rule_parser.specs.declared.error.ParseError.{ParseError}
 use Rattle.rule_parser.specs.declared.error.ParseError.TheVariants.{Expected, TooNested, Memory}
 use Rattle.rule_parser.specs.What.{class_of_what}
 
--- the number of a fault; an error for lack of memory has no number
+-- The refusal number of an error; `None` for lack of memory.
 abbrev pub error_code : ParseError → Option ℕ
 error_code (Expected at what) = Some unexpected_token
 error_code (TooNested at) = Some nested_too_deep
 error_code Memory = None
 
--- the error is a lack of memory, or a fault with this property
+-- The error is lack of memory, or a fault with property `P`.
 abbrev pub Refuses : (ParseFault → Type 0) → ParseError → Type 0
 Refuses P (Expected at what) = P (model.Expected at (class_of_what what))
 Refuses P (TooNested at) = P (model.TooNested at)

@@ -1,4 +1,4 @@
--- Reading an item: the tokens that are read and those that are left, or the first fault. This project's own.
+-- Reading an item: its tokens and those after it, or the first fault. This project's own.
 use Rattle.std.specs.Prelude.{◌≡◌, ℕ, List, [], ◌∷◌, ◌++◌, option_map, Some, None}
 use Rattle.lc_model.specs.Text.Token.{Token}
 use Rattle.lc_model.specs.Text.Syntax.{Item}
@@ -10,7 +10,7 @@ use Rattle.rule_parser.specs.Left.{Left}
 use Rattle.rule_parser.specs.Stack.{Symbol, outside, rule_left, fault_at}
 use Rattle.rule_parser.specs.Head.{Head}
 
--- the program's rule head as the model's
+-- The program's rule head as the model's.
 abbrev pub head_of : RuleHead → Head
 head_of h = record {
   name = name_of h.name;
@@ -23,7 +23,7 @@ head_of h = record {
   report = option_map report_of h.report;
 }
 
--- the tokens in front are the item, and the first fault of the tokens before is that of the tokens after
+-- The next tokens are this item. The first fault from here on is the first fault after it.
 pub record TookItem (before left : Left) (item : Item) : Type 0 where
   pub front : List Token
   pub tokens : before.tokens ≡ front ++ left.tokens
@@ -31,7 +31,8 @@ pub record TookItem (before left : Left) (item : Item) : Type 0 where
   pub place : left.end ≡ before.end
   pub goes_on : fault_at before.end outside [] before.tokens ≡ fault_at left.end outside [] left.tokens
 
--- a rule is read, whose word `rule` is this token
+-- The next tokens are the rest of a rule whose word `rule` was token `t`. The first fault from here on is the first fault after
+-- it.
 pub record TookRule (t : Token) (before left : Left) (item : Item) : Type 0 where
   pub front : List Token
   pub tokens : before.tokens ≡ front ++ left.tokens
@@ -39,15 +40,15 @@ pub record TookRule (t : Token) (before left : Left) (item : Item) : Type 0 wher
   pub place : left.end ≡ before.end
   pub goes_on : fault_at before.end outside rule_left before.tokens ≡ fault_at left.end outside [] left.tokens
 
--- the first fault of these tokens, if these symbols are left to be read
+-- The first fault, if these symbols are to be read next.
 abbrev pub StopsAt : List Symbol → Left → ParseFault → Type 0
 StopsAt s before fault = fault_at before.end outside s before.tokens ≡ Some fault
 
--- the tokens are these items, and have no fault
+-- All tokens are these items, and have no fault.
 pub record TookAll (end : ℕ) (tokens : List Token) (items : List Item) : Type 0 where
   pub derives : DerivesFile tokens items
   pub no_fault : fault_at end outside [] tokens ≡ None
 
--- the first fault of all tokens
+-- The first fault of all tokens.
 abbrev pub StopsAll : (end : ℕ) → List Token → ParseFault → Type 0
 StopsAll end tokens fault = fault_at end outside [] tokens ≡ Some fault

@@ -1,4 +1,4 @@
--- The first tokens of a list. This project's own.
+-- Reading the tokens from left to right. This project's own.
 use Rattle.std.specs.Prelude.{◌≡◌, ℕ, Bool, true, false, if◌then◌else◌, List, [], ◌∷◌, Option, Some, None}
 use Rattle.lc_model.specs.Text.Token as model
 use Rattle.lc_model.specs.Text.Token.{string_text}
@@ -12,7 +12,7 @@ use Rattle.rule_lexer.specs.declared.token.Token.{Token}
 use Rattle.rule_lexer.specs.declared.token.TokenKind.{TokenKind}
 use Rattle.rule_lexer.specs.declared.token.TokenKind.TheVariants.{Packet, Field, Rule, Mid, Length, At, Mask, Stale, Fails, Sequence, Event, Report, When, Or, Xor, And, Not, FieldKind, State, Level, Name, Number, Text, Equals, Semicolon, Open, Close, Compare}
 
--- the class of the tokens of a kind
+-- The class of each token kind.
 abbrev pub class_of : TokenKind → Class
 class_of Packet = word "packet"
 class_of Field = word "field"
@@ -43,7 +43,7 @@ class_of Open = sign "("
 class_of Close = sign ")"
 class_of (Compare op) = class.Compare
 
--- the kind has no value
+-- Whether the token kind carries no value.
 abbrev pub is_plain : TokenKind → Bool
 is_plain (FieldKind kind) = false
 is_plain (State mode) = false
@@ -52,64 +52,64 @@ is_plain (Number value) = false
 is_plain (Compare op) = false
 is_plain kind = true
 
--- the token fits its kind, and the kind decides to which classes the token belongs
+-- The token has the kind that its text gives, and its kind decides the classes that it fits.
 pub record IsRead (t : Token) : Type 0 where
   pub kind : HasItsKind t
   pub classes : (wanted : Class) → IsOfGrammar wanted → fits wanted t.text.now ≡ kind_fits wanted t.kind
 
--- the first of the tokens before is this one, and those after it are left; or there are no tokens
+-- The next token of `before` is this one, and `after` follows it; or there is no token, and `before` is empty.
 abbrev pub IsNext : (before after : List model.Token) → Option Token → Type 0
 IsNext before after None = before ≡ []
 IsNext before after (Some t) = (before ≡ token_of t ∷ after) × IsRead t
 
 -- ---- reading from left to right
 
--- if the first step reads something, the second step reads on after it
+-- The second step on the result of the first; `None` if either fails.
 infixl 10 ◌>>=◌
 abbrev pub ◌>>=◌ : {A B : Type 0} → Option A → (A → Option B) → Option B
 None >>= f = None
 (Some x) >>= f = f x
 
--- a function's result, and the tokens that it left, are those of this reading
+-- The function returned what this reading gives, and left the tokens `after`.
 abbrev pub Gives : {X Y : Type 0} → (X → Y) → (after : List model.Token) → Option X → Option (Y × List model.Token) → Type 0
 Gives view after (Some x) read = read ≡ Some (view x, after)
 Gives view after None read = read ≡ None
 
--- no tokens are left
+-- Whether no token is left.
 abbrev pub is_empty : List model.Token → Bool
 is_empty [] = true
 is_empty (t ∷ ts) = false
 
--- the place of the first token, or of the end
+-- The place of the next token, or of the end of the text.
 abbrev pub place_in : ℕ → List model.Token → ℕ
 place_in end [] = end
 place_in end (t ∷ ts) = t.at
 
--- a token of the class
+-- Reads a token of this class.
 unfoldable pub token_at : Class → List model.Token → Option (model.Token × List model.Token)
 token_at wanted [] = None
 token_at wanted (t ∷ ts) = if fits wanted t.text then Some (t, ts) else None
 
--- a token of the class, with the value that it reads
+-- Reads a token of this class, and its value.
 unfoldable pub value_at : {A : Type 0} → Class → (List ℕ → Option A) → List model.Token → Option (A × List model.Token)
 value_at wanted read tokens = do
   t ← token_at wanted tokens
   v ← read t.0.text
   Some (v, t.1)
 
--- a number
+-- Reads a number.
 unfoldable pub number_at : List model.Token → Option (syntax.Number × List model.Token)
 number_at tokens = do
   t ← token_at class.Number tokens
   Some (number_of t.0, t.1)
 
--- the bytes between the quotes of a string
+-- Reads a string, without its quotes.
 unfoldable pub string_at : List model.Token → Option (List ℕ × List model.Token)
 string_at tokens = do
   t ← token_at class.Text tokens
   Some (string_text t.0.text, t.1)
 
--- whether the first token is of the class
+-- Whether the next token is of this class.
 unfoldable pub begins : Class → List model.Token → Bool
 begins wanted [] = false
 begins wanted (t ∷ ts) = fits wanted t.text

@@ -8,7 +8,7 @@ use Rattle.lc_model.specs.Text.Class as class
 use Rattle.lc_model.specs.Text.Class.{word, sign, field_type, state, event_kind}
 use Rattle.rule_parser.specs.Left.{Left, Reading, ◌>>=◌, token_in, name_in, number_in, string_in, value_in, labelled_in, option_in, report_in}
 
--- a packet after the word `packet`
+-- Reads a packet after the word `packet`.
 unfoldable pub packet_in : Left → Reading syntax.PacketItem
 packet_in left = do
   name ← name_in left
@@ -18,7 +18,7 @@ packet_in left = do
   end ← token_in (sign ";") length.1
   Ok (record { name = name.0; mid = mid.0; length = length.0 }, end.1)
 
--- a field after the word `field`
+-- Reads a field after the word `field`.
 unfoldable pub field_in : Left → Reading syntax.FieldItem
 field_in left = do
   name ← name_in left
@@ -31,7 +31,7 @@ field_in left = do
   end ← token_in (sign ";") stale.1
   Ok (record { name = name.0; packet = packet.0; kind = kind.0; offset = offset.0; mask = mask.0; stale = stale.0 }, end.1)
 
--- a rule's parts before its condition
+-- The parts of a rule before its condition.
 pub record Head : Type 0 where
   pub name : Token
   pub mode : ApMode
@@ -42,7 +42,7 @@ pub record Head : Type 0 where
   pub text : List ℕ
   pub report : Option syntax.ReportItem
 
--- a rule after the word `rule`, up to `when`
+-- Reads a rule after the word `rule`, up to `when`.
 unfoldable pub head_in : Left → Reading Head
 head_in left = do
   name ← name_in left
@@ -69,7 +69,7 @@ head_in left = do
     when.1,
   )
 
--- the rule with this condition
+-- The rule with this condition.
 abbrev pub rule_with : Head → syntax.Expression → syntax.RuleItem
 rule_with head condition = record {
   name = head.name;

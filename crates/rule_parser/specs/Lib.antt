@@ -1,5 +1,5 @@
--- What the parser's contracts cite. The public ones name `Fault`, `What`, `Syntax` and `Laws` alone, over the grammar
--- in `lc_model`. The others describe the functions inside; no crate above relies on them.
+-- The definitions that this crate's contracts use. The public contracts use only `Fault`, `What`, `Syntax` and `Laws`, over the
+-- grammar in `lc_model`; the others are for the functions inside.
 pub mod What
 pub mod Fault
 pub mod Syntax

@@ -1,41 +1,42 @@
--- What must still be read after some tokens, as a stack, and the first token that doesn't fit it. This project's own.
+-- The symbols that must still be read, as a stack, and the first token that does not fit. This project's own.
 use Rattle.std.specs.Prelude.{codes, ℕ, zero, suc, Bool, true, false, ◌||◌, if◌then◌else◌, List, [], ◌∷◌, ◌++◌, map, Option, Some, None}
 use Rattle.std.specs.Option.{option_map_or}
 use Rattle.lc_model.specs.Text.Token.{Token}
 use Rattle.lc_model.specs.Text.Class.{Class, Item, Name, Number, State, Level, Text, FieldKind, Operand, Compare, Word, word, sign, fits}
 use Rattle.lc_model.specs.Text.Reading.{ParseFault, Expected, TooNested, nests, ends_item, most_nested}
 
--- What may still be read: a token of a class; an optional word with its following tokens; the rest of a condition that
--- begins with an operand or after one, with the token that follows the condition.
+-- A symbol: a token of a class; an optional word with the tokens after it; or the rest of a condition, before or after an
+-- operand, with the token `close` that ends it.
 pub data Symbol : Type 0 where
   one : (class : Class) → Symbol
   option : (letters : List ℕ) (following : List Class) → Symbol
   operand after : (close : Class) → Symbol
 
+-- A symbol for each class.
 abbrev pub ones : List Class → List Symbol
 ones = map one
 
--- a packet after the word `packet`
+-- A packet after the word `packet`.
 abbrev pub packet_left : List Symbol
 packet_left = ones (Name ∷ sign "=" ∷ word "mid" ∷ Number ∷ word "length" ∷ Number ∷ sign ";" ∷ [])
 
--- a field after the word `field`
+-- A field after the word `field`.
 abbrev pub field_left : List Symbol
 field_left =
     ones (Name ∷ sign "=" ∷ Name ∷ FieldKind ∷ word "at" ∷ Number ∷ [])
     ++ option (codes "mask") (Number ∷ []) ∷ option (codes "stale") (Number ∷ []) ∷ one (sign ";") ∷ []
 
--- a rule after the word `rule`
+-- A rule after the word `rule`.
 abbrev pub rule_left : List Symbol
 rule_left =
     ones (Name ∷ State ∷ word "fails" ∷ Number ∷ word "sequence" ∷ Number ∷ word "event" ∷ Level ∷ Number ∷ Text ∷ [])
     ++ option (codes "report") (Number ∷ Number ∷ Number ∷ []) ∷ one (word "when") ∷ operand (sign ";") ∷ []
 
--- the token is an operator between two operands
+-- Whether the token is `and`, `xor` or `or`.
 abbrev pub joins : Token → Bool
 joins t = fits (word "and") t.text || (fits (word "xor") t.text || fits (word "or") t.text)
 
--- what must still be read after a token, if the token fits. With nothing left an item may begin.
+-- The symbols to be read after a token that fits; `None` if it does not. With no symbols left an item may begin.
 abbrev pub step : List Symbol → Token → Option (List Symbol)
 step [] t =
     if fits (word "packet") t.text then Some packet_left else
@@ -49,7 +50,7 @@ step (operand close ∷ s) t =
     if fits (sign "(") t.text then Some (operand (sign ")") ∷ after close ∷ s) else None
 step (after close ∷ s) t = if joins t then Some (operand close ∷ s) else if fits close t.text then Some s else None
 
--- the class that is needed next; optional symbols are left out
+-- The class that is expected next, without optional symbols.
 abbrev pub wanted : List Symbol → Class
 wanted [] = Item
 wanted (one class ∷ s) = class
@@ -57,7 +58,7 @@ wanted (option letters following ∷ s) = wanted s
 wanted (operand close ∷ s) = Operand
 wanted (after close ∷ s) = close
 
--- only optional symbols are left
+-- Only optional symbols are left.
 abbrev pub is_finished : List Symbol → Bool
 is_finished [] = true
 is_finished (option letters following ∷ s) = is_finished s
@@ -65,24 +66,25 @@ is_finished s = false
 
 -- ---- nesting
 
--- whether a condition is being read, and how many of its tokens may still nest
+-- Outside a condition; or inside one, with the number of tokens that may still nest.
 pub data Room : Type 0 where
   outside : Room
   inside : (left : ℕ) → Room
 
--- the room with one token less
+-- One nesting token more; `None` if that is too many.
 abbrev pub less : ℕ → Option Room
 less zero = None
 less (suc left) = Some (inside left)
 
--- the room after a token
+-- The room after a token.
 abbrev pub narrowed : Room → Token → Option Room
 narrowed outside t = Some (if fits (word "when") t.text then inside most_nested else outside)
 narrowed (inside left) t = if ends_item t then Some outside else if nests t then less left else Some (inside left)
 
 -- ---- the first fault
 
--- the first token that doesn't fit or nests too deep, or the end if something is left to be read
+-- The first fault: a token that does not fit (11), a nesting token too many (12), or the end of the text if a symbol is still to
+-- be read (11).
 unfoldable pub fault_at : (end : ℕ) → Room → List Symbol → List Token → Option ParseFault
 fault_at end room s [] = if is_finished s then None else Some (Expected end (wanted s))
 fault_at end room s (t ∷ ts) =

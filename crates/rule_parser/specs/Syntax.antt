@@ -15,19 +15,19 @@ use Rattle.rule_parser.specs.declared.syntax.RuleItem.{RuleItem}
 use Rattle.rule_parser.specs.declared.syntax.Item.{Item}
 use Rattle.rule_parser.specs.declared.syntax.Item.TheVariants as item
 
--- a name as a token
+-- The program's name as a token.
 abbrev pub name_of : Name → Token
 name_of n = record { at = n.at; text = n.text.now }
 
--- a number with its place
+-- The program's number with its place.
 abbrev pub number_of : Number → model.Number
 number_of n = record { at = n.at; value = n.value }
 
--- a packet
+-- A packet.
 abbrev pub packet_of : PacketItem → model.PacketItem
 packet_of p = record { name = name_of p.name; mid = number_of p.mid; length = number_of p.length }
 
--- a field
+-- A field.
 abbrev pub field_of : FieldItem → model.FieldItem
 field_of f = record {
   name = name_of f.name;
@@ -38,11 +38,11 @@ field_of f = record {
   stale = option_map number_of f.stale;
 }
 
--- a condition that is one comparison
+-- A comparison.
 abbrev pub comparison_of : Comparison → model.Expression
 comparison_of c = model.Compare (name_of c.field) c.op (number_of c.value)
 
--- a condition
+-- A condition.
 abbrev pub expression_of : Expression → model.Expression
 expression_of (tree.Compare c) = comparison_of c
 expression_of (tree.Not' p e) = model.Not (expression_of e)
@@ -50,7 +50,7 @@ expression_of (tree.And' p a b) = model.Join And (expression_of a) (expression_o
 expression_of (tree.Or' p a b) = model.Join Or (expression_of a) (expression_of b)
 expression_of (tree.Xor' p a b) = model.Join Xor (expression_of a) (expression_of b)
 
--- the most reports of each kind
+-- The maxima of `report`.
 abbrev pub report_of : ReportItem → model.ReportItem
 report_of r = record {
   passive = number_of r.passive;
@@ -58,7 +58,7 @@ report_of r = record {
   fail_to_pass = number_of r.fail_to_pass;
 }
 
--- a rule
+-- A rule.
 abbrev pub rule_of : RuleItem → model.RuleItem
 rule_of r = record {
   name = name_of r.name;
@@ -72,12 +72,12 @@ rule_of r = record {
   condition = expression_of r.condition;
 }
 
--- an item
+-- An item.
 abbrev pub item_of : Item → model.Item
 item_of (item.Packet p) = model.Packet (packet_of p)
 item_of (item.Field f) = model.Field (field_of f)
 item_of (item.Rule r) = model.Rule (rule_of r)
 
--- the items, in order
+-- A list of items.
 abbrev pub items_of : List Item → List model.Item
 items_of = map item_of

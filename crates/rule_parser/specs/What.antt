@@ -1,4 +1,4 @@
--- The classes that are expected at a place, and the kinds of their tokens. This project's own.
+-- The values of `What` (what error 11 expects) as classes of the grammar, and as text. This project's own.
 use Rattle.std.specs.Prelude.{codes, ℕ, List, [], ◌++◌}
 use Rattle.lc_model.specs.Text.Class as class
 use Rattle.lc_model.specs.Text.Class.{Class}
@@ -12,7 +12,7 @@ use Rattle.rule_parser.specs.declared.what.Sign.{Sign}
 use Rattle.rule_parser.specs.declared.what.Sign.TheVariants.{Equals, Semicolon, Close}
 use Rattle.rule_parser.specs.Front.{class_of}
 
--- the kind of a word's tokens
+-- The token kind of each word.
 abbrev pub kind_of_word : Word → TokenKind
 kind_of_word Mid = kind.Mid
 kind_of_word Length = kind.Length
@@ -25,13 +25,13 @@ kind_of_word Event = kind.Event
 kind_of_word Report = kind.Report
 kind_of_word When = kind.When
 
--- the kind of a sign's tokens
+-- The token kind of each sign.
 abbrev pub kind_of_sign : Sign → TokenKind
 kind_of_sign Equals = kind.Equals
 kind_of_sign Semicolon = kind.Semicolon
 kind_of_sign Close = kind.Close
 
--- the class of the grammar
+-- The class of the grammar for this value.
 abbrev pub class_of_what : What → Class
 class_of_what what.Item = class.Item
 class_of_what what.Name = class.Name
@@ -45,20 +45,20 @@ class_of_what what.Compare = class.Compare
 class_of_what (what.Word w) = class_of (kind_of_word w)
 class_of_what (what.Sign s) = class_of (kind_of_sign s)
 
--- the letters of a word or a sign; other classes have no letters of their own
+-- The letters of a class that is one word or sign; else none.
 abbrev pub letters_of : Class → List ℕ
 letters_of (class.Word letters) = letters
 letters_of (class.Sign letters) = letters
 letters_of other = []
 
--- the text that an error shows for a word, and for a sign
+-- A word, and a sign, as text.
 abbrev pub word_text : Word → List ℕ
 word_text w = letters_of (class_of (kind_of_word w))
 
 abbrev pub sign_text : Sign → List ℕ
 sign_text s = letters_of (class_of (kind_of_sign s))
 
--- the text that an error shows for a class
+-- The words by which a message names the expected class.
 abbrev pub what_text : What → List ℕ
 what_text what.Item = codes "`packet`, `field` or `rule`"
 what_text what.Name = codes "a name"

@@ -11,8 +11,8 @@ use thiserror::Error;
 /// The first fault of a text's tokens. `at` is the number of the text's bytes before it.
 #[derive(Clone, Copy, Debug, PartialEq, Eq, Error)]
 pub enum ParseError {
-    /// The token at this place, or the end of the text, is not what the grammar needs. `what` is the class that must
-    /// stand there; it leaves out classes that may stand before it but needn't.
+    /// The token at this place, or the end of the text, is not what the grammar needs. `what` is the expected class; classes of
+    /// optional tokens are left out.
     #[error("expected {what} at {at}")]
     Expected { at: usize, what: What },
     /// The 65th token of one condition among `(`, `not`, `and`, `xor` and `or`.

@@ -109,7 +109,7 @@ pub struct RuleItem<'a> {
     pub text: &'a [u8],
     /// The most events of each kind; `None` if not written.
     pub report: Option<ReportItem>,
-    /// The rule fails where this is true.
+    /// The condition: the rule fails if it is true.
     pub condition: Expression<'a>,
 }
 

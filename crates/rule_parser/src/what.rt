@@ -1,4 +1,4 @@
-//! What the parser expects at a place of a rule text, for its errors.
+//! The class of tokens that the parser expects at a place of a rule text, for its errors.
 
 ghost use Rattle.std.specs.Prelude.{◌≡◌, Some};
 ghost use Rattle.rule_parser.specs.What.{kind_of_sign, kind_of_word, sign_text, what_text, word_text};

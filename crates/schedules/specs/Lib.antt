@@ -1,4 +1,4 @@
--- What the contracts of schedules cite.
+-- The definitions that this crate's contracts use.
 pub mod Error
 pub mod Entry
 pub mod Word

@@ -2,7 +2,7 @@
 use Rattle.std.specs.Prelude.{◌≡◌, ℕ, List}
 use Rattle.lc_model.specs.Host.ScheduleText.{entry_in, slots_in}
 
--- these words are read as those are
+-- The first words of a line, `some`, give the same as all its words.
 pub record SaySame (some all : List (List ℕ)) : Type 0 where
   pub slots : slots_in some ≡ slots_in all
   pub entry : entry_in some ≡ entry_in all

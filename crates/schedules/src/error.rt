@@ -10,7 +10,7 @@ use thiserror::Error;
 /// Why a text is no schedule, at its first faulty line `n`, counted from 1.
 #[derive(Clone, Copy, Debug, PartialEq, Eq, Error)]
 pub enum ScheduleError {
-    /// The line is not one that may stand there; or the text has only blank lines and comments, and `n` is 0.
+    /// The line is not valid at its place; or the text has only blank lines and comments, and `n` is 0.
     #[error("line {n} is no line of a schedule")]
     BadLine { n: usize },
     /// The line asks for more than 64 slots.

@@ -1,5 +1,5 @@
-//! Schedules, which say what is published at which tick, and their texts (after the cFS scheduler's table of slots; texts are
-//! this project's own).
+//! Schedules, which define the requests published at each tick, and their texts (after the cFS scheduler's table of slots;
+//! texts are this project's own).
 #![tactic(auto)]
 
 mod entry;

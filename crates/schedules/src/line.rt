@@ -1,4 +1,4 @@
-//! What a line says.
+//! The parts of a line.
 
 ghost use Rattle.std.specs.Prelude.{◌≡◌, [], ◌∷◌, bytes_eq, codes, IfSome, option_map};
 ghost use Rattle.lc_model.specs.Host.Schedule.{IsEntry};
@@ -114,7 +114,7 @@ fn sample_in(
     Some((slot as usize, entry))
 }
 
-/// The slot and the entry that a line with these words says.
+/// The slot and the entry of a line with these words.
 pub(crate) fn entry_in(words: &[&[u8]]) -> Option<(usize, Entry)>
     ensures said { option_map placed_of result ≡ entry_in (texts_of words.now) }
     ensures fits { IfSome result (λ placed. IsEntry (entry_of placed.1)) }

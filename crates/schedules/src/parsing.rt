@@ -70,13 +70,13 @@ fn read_line(
     Ok(Some(schedule))
 }
 
-/// The schedule that a text says. Lines end at a line feed or at the end of the text, and words are separated by spaces, tabs
-/// and carriage returns; a line without words, or whose first word begins with `#`, is ignored. The first other line is
-/// `slots N`, and each further one `S sample START END age`, `S sample START END keep` or `S housekeeping`, with S below N,
-/// START and END as in a sample request, and numbers of one to five decimal digits.
+/// The schedule of a text. Lines end at a line feed or at the end of the text, and words are separated by spaces, tabs and
+/// carriage returns; a line without words, or whose first word begins with `#`, is ignored. The first other line is `slots N`,
+/// and each further one `S sample START END age`, `S sample START END keep` or `S housekeeping`, with S below N, START and END
+/// as in a sample request, and numbers of one to five decimal digits.
 ///
-/// Errors, at the first faulty line: `BadLine` for any other line, or with line 0 where all lines are ignored; `TooManySlots`
-/// where N is over 64; `TooManyEntries` for the ninth entry of a slot. `Memory` comes only where there is none for the slots.
+/// Errors, at the first faulty line: `BadLine` for any other line, or with line 0 if all lines are ignored; `TooManySlots` if N
+/// is over 64; `TooManyEntries` for the ninth entry of a slot. `Memory` comes only if there is none for the slots.
 pub fn parse_schedule(alloc: Global, text: &[u8]) -> Result<Schedule, ScheduleError>
     ensures said { IfOk result (λ schedule. schedule_in text.now ≡ Ok schedule) }
     ensures refused { IfErr result (IsRefused (schedule_in text.now)) }

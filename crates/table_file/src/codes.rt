@@ -1,4 +1,4 @@
-//! Comparisons, states and event types by the numbers in a table's entries, with a default for a number that none has (this
+//! Comparisons, states and event types by their numbers in a table's entries, with a default for any other number (this
 //! project's own).
 
 ghost use Rattle.std.specs.Prelude.{◌≡◌};
@@ -6,7 +6,7 @@ ghost use Rattle.lc_model.specs.Tables.Spelled.{operator_of_code, state_of_code,
 
 use lc_model::{ApMode, CmpOp, EventKind};
 
-/// The comparison with this number, or `<` where none has it.
+/// The comparison with this number, or `<` if none has it.
 pub fn operator_of(code: u8) -> CmpOp
     ensures { result ≡ operator_of_code code }
 {
@@ -20,7 +20,7 @@ pub fn operator_of(code: u8) -> CmpOp
     }
 }
 
-/// The state with this number that an actionpoint may begin in, or active where none has it.
+/// The default state with this number, or active if none has it.
 pub fn state_of(code: u8) -> ApMode
     ensures { result ≡ state_of_code code }
 {
@@ -31,7 +31,7 @@ pub fn state_of(code: u8) -> ApMode
     }
 }
 
-/// The event type with this number, or debug where none has it.
+/// The event type with this number, or debug if none has it.
 pub fn event_kind_of(code: u16) -> EventKind
     ensures { result ≡ event_of_code code }
 {

@@ -66,7 +66,7 @@ fn push_watchpoint(out: &mut Vec<u8>, term: &Term) -> Result<(), AllocError>
     Ok(())
 }
 
-/// An actionpoint's numbers, in front of its text.
+/// An actionpoint's numbers, which stand before its text.
 fn push_numbers(out: &mut Vec<u8>, entry: &TableEntry) -> Result<(), AllocError>
     ensures { OnOk result (out.new.items ≡ out.old.items ++ entry_numbers entry.now) }
 {
@@ -156,8 +156,8 @@ fn push_actionpoints(
     Ok(())
 }
 
-/// The image of a table of watchpoints, 4,264 bytes. Conditions: at most 176 watchpoints, each with a comparison's number that
-/// fits 32 bits, with a sign where its type has one; it need not be in the type's range.
+/// The image of a table of watchpoints, 4,264 bytes. Conditions: at most 176 watchpoints, each with a comparison value that
+/// fits 32 bits, signed or unsigned like its type; it need not be in the type's range.
 ///
 /// Errors: `Memory` alone.
 pub fn encode_wdt(alloc: Global, image: &WdtImage) -> Result<Vec<u8>, FileError>

@@ -25,7 +25,7 @@ pub enum FileError {
     /// The image doesn't begin at the table's first byte.
     #[error("a part of a table")]
     PartialLoad,
-    /// The number of bytes after the headers is not the one that they say.
+    /// The number of bytes in the table header is not that of the image.
     #[error("the image has another length than its header says")]
     SizeMismatch,
     /// No memory for the bytes that are written.

@@ -61,21 +61,21 @@ impl<'a> Model for TableFile<'a> {
 }
 
 impl<'a> TableFile<'a> {
-    /// What the file is, bytes 0 to 3: `cFE1`.
+    /// The content type, bytes 0 to 3: `cFE1`.
     pub fn content_type(&self) -> u32
         ensures { result ≡ content_type_in (file_bytes self.now) }
     {
         CONTENT_TYPE
     }
 
-    /// What its content is, bytes 4 to 7: 8, a table.
+    /// The subtype, bytes 4 to 7: 8, a table.
     pub fn subtype(&self) -> u32
         ensures { result ≡ subtype_in (file_bytes self.now) }
     {
         SUBTYPE
     }
 
-    /// The bytes of the cFE file header, said in bytes 8 to 11: 64.
+    /// The length of the cFE file header, bytes 8 to 11: 64.
     pub fn header_length(&self) -> u32
         ensures { result ≡ header_length_in (file_bytes self.now) }
     {
@@ -103,21 +103,21 @@ impl<'a> TableFile<'a> {
         self.application
     }
 
-    /// When the file was written: the seconds.
+    /// The seconds of the time at which the file was written.
     pub fn seconds(&self) -> u32
         ensures { result ≡ self.now.seconds }
     {
         self.seconds
     }
 
-    /// When the file was written: the parts of a second.
+    /// The subseconds of the time at which the file was written.
     pub fn subseconds(&self) -> u32
         ensures { result ≡ self.now.subseconds }
     {
         self.subseconds
     }
 
-    /// What the file says of itself, in 32 bytes.
+    /// The file's description, 32 bytes.
     pub fn description(&self) -> &'a [u8]
         ensures { result.now ≡ self.now.description }
     {
@@ -131,16 +131,17 @@ impl<'a> TableFile<'a> {
         self.reserved
     }
 
-    /// Where in the table the image begins, in bytes, said in bytes 68 to 71: 0, since a table is loaded whole.
+    /// The place in the table at which the image begins, bytes 68 to 71: 0, since a table is loaded whole.
     pub fn offset(&self) -> u32
         ensures { result ≡ offset_in (file_bytes self.now) }
     {
-        // For the proof: the field's place depends on the description's size, which the invariant says; reading a field brings it in.
+        // For the proof: the field's place depends on the description's size, which is in the invariant; reading a field brings
+        // it in.
         let _ = &self.description;
         0
     }
 
-    /// The bytes of the image, said in bytes 72 to 75.
+    /// The number of bytes of the image, bytes 72 to 75.
     pub fn number_of_bytes(&self) -> u32
         ensures field { result ≡ number_of_bytes_in (file_bytes self.now) }
         ensures image { result ≡ length self.now.image }
@@ -170,7 +171,7 @@ impl<'a> TableFile<'a> {
     }
 }
 
-/// The fields at their places, where the headers are a table file's.
+/// The fields at their places, if the headers are those of a table file.
 fn read_headers(bytes: &[u8]) -> Result<TableFile<'_>, FileError>
     ensures { Answers result (opened bytes.now) }
 {
@@ -211,9 +212,9 @@ fn read_headers(bytes: &[u8]) -> Result<TableFile<'_>, FileError>
 pub fn open(bytes: &[u8]) -> Result<TableFile<'_>, FileError>
     // The result is the one that the definitions give for the file.
     ensures exact { Answers result (opened bytes.now) }
-    // What is opened is spelled so, byte for byte.
+    // A file that opens is exactly the bytes of its fields.
     ensures spelled { IfOk result (λ file. IsTableFile file × (bytes.now ≡ file_bytes file)) }
-    // What is spelled so is opened, with the same fields.
+    // The bytes of any fields open, with the same fields.
     ensures again { (file : model.TableFile) → IsTableFile file → bytes.now ≡ file_bytes file →
         result ≡ Ok file }
 {

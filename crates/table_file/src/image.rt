@@ -1,4 +1,4 @@
-//! What the images of the two tables hold.
+//! The contents of the images of the two tables.
 
 ghost use Rattle.std.specs.Prelude.{◌≡◌, IfSome};
 ghost use Rattle.table_file.specs.Layout.{layout_of, layout_of_version, number_of, version_numbered};

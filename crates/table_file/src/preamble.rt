@@ -1,4 +1,4 @@
-//! The fields in front of an image's entries. Condition of each: an image of at least 40 bytes.
+//! The fields before an image's entries. Condition of each: an image of at least 40 bytes.
 
 ghost use Rattle.std.specs.Prelude.{◌≡◌, ◌≤◌, length};
 ghost use Rattle.lc_model.specs.Bytes.{u16_at};
@@ -24,7 +24,7 @@ pub fn kind_code(image: &[u8]) -> u16
     u16_at(image, 2)
 }
 
-/// How many entries are used.
+/// The number of used entries.
 pub fn own_count(image: &[u8]) -> u16
     requires { preamble_length ≤ length image.now }
     ensures { result ≡ model.own_count image.now }
@@ -32,7 +32,7 @@ pub fn own_count(image: &[u8]) -> u16
     u16_at(image, 4)
 }
 
-/// How many watchpoints the rule text has.
+/// The number of watchpoints of the rule text.
 pub fn watchpoint_count(image: &[u8]) -> u16
     requires { preamble_length ≤ length image.now }
     ensures { result ≡ model.watchpoint_count image.now }

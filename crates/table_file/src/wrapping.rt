@@ -52,13 +52,13 @@ fn push_table_header(out: &mut Vec<u8>, kind: Kind, length: u32) -> Result<(), A
     Ok(())
 }
 
-/// The file for an image: both headers and the image, 116 bytes more than it has.
+/// The file for an image: both headers (116 bytes) and the image.
 ///
 /// Errors: `Memory` alone.
 pub fn wrap(alloc: Global, kind: Kind, image: &[u8]) -> Result<Vec<u8>, FileError>
     requires { length image.now ≤ max_file_size - headers_length }
     ensures bytes { IfOk result (λ bytes. bytes.items ≡ file_bytes (wrapped kind image.now)) }
-    // What is written is opened, with the fields that were written.
+    // The written file opens, with the fields that were written.
     ensures opens { IfOk result (λ bytes. opened bytes.items ≡ Ok (wrapped kind image.now)) }
     ensures refused { IfErr result (λ error. error ≡ Memory) }
 {

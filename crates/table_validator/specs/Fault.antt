@@ -1,11 +1,11 @@
--- The numbers of the faults of images, and results as the definitions give them. This project's own.
+-- The validator's faults as faults of the model. This project's own.
 use Rattle.std.specs.Prelude.{ℕ, Option, Some, None, Result, Ok, Err}
 use Rattle.lc_model.specs.Tables.Image.{ImageFault}
 use Rattle.table_validator.specs.declared.fault.FaultCode.{FaultCode}
 use Rattle.table_validator.specs.declared.fault.FaultCode.TheVariants.{WrongVersion, WrongKind, WrongSize, WrongCounts, NotBlank, UnknownType, UnknownOperator, WrongMessageId, WrongMask, WrongValue, UnknownState, WrongEvent, WrongText, NoEqual, WordAfterEqual, UnknownWord, UnknownWatchpoint, MissingOperand, TooManyOperands, OperandsLeft, ZeroSequenceOrFails}
 use Rattle.table_validator.specs.declared.fault.TableFault.{TableFault}
 
--- the number of the code
+-- The number of a fault's code, 61 to 81.
 abbrev pub code_number : FaultCode → ℕ
 code_number WrongVersion = 61
 code_number WrongKind = 62
@@ -29,11 +29,11 @@ code_number TooManyOperands = 79
 code_number OperandsLeft = 80
 code_number ZeroSequenceOrFails = 81
 
--- this fault as one of the definitions
+-- The program's fault as one of the model.
 abbrev pub fault_in : TableFault → ImageFault
 fault_in fault = record { code = code_number fault.code; entry = fault.entry }
 
--- the fault by which an image is refused; none if it is sound
+-- The fault in a result of the validator; `None` if the image is sound.
 abbrev pub refusal : {X : Type 0} → Result X TableFault → Option ImageFault
 refusal (Ok image) = None
 refusal (Err fault) = Some (fault_in fault)

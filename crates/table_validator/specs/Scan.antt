@@ -1,4 +1,4 @@
--- The state of a pass over an entry's words after each word, and the tests that it decides. This project's own.
+-- A pass over the words of an entry: its state after each word, and the tests that it decides. This project's own.
 use Rattle.std.specs.Prelude.{ℕ, ◌+◌, ◌-◌, Bool, true, false, not, ◌&&◌, ◌||◌, if◌then◌else◌, nat_lt, nat_le, ◌==◌, List, [], ◌∷◌}
 use Rattle.std.specs.List.{list_any, list_all}
 use Rattle.std.specs.Int.{is_in_range}
@@ -9,11 +9,11 @@ use Rattle.lc_model.specs.Tables.Image.{operands_of, most_waiting, words_before_
 use Rattle.table_validator.specs.declared.operands.OperandCount.{OperandCount}
 use Rattle.table_validator.specs.declared.equation_words.WordScan.{WordScan}
 
--- the number of operands that wait
+-- The number of operands on the stack.
 abbrev pub operands_waiting : OperandCount → ℕ
 operands_waiting o = o.mentions - o.joins
 
--- the count after one more word
+-- The counts of operands after one more word.
 abbrev pub word_counted : OperandCount → ℕ → OperandCount
 word_counted o w = record {
   mentions = o.mentions + (if is_mention w then 1 else 0);
@@ -22,7 +22,7 @@ word_counted o w = record {
   crowded = o.crowded || nat_lt most_waiting (operands_waiting o);
 }
 
--- the state before the first word
+-- The pass before the first word.
 abbrev pub unread : WordScan
 unread = record {
   ended = false;
@@ -32,7 +32,7 @@ unread = record {
   operands = record { mentions = 0; joins = 0; missing = false; crowded = false };
 }
 
--- the state after one more word, over this number of watchpoints
+-- The pass after one more word, over `count` watchpoints.
 abbrev pub word_read : ℕ → WordScan → ℕ → WordScan
 word_read count scan w =
     if scan.ended then record scan { word_behind = scan.word_behind || not (0 == w) }
@@ -43,7 +43,7 @@ word_read count scan w =
       operands = word_counted scan.operands w;
     }
 
--- the tests of the words read so far, in the order of their codes
+-- The tests that the pass has decided, by ascending code (74 to 80).
 abbrev pub scan_tests : WordScan → List (Bool × ℕ)
 scan_tests scan =
     (not scan.ended, 74)
@@ -54,7 +54,7 @@ scan_tests scan =
     ∷ (scan.operands.crowded, 79)
     ∷ (nat_lt 1 (operands_waiting scan.operands), 80) ∷ []
 
--- the tests of an entry's words
+-- The tests of an entry's words, by ascending code (74 to 80).
 abbrev pub word_tests : ℕ → List ℕ → List (Bool × ℕ)
 word_tests count ws =
     (not (list_any (◌==◌ equal_word) ws), 74)

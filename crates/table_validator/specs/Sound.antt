@@ -1,4 +1,4 @@
--- What readers of a sound image may rely on. This project's own.
+-- The facts on which readers of a sound image may rely. This project's own.
 use Rattle.std.specs.Prelude.{◌≡◌, ◌≢◌, ℕ, ◌<◌, ◌≤◌, ◌⊎◌, ◌==◌, List, length, take, Some, None, unwrap_or, slice_index, IsTrue}
 use Rattle.std.specs.List.{list_all}
 use Rattle.lc_model.specs.declared.kind.Kind.{Kind}
@@ -13,15 +13,15 @@ use Rattle.lc_model.specs.Tables.Image.{Layout, Watchpoints, Actionpoints, kind_
 use Rattle.lc_model.specs.Tables.InForce.{layouts}
 use Rattle.lc_model.specs.Tables.Spelled.{spelled_term, state_of_code, event_of_code}
 
--- an image, and the kind of its table
+-- An image, and the table for which it is sound.
 pub record TableImage : Type 0 where
   pub kind : Kind
   pub bytes : List ℕ
 
 -- ---- watchpoints
 
--- a watchpoint's entry has a known type and comparison, a message id that may be watched, and a mask and a value of
--- the type
+-- A WDT entry has a known type and comparison, a message id that a rule may watch, and a mask and a comparison value in the
+-- type's range.
 pub record IsSoundWatchpoint (e : List ℕ) : Type 0 where
   pub has_type : type_of_code (type_field e) ≡ Some (spelled_term e).kind
   pub has_operator : operator_code (spelled_term e).op ≡ operator_field e
@@ -32,7 +32,7 @@ pub record IsSoundWatchpoint (e : List ℕ) : Type 0 where
   pub mask_to : (spelled_term e).mask ≤ full_mask (spelled_term e).kind
   pub value : IsTrue (is_in_type (spelled_term e).kind (spelled_term e).value)
 
--- an image of watchpoints
+-- A WDT image has its size and at most 176 entries, and each used entry is sound.
 pub record HasSoundWatchpoints (image : List ℕ) : Type 0 where
   pub size : length image ≡ image_length Watchpoints
   pub own : own_count image ≤ table_entries
@@ -41,16 +41,15 @@ pub record HasSoundWatchpoints (image : List ℕ) : Type 0 where
 
 -- ---- equations
 
--- At a word, an evaluation finds a watchpoint below the count or an operator, enough operands for it, and at most eight
--- that wait.
+-- At word `n` the evaluation finds a watchpoint below the count or an operator, enough operands for it, and at most eight
+-- operands on the stack.
 pub record IsMet (count : ℕ) (ws : List ℕ) (n : ℕ) : Type 0 where
   pub known : (slice_index ws n < count) ⊎ ((operator_word And ≤ slice_index ws n) × (slice_index ws n ≤ not_word))
   pub enough : operands_of (slice_index ws n) ≤ waiting (take n ws)
   pub few : waiting (take n ws) ≤ most_waiting
 
--- Words that can be evaluated over this number of watchpoints. They pass the tests of equations and spell a condition
--- over watchpoints below the count, with a need of at most eight. So each word is valid in turn, and EQUAL has one
--- operand.
+-- The words can be evaluated over this number of watchpoints. They pass the tests of equations and spell a condition with a
+-- `need` of at most 8. So each word is valid in turn, and EQUAL finds one operand.
 pub record IsSoundEquation (count : ℕ) (ws : List ℕ) : Type 0 where
   pub passes : first_code (equation_tests count ws) ≡ None
   pub need : ℕ
@@ -61,8 +60,8 @@ pub record IsSoundEquation (count : ℕ) (ws : List ℕ) : Type 0 where
 
 -- ---- actionpoints
 
--- an actionpoint's entry has a known state, an event, a text, an equation that can be evaluated, a sequence and a
--- number of fails
+-- An ADT entry has a known default state, event and text, an equation that can be evaluated, and a sequence and `fails` that
+-- are not 0.
 pub record IsSoundActionpoint (count : ℕ) (e : List ℕ) : Type 0 where
   pub has_state : state_code (state_of_code (state_field e)) ≡ state_field e
   pub has_event : event_code (event_of_code (event_type_field e)) ≡ event_type_field e
@@ -74,11 +73,11 @@ pub record IsSoundActionpoint (count : ℕ) (e : List ℕ) : Type 0 where
   pub sequence : sequence_field e ≢ 0
   pub fails : fails_field e ≢ 0
 
--- the layout of an image of actionpoints, by its length
+-- The layout of an ADT image, by its length.
 unfoldable pub adt_layout : List ℕ → Layout
 adt_layout image = unwrap_or (layout_of layouts Adt image) Actionpoints
 
--- an image of actionpoints
+-- An ADT image has the size of its layout and at most 176 entries, and each used entry is sound.
 pub record HasSoundActionpoints (image : List ℕ) : Type 0 where
   pub layout : layout_of layouts Adt image ≡ Some (adt_layout image)
   pub kind : kind_of (adt_layout image) ≡ Adt

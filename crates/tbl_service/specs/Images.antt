@@ -10,33 +10,35 @@ use Rattle.tbl_service.specs.declared.slot.Stage.TheVariants.{Loaded, Asked, Val
 use Rattle.tbl_service.specs.declared.slot.Move.{Move}
 use Rattle.tbl_service.specs.declared.slot.Move.TheVariants.{Validate, Activate, Abort}
 
+-- The program's stage as one of the model.
 abbrev pub stage_of : Stage → model.Stage
 stage_of Loaded = model.Loaded
 stage_of Asked = model.Asked
 stage_of Valid = model.Valid
 stage_of Activated = model.Activated
 
+-- The program's command as one of the model.
 abbrev pub move_of : Move → model.Move
 move_of Validate = model.Validate
 move_of Activate = model.Activate
 move_of Abort = model.Abort
 
--- a waiting image
+-- The waiting image as one of the model.
 abbrev pub waiting_seen : Stage → List ℕ → Waiting (List ℕ)
 waiting_seen stage image = record { stage = stage_of stage; image = image }
 
--- the active image and the waiting one, if they exist
+-- The slot of the model, from the program's two buffers and whether each is in use.
 abbrev pub slot_of : List ℕ → Bool → List ℕ → Option Stage → Slot (List ℕ)
 slot_of active is_active waiting stage = record {
   active = if is_active then Some active else None;
   waiting = option_map (λ (s : Stage). waiting_seen s waiting) stage;
 }
 
--- the slot of the first table of a name, over all seats
+-- The slot of the table with this name, on any seat.
 abbrev pub slot_named : Places → Name → Option (Slot (List ℕ))
 slot_named places name = seen.slot_among places name
 
--- the active image of a slot, where there is a slot that has one
+-- The active image of a slot, if there are both.
 abbrev pub active_of : Option (Slot (List ℕ)) → Option (List ℕ)
 active_of None = None
 active_of (Some slot) = slot.active

@@ -5,33 +5,33 @@ use Rattle.lc_model.specs.Refusal.{Refusal, ◌>>=◌, provided}
 use Rattle.lc_model.specs.Tables.Slot.{Slot, loaded, no_images}
 use Rattle.lc_model.specs.Services.Tables.{Table, Handle, fits_table, table_at}
 
--- the buffers of the tables and the free ones make two pairs, and both lists have room for two
+-- A seat has two pairs of image buffers, in use or spare, and both lists have room for two.
 pub record IsPlace (tables : List Table) (spare : List (Slot (List ℕ))) (table_room spare_room : ℕ) : Type 0 where
   pub images : length tables + length spare ≡ 2
   pub tables_fit : 2 ≤ table_room
   pub spare_fits : 2 ≤ spare_room
 
--- a table with these images
+-- The table with another slot.
 abbrev pub with_images : Slot (List ℕ) → Table → Table
 with_images slot table = record table { slot = slot }
 
--- the tables with the images of one changed
+-- The tables with `change` done to the slot of one; `d` stands for a table that does not exist.
 abbrev pub with_images_at : ℕ → (Slot (List ℕ) → Slot (List ℕ)) → Table → List Table → List Table
 with_images_at number change d tables =
     slice_set tables number (with_images (change (slice_index_or tables number d).slot) (slice_index_or tables number d))
 
--- the tables with one changed, or the change's refusal
+-- The tables with the slot of one changed, or the refusal of the change.
 abbrev pub changed_by : (Slot (List ℕ) → Result (Slot (List ℕ)) Refusal) → ℕ → Table → List Table → Result (List Table) Refusal
 changed_by change number d tables = do
   slot ← change (slice_index_or tables number d).slot
   Ok (slice_set tables number (with_images slot (slice_index_or tables number d)))
 
--- the tables with an image loaded to one; an image of another size is refused
+-- The tables after an image is loaded into one; 114 for an image of another size.
 abbrev pub loaded_at : List ℕ → ℕ → Table → List Table → Result (List Table) Refusal
 loaded_at image number d tables = do
   fitting ← provided (fits_table (slice_index_or tables number d) (length image)) 114 image
   changed_by (loaded fitting) number d tables
 
--- the images of a handle's table; a handle without a table has none
+-- The slot of a handle's table; without images if there is no such table.
 abbrev pub slot_among : Handle → List (List Table) → Slot (List ℕ)
 slot_among handle places = option_map_or (λ (table : Table). table.slot) (table_at handle places) no_images

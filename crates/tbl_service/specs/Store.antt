@@ -2,11 +2,11 @@
 use Rattle.std.specs.Prelude.{◌≡◌, ℕ, ◌+◌, ◌≤◌, List, length}
 use Rattle.lc_model.specs.Name.{Name}
 
--- a file with its name
+-- A stored file with its name.
 abbrev pub NamedFile : Type 0
 NamedFile = Name × List ℕ
 
--- the buffers of the files and the free ones are eight, and the list has room for eight files
+-- There are eight file buffers, in use or spare, and the list has room for eight files.
 pub record IsStore (list : List NamedFile) (spare : List (List ℕ)) (capacity : ℕ) : Type 0 where
   pub buffers : length list + length spare ≡ 8
   pub room : 8 ≤ capacity

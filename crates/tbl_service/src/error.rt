@@ -14,7 +14,7 @@ pub enum TableError {
     /// No file with this name is stored.
     #[error("no such file")]
     NoFile,
-    /// The file isn't a valid table file; the file's own fault says why.
+    /// The file is not a valid table file; it has this fault.
     #[error("the file does not open: {0}")]
     FileFault(FileError),
     /// No table with this name is registered.

@@ -1,2 +1,2 @@
--- What the contracts of the scheduler cite.
+-- The definitions that this crate's contracts use.
 pub mod Turn

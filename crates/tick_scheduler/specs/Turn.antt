@@ -2,7 +2,7 @@
 use Rattle.std.specs.Prelude.{ℕ, Option}
 use Rattle.lc_model.specs.Host.Schedule.{Schedule}
 
--- its schedule, the slot of the next tick, and the seat that it holds
+-- The scheduler's schedule, the slot of its next tick, and the seat that it holds.
 pub record Turn : Type 0 where
   pub schedule : Schedule
   pub slot : ℕ

@@ -1,5 +1,5 @@
-//! The scheduler application of the core Flight System: what each tick publishes (after the cFS scheduler's table of slots;
-//! packets are this project's own). It re-exports the types and the parser of schedules.
+//! The scheduler application of the core Flight System: it publishes requests at each tick (after the cFS scheduler's table of
+//! slots; packets are this project's own). It re-exports the types and the parser of schedules.
 #![tactic(auto)]
 
 mod packet;

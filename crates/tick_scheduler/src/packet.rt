@@ -11,8 +11,8 @@ use schedules::Entry;
 /// The most bytes of an entry's packet.
 pub const PACKET_SIZE: usize = 16;
 
-/// Writes an entry's packet to the front of a buffer, whose further bytes stay, and returns how many bytes it has: 16 of a
-/// sample request, 8 of a housekeeping request. Its sequence count is 0.
+/// Writes an entry's packet to the start of a buffer, whose further bytes stay, and returns its number of bytes: 16 of a sample
+/// request, 8 of a housekeeping request. Its sequence count is 0.
 pub fn write_packet(entry: Entry, buffer: &mut [u8; PACKET_SIZE]) -> usize
     ensures size { result ≡ length (entry_packet (entry_of entry)) }
     ensures bytes { buffer.new ≡ entry_packet (entry_of entry) ++

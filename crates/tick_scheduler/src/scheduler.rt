@@ -61,14 +61,14 @@ impl Scheduler {
         self.slot = 0;
     }
 
-    /// What is scheduled is a schedule that a text can say.
+    /// States that the schedule is valid. The body does nothing.
     fn has_schedule(&self)
         ensures { IsSchedule self.now.schedule }
     {
         let slots = self.schedule.len();
     }
 
-    /// The entries that the next tick publishes; `write_packet` gives the packet of each.
+    /// The entries of the next tick's slot; `write_packet` gives the packet of each.
     pub fn entries(&self) -> &[Entry]
         ensures packets { map entry_packet (entries_of result.now) ≡
             (next_tick self.now.schedule self.now.slot).1 }
@@ -103,7 +103,7 @@ impl App for Scheduler {
         record { called = sch_name; state = SchState s.schedule s.slot; seat = s.seat } };
 
     fn name(&self) -> &[u8] {
-        // For the proof: what is scheduled is a schedule that a text can say.
+        // For the proof: the schedule is valid.
         self.has_schedule();
         NAME
     }
@@ -117,8 +117,7 @@ impl App for Scheduler {
     }
 
     fn on_packet(&mut self, services: &mut Services, packet: &[u8]) {
-        // For the proof: each call of the services keeps the rules of the interface, and what is published keeps the rules of
-        // the interface.
+        // For the proof: each call of the services keeps the rules of the interface, and so does publishing.
         seats_are_kept_by_the_rules();
         publishing_is_by_the_rules();
         if message_id(packet) != mids::TICK {
@@ -142,7 +141,7 @@ fn publish_all(entries: &[Entry], services: &mut Services)
     requires room { AreShort roomy_depth services.old.bus }
     ensures { Publishes (map entry_packet (entries_of entries.now)) services.old services.new }
 {
-    // For the proof: what is published keeps the rules of the interface.
+    // For the proof: publishing keeps the rules of the interface.
     publishing_is_by_the_rules();
     let mut buffer = [0; PACKET_SIZE];
     for entry in entries {

@@ -6,11 +6,11 @@ use Rattle.lc_model.specs.Tables.Compiling.{too_many_watchpoints}
 use Rattle.watch_sharing.specs.declared.error.ShareError.{ShareError}
 use Rattle.watch_sharing.specs.declared.error.ShareError.TheVariants.{TooManyWatchpoints, Memory}
 
--- the number of the refusal; an error for lack of memory has no number
+-- The refusal number of an error, 31; `None` for lack of memory.
 abbrev pub error_code : ShareError → Option ℕ
 error_code TooManyWatchpoints = Some too_many_watchpoints
 error_code Memory = None
 
--- the error is a lack of memory, or these watchpoints are more than a table's
+-- The error is lack of memory, or there are more than 176 of these watchpoints.
 abbrev pub IsTooManyUnlessMemory : List Term → ShareError → Type 0
 IsTooManyUnlessMemory terms error = (error ≡ Memory) ⊎ ((error ≡ TooManyWatchpoints) × (table_entries < length terms))

@@ -1,3 +1,3 @@
--- What the contracts of sharing cite.
+-- The definitions that this crate's contracts use.
 pub mod Fault
 pub mod Numbering

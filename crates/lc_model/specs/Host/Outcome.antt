@@ -1,5 +1,4 @@
--- How a run of the program ends, and what it leaves of its stream and of its output, in plain values. The format of streams
--- is this project's own.
+-- How a run ends, and what it has read from its stream and written to its output. This project's own.
 use Rattle.std.specs.Prelude.{◌≡◌, ℕ, ◌<◌, ◌≤◌, true, false, List, ◌++◌, length, take, Option, ⊤}
 use Rattle.std.specs.Io.KnownBytes.{Appends, Consumes, IsAtEnd}
 use Rattle.lc_model.specs.Device.{Source, Sink}
@@ -9,19 +8,19 @@ use Rattle.lc_model.specs.Host.Stream as stream
 
 -- ---- devices
 
--- a source and a sink, before a run and after it
+-- A source and a sink, before and after the run.
 pub record Devices : Type 0 where
   pub source : Source
   pub source_after : Source
   pub sink : Sink
   pub sink_after : Sink
 
--- a source and a sink, by what is known of them
+-- The four as a record.
 abbrev pub devices : (source source_after : Source) → (sink sink_after : Sink) → Devices
 devices source source_after sink sink_after =
     record { source = source; source_after = source_after; sink = sink; sink_after = sink_after }
 
--- nothing was read and nothing written
+-- Nothing was read or written, and no read or write failed.
 pub record IsUntouched (d : Devices) : Type 0 where
   pub left : d.source_after.rest ≡ d.source.rest
   pub reads : d.source_after.reads ≡ 0
@@ -31,9 +30,9 @@ pub record IsUntouched (d : Devices) : Type 0 where
 
 -- ---- endings
 
--- what a run returns: the numbers of records and bytes; or the text that does not compile, with its refusal (none where the
--- compiler found no memory); or the number of a bad record, or of one that is cut short; a read failed; a write failed
--- after this many bytes; the most reads were made; or there was no memory
+-- The result of a run: `Complete` with the numbers of records and bytes; a text that does not compile, with its refusal (`None`
+-- if the compiler lacked memory); a bad record (141); a record cut by the end of the stream (142); a failed read (143); a failed
+-- write after `sent` bytes (144); the bound of reads (145); or no memory.
 pub data Ending : Type 0 where
   Complete : (records bytes : ℕ) → Ending
   Uncompiled : (text : ℕ) (refusal : Option TextRefusal) → Ending
@@ -44,27 +43,28 @@ pub data Ending : Type 0 where
   ReachedTheBound : Ending
   NoMemory : Ending
 
--- what a run returns where nothing fails: the numbers of records and bytes, or where the records end
+-- The result of a run in which nothing fails: the counts if the stream ends after a whole record, else 141 or 142 with the
+-- record's number.
 abbrev pub answer : List StreamEntry × End → (bytes : ℕ) → Ending
 answer (entries, Whole) bytes = Complete (length entries) bytes
 answer (entries, Bad number) bytes = MetNoRecord number
 answer (entries, stream.Truncated number) bytes = MetTheEnd number
 
--- no record in the bytes is bad, so that more may be read
+-- The records do not end at a bad one, so that more bytes may be read.
 abbrev pub MayGoOn : End → Type 0
 MayGoOn (Bad number) = ⊥
 MayGoOn other = ⊤
 
--- ---- outcomes, by the records of some bytes and by the output that these call for
+-- ---- outcomes: `records` gives the records of some bytes, `output` the bytes that records call for
 
 module _ (records : List ℕ → List StreamEntry × End) (output : List StreamEntry → List ℕ) (most_reads : ℕ) (d : Devices) where
-  -- these bytes were taken, and the output of their records was written
+  -- The run read exactly `bytes`, and wrote the whole output of their records, up to a bad or cut one.
   pub record TookAndWrote (bytes : List ℕ) : Type 0 where
     pub took : Consumes d.source.rest d.source_after.rest bytes
     pub wrote : Appends d.sink.gained d.sink_after.gained (output (records bytes).0)
     pub no_write_failed : d.sink_after.failed ≡ false
 
-  -- the stream came to its end after a whole record
+  -- The stream ended after a whole record: `entries` records, `count` bytes of output.
   pub record Completes (entries count : ℕ) : Type 0 where
     pub bytes : List ℕ
     pub so : TookAndWrote bytes
@@ -74,14 +74,14 @@ module _ (records : List ℕ → List StreamEntry × End) (output : List StreamE
     pub records_counted : entries ≡ length (records bytes).0
     pub bytes_counted : count ≡ length (output (records bytes).0)
 
-  -- the record with this number is bad, whatever follows
+  -- Record `number` is bad (141), whatever bytes follow those that were read.
   pub record MeetsNoRecord (number : ℕ) : Type 0 where
     pub bytes : List ℕ
     pub so : TookAndWrote bytes
     pub bad : (rest : List ℕ) → records (bytes ++ rest) ≡ ((records bytes).0, Bad number)
     pub no_read_failed : d.source_after.failed ≡ false
 
-  -- the stream ends inside the record with this number
+  -- The stream ended inside record `number` (142).
   pub record MeetsTheEnd (number : ℕ) : Type 0 where
     pub bytes : List ℕ
     pub so : TookAndWrote bytes
@@ -89,15 +89,15 @@ module _ (records : List ℕ → List StreamEntry × End) (output : List StreamE
     pub at_the_end : IsAtEnd d.source_after.rest
     pub no_read_failed : d.source_after.failed ≡ false
 
-  -- a read failed; nothing is read after a bad record
+  -- A read failed (143); the bytes read before have no bad record.
   pub record FailsToRead : Type 0 where
     pub bytes : List ℕ
     pub so : TookAndWrote bytes
     pub good : MayGoOn (records bytes).1
     pub failed : d.source_after.failed ≡ true
 
-  -- the most reads were made, each of which took a byte at least: the stream hasn't ended, and none of its records so
-  -- far is bad
+  -- `most_reads` reads were made and each read at least one byte (145): the stream has not ended, and none of its records so far
+  -- is bad.
   pub record ReachesTheBound : Type 0 where
     pub bytes : List ℕ
     pub so : TookAndWrote bytes
@@ -106,7 +106,7 @@ module _ (records : List ℕ → List StreamEntry × End) (output : List StreamE
     pub each : d.source_after.reads ≤ length bytes
     pub no_read_failed : d.source_after.failed ≡ false
 
-  -- a write failed: the sink took this many bytes, the first ones, of the output of all records, or of those before a bad one
+  -- A write failed (144): the sink took exactly the first `sent` bytes of the output.
   pub record FailsToWrite (sent : ℕ) : Type 0 where
     pub bytes : List ℕ
     pub took : Consumes d.source.rest d.source_after.rest bytes
@@ -115,7 +115,7 @@ module _ (records : List ℕ → List StreamEntry × End) (output : List StreamE
     pub failed : d.sink_after.failed ≡ true
     pub no_read_failed : d.source_after.failed ≡ false
 
-  -- how a run ends that has begun
+  -- What holds of the devices for each result of a run that started.
   abbrev pub IsOutcome : Ending → Type 0
   IsOutcome (Complete entries count) = Completes entries count
   IsOutcome (MetNoRecord number) = MeetsNoRecord number

@@ -1,8 +1,7 @@
--- The host in numbers: objects in stock and on seats, their pipes, and what the services hold. The services and the
--- executive's commands are those of the cFE user's guide (executive services, software bus); the order of calls and the
--- refusals are this project's own.
---
--- Nothing is promised about an object that is `Other`: where one would be called, all but its packet stays as it was.
+-- The host in numbers: spares, seats, pipes and services, and what one record does to them. Services and executive commands
+-- follow the cFE user's guide (executive services, software bus); the order of calls and the refusals are this project's own.
+-- Of an object that is `Other` nothing is promised: for it these definitions only remove its packet from its pipe, and a start
+-- only removes it from the stock.
 use Rattle.std.specs.Prelude.{ℕ, zero, suc, ◌==◌, Bool, true, false, not, List, [], ◌∷◌, ◌++◌, map, remove, replicate, slice_index_or, slice_set, if◌then◌else◌, Option, Some, None, is_none, option_map, unwrap_or, Result, Ok, Err}
 use Rattle.std.specs.Option.{option_map_or}
 use Rattle.std.specs.List.{list_any, position_from}
@@ -22,92 +21,94 @@ use Rattle.lc_model.specs.Kept.Summary.{EventState, AppState, Other}
 use Rattle.lc_model.specs.Kept.Next.{events_after, next_is_full}
 use Rattle.lc_model.specs.Kept.Call.{with_at, ServicesNow, Called, new_sender, sent_by, next_start, next_on_packet, next_retire}
 
--- ---- what there is
+-- ---- the host's parts
 
--- an object: its name, and what it is by now
+-- An application object: its name and its present state.
 pub record Member : Type 0 where
   pub called : Name
   pub state : AppState
 
--- a pipe: the message ids that it is subscribed to, and the packets that wait in it, the first first
+-- A pipe: its subscribed message ids, and its waiting packets, oldest first.
 pub record Pipe : Type 0 where
   pub subscriptions : List ℕ
   pub waiting : List (List ℕ)
 
--- the host: spares in order, eight seats and their pipes, and the services
+-- The host: spares in stock order, eight seats, the pipe of each seat, and the services.
 pub record Executive (Image : Type 0) : Type 0 where
   pub stock : List Member
   pub seats : List (Option Member)
   pub pipes : List (Option Pipe)
   pub services : ServicesNow Image
 
--- the number of seats
+-- The number of seats.
 abbrev pub seat_count : ℕ
 seat_count = 8
 
--- the executive after a step, and the packets that were written, in order
+-- The executive after a step, and the packets that the step wrote, in order.
 abbrev pub Written : Type 0 → Type 0
 Written Image = Executive Image × List (List ℕ)
 
--- no object, and no pipe
+-- A placeholder, used where a list has no object at a place.
 abbrev pub no_member : Member
 no_member = record { called = []; state = Other }
 
 -- ---- the pipes
 
--- whether a pipe is subscribed to the packet's message id
+-- Whether a pipe is subscribed to the packet's message id.
 abbrev pub hears : List ℕ → Pipe → Bool
 hears packet pipe = list_any (λ mid. message_id packet == mid) pipe.subscriptions
 
--- a pipe after a packet was published
+-- A pipe after `packet` was published: the packet is appended if the pipe is subscribed to it.
 abbrev pub offered : List ℕ → Pipe → Pipe
 offered packet pipe = if hears packet pipe then record pipe { waiting = pipe.waiting ++ packet ∷ [] } else pipe
 
--- all pipes after it: each subscriber has the packet once
+-- All pipes after `packet` was published: each subscriber has it once.
 abbrev pub published_to : List (Option Pipe) → List ℕ → List (Option Pipe)
 published_to pipes packet = map (option_map (offered packet)) pipes
 
--- all pipes after several packets, one after the other
+-- All pipes after these packets were published, in order.
 unfoldable pub all_published_to : List (Option Pipe) → List (List ℕ) → List (Option Pipe)
 all_published_to pipes [] = pipes
 all_published_to pipes (packet ∷ packets) = all_published_to (published_to pipes packet) packets
 
--- whether a list has something
+-- Whether the list is not empty.
 abbrev pub has_some : List (List ℕ) → Bool
 has_some [] = false
 has_some (packet ∷ packets) = true
 
--- whether a packet waits
+-- Whether a packet waits in this seat's pipe.
 abbrev pub is_ready : Option Pipe → Bool
 is_ready None = false
 is_ready (Some pipe) = has_some pipe.waiting
 
--- the least seat with a packet
+-- The least seat number with a waiting packet.
 abbrev pub ready_seat : List (Option Pipe) → Option ℕ
 ready_seat pipes = position_from is_ready 0 pipes
 
--- ---- who is where
+-- ---- seats and stock
 
--- an object goes by this name
+-- Whether the object has this name.
 abbrev pub is_called : Name → Member → Bool
 is_called name member = is_named name member.called
 
--- a seat has an object of this name
+-- Whether the seat has an object of this name.
 abbrev pub is_seated : Name → Option Member → Bool
 is_seated name None = false
 is_seated name (Some member) = is_called name member
 
--- the seat of a name, the first spare of a name, and the least free seat
+-- The seat of the running application of this name.
 abbrev pub seat_of : Name → List (Option Member) → Option ℕ
 seat_of name seats = position_from (is_seated name) 0 seats
 
+-- The place in stock of the first spare of this name.
 abbrev pub spare_of : Name → List Member → Option ℕ
 spare_of name stock = position_from (is_called name) 0 stock
 
+-- The least free seat.
 abbrev pub free_seat : List (Option Member) → Option ℕ
 free_seat seats = position_from is_none 0 seats
 
--- the object of a seat, and a spare
+-- The object on seat `k`, and the spare at place `i`.
 abbrev pub seated : List (Option Member) → ℕ → Member
 seated seats k = unwrap_or (slice_index_or seats k None) no_member
 
@@ -116,39 +117,42 @@ spare_at stock i = slice_index_or stock i no_member
 
 -- ---- one call
 
--- a sender after an item of its log, unless a filter has no place
+-- A sender's filters and types after an event command; setting a filter is refused (102) if the sender already has 16 other
+-- filters.
 abbrev pub joined_now : LogItem → EventState → Result EventState Refusal
 joined_now (FilterSet id mask) events =
     if next_is_full id events then refused filters_full else Ok (events_after (FilterSet id mask) events)
 joined_now item events = Ok (events_after item events)
 
--- the packet that a tick publishes
+-- The packet 0x18C0 that a tick publishes inside the host.
 abbrev pub tick_packet : List ℕ
 tick_packet = command tick_mid 0 0 []
 
--- the most deliveries of one record: a tick in each pipe, and of each tick eight packets in each pipe
+-- The most deliveries for one record: a tick in each of 8 pipes, and for each of these ticks 8 packets in each of 8 pipes. That
+-- makes 520 (8 + 8 * 8 * 8).
 abbrev pub most_deliveries : ℕ
 most_deliveries = 520
 
 module _ {Image : Type 0} where
-  -- first one step, then another
+  -- One step, then another: their packets are joined.
   abbrev pub followed : Written Image → (Executive Image → Written Image) → Written Image
   followed first next = let others : Written Image = next first.0 in (others.0, first.1 ++ others.1)
 
-  -- the services change, and packets are written
+  -- The services become `sent.0`, and the packets `sent.1` are written.
   abbrev pub serviced : Executive Image → ServicesNow Image × List (List ℕ) → Written Image
   serviced e sent = (record e { services = sent.0 }, sent.1)
 
-  -- the services changed
+  -- The executive with the changed services, and no packet written; or the refusal.
   abbrev pub with_services : Executive Image → Result (ServicesNow Image) Refusal → Result (Written Image) Refusal
   with_services e (Ok services) = Ok (record e { services = services }, [])
   with_services e (Err refusal) = Err refusal
 
-  -- HOST's own events
+  -- `HOST` sends these event requests.
   abbrev pub told_by_host : Moment → List Request → Executive Image → Written Image
   told_by_host moment requests e = serviced e (sent_by moment host_name requests e.services)
 
-  -- an object was called on a seat, with these packets still in its pipe
+  -- The executive after a call of the object on seat `k`: its new state, its subscriptions, the packets `waiting` in its pipe,
+  -- then what it published, and the services.
   abbrev pub after_call : ℕ → Name → List (List ℕ) → Executive Image → Called Image → Written Image
   after_call k name waiting e call = (
     record {
@@ -160,11 +164,11 @@ module _ {Image : Type 0} where
     call.outgoing,
   )
 
-  -- the seat's packet is taken, and nothing else changes
+  -- The first packet is removed from the pipe of seat `k`; nothing else changes.
   abbrev pub after_taking : ℕ → Pipe → List (List ℕ) → Executive Image → Written Image
   after_taking k pipe waiting e = (record e { pipes = slice_set e.pipes k (Some (record pipe { waiting = waiting })) }, [])
 
-  -- an object leaves its seat, and its pipe, its tables and its sender are removed
+  -- The object on seat `k` is retired: its seat is free, and its pipe, tables and event sender are removed.
   abbrev pub left_from : ℕ → Executive Image → Executive Image
   left_from k e = record {
     stock = e.stock;
@@ -173,47 +177,49 @@ module _ {Image : Type 0} where
     services = unwrap_or (next_retire (seated e.seats k).state e.services) e.services;
   }
 
-  -- a spare leaves the stock
+  -- The spare at place `i` is removed from the stock.
   abbrev pub without_spare : ℕ → Executive Image → Executive Image
   without_spare i e = record e { stock = remove e.stock i }
 
   module _ (images : Interpretation Image) (moment : Moment) where
-    -- an object starts on a seat
+    -- Object `member` is started on seat `k`.
     abbrev pub begun_on : ℕ → Member → Executive Image → Written Image
     begun_on k member e = option_map_or (after_call k member.called [] e) (next_start images moment member.state e.services) (e, [])
 
-    -- the object of a seat has a packet, and these wait after it
+    -- The object on seat `k` handles the first packet of its pipe; `waiting` are the packets after it.
     abbrev pub handed : ℕ → Member → Pipe → List (List ℕ) → Executive Image → Written Image
     handed k member pipe [] e = (e, [])
     handed k member pipe (packet ∷ waiting) e =
         option_map_or (after_call k member.called waiting e) (next_on_packet images moment member.state packet e.services)
         (after_taking k pipe waiting e)
 
-    -- one delivery: the seat's object has the first packet of its pipe
+    -- One delivery: the object on seat `k` handles the oldest packet of its pipe.
     abbrev pub delivered_at : ℕ → Executive Image → Written Image
     delivered_at k e =
         option_map_or (λ (pipe : Pipe). handed k (seated e.seats k) pipe pipe.waiting e) (slice_index_or e.pipes k None) (e, [])
 
-    -- at most this many deliveries, each at the least seat with a packet
+    -- Deliveries, each at the least seat with a waiting packet, until no packet waits; at most `most`.
     unfoldable pub drained : ℕ → Executive Image → Written Image
     drained zero e = (e, [])
     drained (suc most) e =
         option_map_or (λ k. followed (delivered_at k e) (λ after. drained most after)) (ready_seat e.pipes) (e, [])
 
-    -- a packet is published, and all packets are delivered
+    -- `packet` is published, and then all pipes are emptied.
     abbrev pub passed_on : List ℕ → Executive Image → Written Image
     passed_on packet e = drained most_deliveries (record e { pipes = published_to e.pipes packet })
 
     -- ---- services
 
-    -- what a service does, and then its own event; or the event that says why it does nothing
+    -- The service executes the command and then `HOST` sends "command done"; or `HOST` sends "command refused" and nothing else
+    -- changes.
     abbrev pub answered_now : Service → List ℕ → Executive Image → Result (Written Image) Refusal → Written Image
     answered_now service packet e (Ok step) = followed step (told_by_host moment (command_done service (function_code packet) ∷ []))
     answered_now service packet e (Err refusal) = told_by_host moment (command_refused service refusal ∷ []) e
 
     -- ---- executive services
 
-    -- an application starts, stops, or is replaced
+    -- Start, stop, restart or reload of the application `name`. For example, start is refused with 123 if it runs, 122 without a
+    -- spare, 124 without a free seat.
     abbrev pub ordered_now : Order → Name → Executive Image → Result (Written Image) Refusal
     ordered_now Start name e =
         if not (is_none (seat_of name e.seats)) then refused already_running
@@ -232,7 +238,7 @@ module _ {Image : Type 0} where
       i ← found (spare_of name e.stock) no_spare
       Ok (begun_on k (spare_at e.stock i) (without_spare i (left_from k e)))
 
-    -- executive services
+    -- A command to executive services (0x1806).
     abbrev pub executive_service_now : List ℕ → Executive Image → Result (Written Image) Refusal
     executive_service_now packet e = do
       command ← order_in packet
@@ -240,7 +246,7 @@ module _ {Image : Type 0} where
 
   -- ---- event services
 
-  -- event services: what is asked changes the application that is named
+  -- A command to event services (0x1801): it changes the filters or types of the named sender.
   abbrev pub event_service_now : List ℕ → ServicesNow Image → Result (ServicesNow Image) Refusal
   event_service_now packet services = do
     command ← event_command_in packet
@@ -250,7 +256,7 @@ module _ {Image : Type 0} where
 
   -- ---- files
 
-  -- the executive with these files, or the reason why they stay
+  -- The file store becomes `files` with event 2; or it stays, with event 3 and the refusal's number.
   abbrev pub filed_now : Moment → Executive Image → Result (List (Name × FileMeaning Image)) Refusal → Written Image
   filed_now moment e (Ok files) = told_by_host moment (file_stored ∷ []) (record e { services = record e.services { files = files } })
   filed_now moment e (Err refusal) = told_by_host moment (file_refused refusal ∷ []) e
@@ -258,7 +264,8 @@ module _ {Image : Type 0} where
   -- ---- table services
 
   module _ (images : Interpretation Image) where
-    -- the services after a table command
+    -- The services after a table command: a load copies a stored file's image into a slot, any other command moves the waiting
+    -- image of the named table.
     abbrev pub managed_now : TableCommand → ServicesNow Image → Result (ServicesNow Image) Refusal
     managed_now (Load file) services = do
       meaning ← found (value_under file services.files) no_file
@@ -273,7 +280,7 @@ module _ {Image : Type 0} where
       after ← moved move slot
       Ok (record services { slots = with_at name (Some after) services.slots })
 
-    -- table services: a load, or a move of the waiting image
+    -- A command to table services (0x1804).
     abbrev pub table_service_now : List ℕ → ServicesNow Image → Result (ServicesNow Image) Refusal
     table_service_now packet services = do
       command ← table_command_in packet
@@ -281,7 +288,7 @@ module _ {Image : Type 0} where
 
     -- ---- one record
 
-    -- a good packet goes to a service of the host, or to the pipes
+    -- A packet without a fault: a command to one of the three services is executed, any other packet is published and delivered.
     abbrev pub routed_now : Moment → List ℕ → Executive Image → Written Image
     routed_now moment packet e =
         by_service (message_id packet)
@@ -290,7 +297,7 @@ module _ {Image : Type 0} where
         (answered_now images moment executive_services packet e (executive_service_now images moment packet e))
         (passed_on images moment packet e)
 
-    -- what a record leads to
+    -- What one record does: a bad packet gives event 1, a tick is published, a file is stored.
     abbrev pub step_by : Moment → Executive Image → Input Image → Written Image
     step_by moment e (Packet bytes) =
         option_map_or (λ reason. told_by_host moment (bad_packet reason ∷ []) e) (stream_fault bytes) (routed_now moment bytes e)
@@ -299,14 +306,14 @@ module _ {Image : Type 0} where
 
     -- ---- whole runs
 
-    -- the packets that are written for these records, in order
+    -- The packets that the host writes over these records, in order.
     unfoldable pub written_from : Executive Image → FileMeanings Image → List StreamEntry → List (List ℕ)
     written_from e meanings [] = []
     written_from e meanings (entry ∷ entries) =
         let step : Written Image = step_by entry.moment e (input_of meanings entry.contents) in
         step.1 ++ written_from step.0 meanings entries
 
-  -- nothing runs yet: HOST alone is registered, and these objects are in stock
+  -- A new host: nothing runs, only `HOST` is registered as an event sender, no file is stored, all sequence counts are 0.
   abbrev pub first_executive : List Member → Executive Image
   first_executive stock = record {
     stock = stock;

@@ -1,5 +1,5 @@
--- Who sends events, and what each call of the event services returns and changes. Types and filters are those of the cFE
--- user's guide (event services); that senders have seats, and the numbers of the refusals, are this project's own.
+-- Event services by seats: registered senders, and what each call returns and changes. Types and filters follow the cFE user's
+-- guide (event services); seats and refusal numbers are this project's own.
 use Rattle.std.specs.Prelude.{◌≡◌, ℕ, ◌+◌, ◌%◌, ◌<◌, Bool, false, ◌||◌, List, [], ◌∷◌, length, replicate, slice_index_or, slice_set, if◌then◌else◌, Option, Some, None, is_some, option_map, Result, Ok, ◌==◌}
 use Rattle.std.specs.Option.{option_map_or}
 use Rattle.std.specs.List.{position_from}
@@ -15,86 +15,84 @@ use Rattle.lc_model.specs.Kept.Next.{next_chosen, events_after}
 use Rattle.lc_model.specs.Kept.Call.{new_sender}
 use Rattle.lc_model.specs.Kept.Executive.{seat_count, joined_now}
 
--- a registered sender: its name, its types and its filters
+-- A registered sender: its name, and its types and filters.
 pub record Sender : Type 0 where
   pub name : Name
   pub events : EventState
 
--- the event services: HOST's own types and filters, the sender of each seat, and how many event packets were sent, modulo
--- 16,384
+-- The event services: `HOST`'s types and filters, the sender of each seat, and the sequence count of event packets.
 pub record EventService : Type 0 where
   pub host : EventState
   pub places : List (Option Sender)
   pub sent : ℕ
 
--- HOST alone is registered, and nothing was sent
+-- Only `HOST` is registered, and no event was sent.
 abbrev pub first_events : EventService
 first_events = record { host = new_sender; places = replicate seat_count None; sent = 0 }
 
--- the sequence counts of all message ids, where that of event packets is this
+-- All sequence counts, with `sent` for event packets.
 abbrev pub counts_with : ℕ → (ℕ → ℕ) → ℕ → ℕ
 counts_with sent counts mid = if mid == event_mid then sent else counts mid
 
--- ---- who is registered
+-- ---- registered senders
 
--- the sender of a place has this name
+-- Whether the seat's sender has this name.
 abbrev pub is_sender : Name → Option Sender → Bool
 is_sender name None = false
 is_sender name (Some sender) = is_named name sender.name
 
--- the types and filters of the first sender of a name
+-- The types and filters of the first sender with this name.
 abbrev pub events_among : List (Option Sender) → Name → Option EventState
 events_among [] name = None
 events_among (None ∷ places) name = events_among places name
 events_among (Some sender ∷ places) name = if is_named name sender.name then Some sender.events else events_among places name
 
--- what is held under a name: HOST's types and filters, or a sender's
+-- The types and filters under a name, `HOST`'s or a seat's sender's.
 abbrev pub sender_named : EventService → Name → Option EventState
 sender_named service name = if is_named name host_name then Some service.host else events_among service.places name
 
--- a place of a sender: HOST, or a seat
+-- Where an event comes from: `None` is `HOST`, else a seat.
 abbrev pub Origin : Type 0
 Origin = Option ℕ
 
--- the place of a name
+-- The origin of a name, if it is registered.
 abbrev pub origin_named : Name → EventService → Option Origin
 origin_named name service = if is_named name host_name then Some None else option_map Some (position_from (is_sender name) 0 service.places)
 
--- the sender of a place
+-- The sender of an origin.
 abbrev pub sender_at : Origin → EventService → Option Sender
 sender_at None service = Some (record { name = host_name; events = service.host })
 sender_at (Some seat) service = slice_index_or service.places seat None
 
--- the services with other types and filters of a place's sender
+-- The services with an origin's types and filters replaced.
 abbrev pub with_events : Origin → Sender → EventState → EventService → EventService
 with_events None sender events service = record service { host = events }
 with_events (Some seat) sender events service =
     record service { places = slice_set service.places seat (Some (record { name = sender.name; events = events })) }
 
--- ---- what holds between any two calls
+-- ---- the invariant between two calls
 
--- the names of the senders
+-- The names of all seats' senders.
 abbrev pub names_of : List (Option Sender) → List Name
 names_of [] = []
 names_of (None ∷ places) = names_of places
 names_of (Some sender ∷ places) = sender.name ∷ names_of places
 
--- there are eight seats, each sender and HOST have names of their own, and the count is one of a packet
+-- Eight seats, no name twice (`HOST` included), and a sequence count below 16,384.
 pub record IsEventService (service : EventService) : Type 0 where
   pub seats : length service.places ≡ seat_count
   pub names : AreDistinct (host_name ∷ names_of service.places)
   pub count : service.sent < count_end
 
--- ---- senders come and go
+-- ---- registering
 
--- a seat begins to send events under a name, with no filter and all types but debug on. A seat or a name that is taken is
--- refused.
+-- `register`: a sender without filters and with all types but debug on; 103 if the seat or the name is taken.
 abbrev pub registered_at : ℕ → Name → EventService → Result EventService Refusal
 registered_at seat name service =
     if is_some (slice_index_or service.places seat None) || is_some (origin_named name service) then refused sender_taken
     else Ok (record service { places = slice_set service.places seat (Some (record { name = name; events = new_sender })) })
 
--- a seat no longer sends events, and its filters are removed
+-- `unregister`: the sender and its filters are removed; 101 if the seat has no sender.
 abbrev pub unregistered_at : ℕ → EventService → Result EventService Refusal
 unregistered_at seat service =
     if is_some (slice_index_or service.places seat None) then Ok (record service { places = slice_set service.places seat None })
@@ -102,7 +100,7 @@ unregistered_at seat service =
 
 -- ---- types and filters
 
--- a filter is set, filters are reset, or types are set, of the sender of a name
+-- `set_filter`, `reset_filters` and `set_types` for a named sender; 101 or 102.
 abbrev pub commanded : Name → LogItem → EventService → Result EventService Refusal
 commanded name item service = do
   origin ← found (origin_named name service) not_registered
@@ -112,14 +110,14 @@ commanded name item service = do
 
 -- ---- sending
 
--- what a sender's request for an event leads to, where this many event packets were sent before: its types and filters, the
--- number of packets, and the packet, where the event is sent
+-- The result of an event request: the sender's types and filters, the sequence count, and the packet if the event is sent.
 pub record Asked : Type 0 where
   pub events : EventState
   pub sent : ℕ
   pub packet : Option (List ℕ)
 
--- an event is sent where its type is on and its filter lets it through; a request is counted where its type is on
+-- An event request: it is sent if its type is on and its filter lets it through, and counted if its type is on; `sent` is the
+-- sequence count before it.
 abbrev pub asked_by : Sender → Moment → ℕ → EventKind → List ℕ → ℕ → Asked
 asked_by sender moment id kind text sent = record {
   events = events_after (Requested id kind) sender.events;
@@ -127,12 +125,11 @@ asked_by sender moment id kind text sent = record {
   packet = if next_chosen id kind sender.events then Some (event_packet sent moment sender.name id kind text) else None;
 }
 
--- the services after it, and the packet
+-- The services after this request, and its packet.
 abbrev pub accounted_at : Origin → Sender → Asked → EventService → EventService × Option (List ℕ)
 accounted_at origin sender asked service = (record (with_events origin sender asked.events service) { sent = asked.sent }, asked.packet)
 
--- an event of HOST or of the sender of a seat: the services afterwards, and the packet that is sent. Where nobody is
--- registered nothing is sent.
+-- `send`: the services, and the packet if the event is sent. Nothing happens if the seat has no sender.
 abbrev pub event_asked : Origin → Moment → ℕ → EventKind → List ℕ → EventService → EventService × Option (List ℕ)
 event_asked origin moment id kind text service =
     option_map_or (λ (sender : Sender). accounted_at origin sender (asked_by sender moment id kind text service.sent) service)

@@ -1,5 +1,5 @@
--- What applications see of the services of the host: files by what they mean, and slots, senders and counts under names. The
--- services are those of the cFE user's guide (table, event and software bus services); the seats are this project's own.
+-- The services as applications see them: files by their meaning; slots, senders and sequence counts by name. The services follow
+-- the cFE user's guide (table, event and software bus services); seats are this project's own.
 use Rattle.std.specs.Prelude.{ℕ, List, [], ◌∷◌, map, slice_index_or, if◌then◌else◌, Option, Some, None}
 use Rattle.std.specs.Option.{option_or}
 use Rattle.lc_model.specs.Name.{Name, is_named}
@@ -13,35 +13,35 @@ use Rattle.lc_model.specs.Services.Tables.{Table, Places, TableService}
 
 -- ---- files
 
--- what the bytes of a file mean
+-- The meaning of a file's bytes.
 abbrev pub meaning_of : List ℕ → FileMeaning (List ℕ)
 meaning_of bytes = meaning_by (λ image. image) (opened bytes)
 
--- the stored files by what they mean
+-- The stored files with their meanings.
 abbrev pub files_seen : List (Name × List ℕ) → List (Name × FileMeaning (List ℕ))
 files_seen files = map (λ (file : Name × List ℕ). (file.0, meaning_of file.1)) files
 
 -- ---- tables
 
--- the slot of the first table of a name, among these tables
+-- The slot of the table with this name, among a seat's.
 abbrev pub slot_in : List Table → Name → Option (Slot (List ℕ))
 slot_in [] name = None
 slot_in (table ∷ tables) name = if is_named name table.name then Some table.slot else slot_in tables name
 
--- and among those of all seats
+-- The slot of the table with this name, on any seat.
 abbrev pub slot_among : Places → Name → Option (Slot (List ℕ))
 slot_among [] name = None
 slot_among (tables ∷ places) name = option_or (slot_in tables name) (slot_among places name)
 
 -- ---- sequence counts
 
--- how many packets of a message id were sent, modulo 16,384: event packets are counted by the event services, and others by
--- their message ids
+-- The sequence count stored for a message id. That of event packets is stored by the event services instead.
 abbrev pub count_among : List ℕ → ℕ → ℕ
 count_among counts mid = slice_index_or counts mid 0
 
--- ---- all
+-- ---- all services
 
+-- The services by names, from the three services by seats.
 abbrev pub services_seen : EventService → TableService → List ℕ → ServicesNow (List ℕ)
 services_seen events tables counts = record {
   files = files_seen tables.files;

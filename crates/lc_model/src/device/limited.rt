@@ -5,7 +5,7 @@ ghost use Rattle.lc_model.specs.Device.{one_call_more, WritesSome, WriteFails};
 
 use crate::device::{ByteSink, DeviceFault};
 
-/// A sink that fills a slice from its front, up to a limit, and that may fail at one chosen write. Contracts know its bytes.
+/// A sink that fills a slice from its start, up to a limit, and that may fail at one chosen write. Contracts know its bytes.
 #[derive(Drop)]
 pub struct Limited<'a> {
     /// Where the bytes go.

@@ -5,8 +5,8 @@ ghost use Rattle.std.specs.Prelude.{◌≡◌, false};
 use crate::device::{ByteSource, DeviceFault};
 use std::io::Read;
 
-/// A source over a reader. Contracts know its bytes where they know the reader's, so not those of a file. Each error of the
-/// reader is a fault, that of an interrupted call too.
+/// A source over a reader. Contracts know its bytes if they know the reader's, so not those of a file. Each error of the reader
+/// is a fault, that of an interrupted call too.
 #[derive(Drop)]
 pub struct Reading<R> {
     reader: R,

@@ -5,8 +5,8 @@ ghost use Rattle.std.specs.Prelude.{◌≡◌, false};
 use crate::device::{ByteSink, DeviceFault};
 use std::io::Write;
 
-/// A sink over a writer. Contracts know its bytes where they know the writer's, so not those of a file. Each error of the
-/// writer is a fault, that of an interrupted call too, and so is a write that takes no byte.
+/// A sink over a writer. Contracts know its bytes if they know the writer's, so not those of a file. Each error of the writer
+/// is a fault, that of an interrupted call too, and so is a write that takes no byte.
 #[derive(Drop)]
 pub struct Writing<W> {
     writer: W,

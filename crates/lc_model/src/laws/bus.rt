@@ -1,8 +1,8 @@
-//! What applications see of the packet bus, and when it has room.
+//! Laws of the packet bus: what applications see of it, and when it has room.
 
 ghost use Rattle.lc_model.specs.Laws.Bus.{PublicationIsSeen, PipeIsSeen, RemovalIsSeen, ReceiptIsSeen, HasRoom, FillsByOne};
 
-/// What applications see of the bus after each of its calls is what the host's definitions say.
+/// After each call of the bus, the pipes as applications see them are those of the host in numbers.
 pub fn bus_is_seen()
     ensures publication { PublicationIsSeen }
     ensures pipe { PipeIsSeen }
@@ -10,7 +10,7 @@ pub fn bus_is_seen()
     ensures receipt { ReceiptIsSeen }
 {}
 
-/// A bus in which fewer than 72 packets wait in each pipe takes one more, and then at most one more waits in each.
+/// If fewer than 72 packets wait in each pipe, a packet can be published, and each pipe gains at most one.
 pub fn bus_has_room()
     ensures room { HasRoom }
     ensures fills { FillsByOne }

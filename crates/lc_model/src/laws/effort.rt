@@ -1,18 +1,18 @@
-//! The effort that the Limit Checker reports.
+//! Laws of the Limit Checker's effort.
 
 ghost use Rattle.lc_model.specs.Laws.Effort.{ProbesAreComparisons, ProbesAreFew, SamplesAreBounded, SearchesAreBounded};
 
-/// A sample evaluates at most as many words as its rules have, and the message ids of a table's watchpoints are searched with
-/// at most eight comparisons: a watched id with one.
+/// A sample evaluates at most the words of its rules, and a telemetry packet's message id is compared at most eight times, once
+/// if it is watched.
 pub fn effort_is_bounded()
-    // Of 176 rules of 32 words each that is 5,632 words.
+    // At most `words` words a rule: 5,632 for 176 rules of 32 words.
     ensures words { SamplesAreBounded }
     ensures searches { SearchesAreBounded }
 
-    // What is counted: the first comparison is at the id's own place, or else at the middle; each further one is with the middle
-    // of those ids that it could still be.
+    // The comparisons: the first is at the id's own place if it is watched, else at the middle; each further one at the middle of
+    // the ids that are left.
     ensures comparisons { ProbesAreComparisons }
 
-    // At most eight comparisons with 176 watchpoints, at least one where there is any, and one for an id that is watched.
+    // For a table: at most eight comparisons, at least one if there is a watchpoint, exactly one if the id is watched.
     ensures probes { ProbesAreFew }
 {}

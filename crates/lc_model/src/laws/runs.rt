@@ -1,26 +1,26 @@
-//! Whole runs.
+//! Laws of whole runs.
 
 ghost use Rattle.std.specs.Prelude.{List};
 ghost use Rattle.lc_model.specs.Tables.HalvesAndBytes.{as_bytes, as_halves};
 ghost use Rattle.lc_model.specs.Tables.Image.{Layout};
 ghost use Rattle.lc_model.specs.Laws.Runs.{BytesRunAsFixedText, BytesRunAsTexts, CarriedByTheStream, CompiledFilesMeanAlike, RunsFollowTexts, RunsGoOn, RunsTellFailures, RunsWriteWhatBytesCallFor, RunsWriteWhatIsCalledFor, RunsWriteWithFixedTables};
 
-/// The compiled file of a half means the same in bytes and in halves.
+/// The compiled file of a half has the same meaning by bytes and by texts.
 pub fn compiled_files_mean_alike()
     ensures { CompiledFilesMeanAlike }
 {}
 
-/// Over every stream, what is written by the bytes of files is what the rule texts in force call for.
+/// For every stream, the output by bytes is what the rule texts in force call for, under the premises on hashes and raw files.
 pub fn bytes_run_as_texts()
     ensures { BytesRunAsTexts }
 {}
 
-/// With one text whose tables stay, the same holds without premises on hashes and raw files.
+/// For one text and streams with fixed tables, the output by bytes is what the text calls for, without these premises.
 pub fn bytes_run_as_fixed_text()
     ensures { BytesRunAsFixedText }
 {}
 
-/// What is sent for one record more comes after all else.
+/// One more record only adds to the output.
 pub fn runs_go_on()
     ensures halves { (layouts : List Layout) → RunsGoOn (as_halves layouts) }
     ensures bytes { (layouts : List Layout) → RunsGoOn (as_bytes layouts) }
@@ -28,19 +28,19 @@ pub fn runs_go_on()
 
 /// A run that `IsRun` describes writes what the rule texts call for.
 pub fn runs_write_what_is_called_for()
-    // A run ends with a failed read or write exactly where one failed.
+    // 143 and 144 exactly if a read or a write failed.
     ensures failures { RunsTellFailures }
 
-    // Whatever fails: over the bytes that were taken. Where the stream is known, its raw files are those that count.
+    // With devices that may fail: over the bytes that were read. If the stream is known, the premise on its raw files is enough.
     ensures follow { RunsFollowTexts }
     ensures carried { CarriedByTheStream }
 
-    // Where nothing fails: exactly the bytes that the rule texts in force call for.
+    // If nothing fails: exactly the bytes that the rule texts in force call for.
     ensures texts { RunsWriteWhatIsCalledFor }
 
     // Without premises on hashes and raw files: by the bytes of files.
     ensures bytes { RunsWriteWhatBytesCallFor }
 
-    // With one text whose tables stay.
+    // With one text and fixed tables.
     ensures fixed { RunsWriteWithFixedTables }
 {}

@@ -1,10 +1,10 @@
-//! The table services by their calls.
+//! Laws of the table services.
 
 ghost use Rattle.lc_model.specs.Laws.TableServices.{ChangesStaySound, CommandsStaySound, FilesStaySound, FirstIsSound, RegisteringStaysSound, UnregisteringStaysSound};
 ghost use Rattle.lc_model.specs.Laws.TablesByName.{TablesAreFound, RegisteringTables, UnregisteringTables, ChangingTables, StoringFiles};
 
-/// After any call there are at most eight files, each with a name of its own and within the bound on its size, and at most
-/// two tables on a seat, each with a name of its own.
+/// Every call keeps the invariant: at most eight files with different names and at most 32,768 bytes each, at most two tables a
+/// seat, no table name twice.
 pub fn table_services_stay_sound()
     ensures first { FirstIsSound }
     ensures files { FilesStaySound }
@@ -14,7 +14,7 @@ pub fn table_services_stay_sound()
     ensures changes { ChangesStaySound }
 {}
 
-/// What the table services hold under names changes as the host in numbers says.
+/// Every call changes files and slots by name as in the host in numbers.
 pub fn table_services_go_by_names()
     ensures found { TablesAreFound }
     ensures registering { RegisteringTables }
