@@ -376,4 +376,5 @@ class Run:
             return {}
         times = sorted(it.ticks // TICK for it in self.standings)
         low, high = sorted(self.chance.randint(times[0] - 1, times[-1] + 2) for _ in range(2))
+        high = max(high, low + 1)
         return {name: second for name, second in (("from", low), ("until", high)) if name in self.options.part}

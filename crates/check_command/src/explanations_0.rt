@@ -238,7 +238,7 @@ const PART_3: [Explanation; 8] = [
     },
     Explanation {
         name: "never-sampled",
-        head: "warning[never-sampled] of rule texts: No tick of the schedule samples the rule (with `--schedule`); of a run: the rule was not sampled in it.",
+        head: "warning[never-sampled] of rule texts: No tick of the schedule samples the rule (with `--schedule`).",
         rest: "  A command from the ground can still sample it.\n  at: the rule's name\n",
         advice: "did you mean `never-sampled`?",
     },

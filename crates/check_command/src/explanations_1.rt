@@ -375,15 +375,15 @@ const PART_7: [Explanation; 11] = [
         advice: "did you mean `nothing-sampled`?",
     },
     Explanation {
+        name: "not-sampled",
+        head: "warning[not-sampled] of runs: These rules, or no rule of these rule texts, were sampled in the run, though others were.",
+        rest: "  A rule is not sampled while it is disabled, while other tables are in force, or where the schedule leaves it out.\n",
+        advice: "did you mean `not-sampled`?",
+    },
+    Explanation {
         name: "always-stale",
         head: "warning[always-stale] of runs: These rules were stale in each of their samples.",
         rest: "",
         advice: "did you mean `always-stale`?",
-    },
-    Explanation {
-        name: "no-packet",
-        head: "warning[no-packet] of runs: No packet of this message id came, which the rule text names.",
-        rest: "",
-        advice: "did you mean `no-packet`?",
     },
 ];

@@ -9,6 +9,12 @@ pub fn part_8() -> &'static [Explanation] {
 
 const PART_8: [Explanation; 10] = [
     Explanation {
+        name: "no-packet",
+        head: "warning[no-packet] of runs: No packet of this message id came, which the rule text names.",
+        rest: "",
+        advice: "did you mean `no-packet`?",
+    },
+    Explanation {
         name: "unsampled",
         head: "warning[unsampled] of runs: The schedule asks for samples of this rule, and for this time none came.",
         rest: "  Gaps between samples count that last longer than two cycles of the schedule.\n",
@@ -62,12 +68,6 @@ const PART_8: [Explanation; 10] = [
         rest: "  at: the number\n  for example `fields 0883 0 16 u16be 15 0`: the field extends past the end of its packet\n",
         advice: "",
     },
-    Explanation {
-        name: "167",
-        head: "error[167] of scripts: The record cannot have these bytes.",
-        rest: "  at: the word\n  for example `record 0 0 tick 00`: a tick has no bytes\n",
-        advice: "",
-    },
 ];
 
 /// The errors and warnings of part 9.
@@ -76,6 +76,12 @@ pub fn part_9() -> &'static [Explanation] {
 }
 
 const PART_9: [Explanation; 10] = [
+    Explanation {
+        name: "167",
+        head: "error[167] of scripts: The record cannot have these bytes.",
+        rest: "  at: the word\n  for example `record 0 0 tick 00`: a tick has no bytes\n",
+        advice: "",
+    },
     Explanation {
         name: "168",
         head: "error[168] of scripts: The name is too long.",
@@ -130,12 +136,6 @@ const PART_9: [Explanation; 10] = [
         rest: "  at: the line\n  for example `expect state NONE active`: no rule text that is given has this rule\n",
         advice: "",
     },
-    Explanation {
-        name: "unmet",
-        head: "error[unmet] of trials: The expectation is not met.",
-        rest: "  The message ends with what came instead.\n  at: the line\n",
-        advice: "did you mean `unmet`?",
-    },
 ];
 
 /// The errors and warnings of part 10.
@@ -143,7 +143,13 @@ pub fn part_10() -> &'static [Explanation] {
     &PART_10
 }
 
-const PART_10: [Explanation; 6] = [
+const PART_10: [Explanation; 10] = [
+    Explanation {
+        name: "unmet",
+        head: "error[unmet] of trials: The expectation is not met.",
+        rest: "  The message ends with what came instead.\n  at: the line\n",
+        advice: "did you mean `unmet`?",
+    },
     Explanation {
         name: "rule-number",
         head: "warning[rule-number] of trials: The rule texts give the named rule different numbers; the text in force decides.",
@@ -167,6 +173,24 @@ const PART_10: [Explanation; 6] = [
         head: "warning[unknown-number] of trials: The line expects that a sequence or an event does not come, and no given rule text has its number.",
         rest: "  at: the line\n",
         advice: "did you mean `unknown-number`?",
+    },
+    Explanation {
+        name: "rule-not-sampled",
+        head: "warning[rule-not-sampled] of trials: The line expects that a sequence or an event does not come, but no rule that leads to it was sampled in these seconds, so it could not come.",
+        rest: "  Of a rule that a command switched off nothing is said.\n  at: the line\n",
+        advice: "did you mean `rule-not-sampled`?",
+    },
+    Explanation {
+        name: "rule-stale",
+        head: "warning[rule-stale] of trials: The line expects that a sequence or an event does not come, but each rule that leads to it was stale or in error in these seconds, so it could not come.",
+        rest: "  at: the line\n",
+        advice: "did you mean `rule-stale`?",
+    },
+    Explanation {
+        name: "type-off",
+        head: "warning[type-off] of trials: The line expects that an event does not come, but events of its type were off for the Limit Checker whenever its rule had a result in these seconds.",
+        rest: "  at: the line\n",
+        advice: "did you mean `type-off`?",
     },
     Explanation {
         name: "nothing-ran",

@@ -179,8 +179,9 @@ same_lanes slots clock requests checker [] none = refl
 same_lanes slots clock requests checker (lane ∷ lanes) none =
     λ i. same_lane slots clock requests checker lane (is_some (result_of requests checker lane.rule)) refl (unsampled requests checker lane.rule none) i ∷ same_lanes slots clock requests checker lanes none i
 
-pub none_counted : (it : RunAccount) (requests : List SampleRequest) (checker : Option LcOwn) (force : Option ℕ) → has_sample requests checker ≡ false → HasSampled it it requests checker force
-none_counted it requests checker force none = record {
+pub none_counted : (it : RunAccount) (has_results : Bool) (requests : List SampleRequest) (checker : Option LcOwn) (force : Option ℕ) → has_sample requests checker ≡ false →
+    HasSampled it (record it { has_results = has_results }) requests checker force
+none_counted it has_results requests checker force none = record {
   schedule = refl;
   slot = refl;
   force = refl;

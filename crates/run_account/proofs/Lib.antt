@@ -4,3 +4,4 @@ pub mod Rows
 pub mod Accounts
 pub mod Taking
 pub mod Scheduling
+pub mod ResultLists

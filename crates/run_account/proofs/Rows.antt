@@ -83,6 +83,11 @@ pub rows_more : (all : Schedule) (seen : List Seen) (one : Seen) (rows : List Ru
 rows_more all seen one [] count = tt
 rows_more all seen one (row ∷ rows) count = (row_more all seen one row count.0, rows_more all seen one rows count.1)
 
+-- with no text in force each row stays as it is
+pub no_text : (requests : List SampleRequest) (checker : Option LcOwn) (rows : List RuleRow) → rows ≡ map (row_sampled requests checker None) rows
+no_text requests checker [] = refl
+no_text requests checker (row ∷ rows) = ap (λ (more : List RuleRow). row ∷ more) (no_text requests checker rows)
+
 -- ---- packets
 
 abbrev pub CountsPackets : List Seen → PacketCount → Type 0

@@ -3,7 +3,7 @@ use Rattle.std.proofs.Common.{◌≡◌, refl, ap, ◌∙◌, ℕ, zero, suc, �
 use Rattle.lc_model.specs.Command.{takes}
 use Rattle.lc_model.specs.Host.Schedule.{ScheduleEntry, Sample, Housekeeping}
 use Rattle.lc_model.specs.Kept.Summary.{LcOwn, Tally}
-use Rattle.lc_model.specs.LimitChecker.Steps.{Point}
+use Rattle.lc_model.specs.LimitChecker.Steps.{Point, is_disabled}
 use Rattle.lc_model.specs.declared.command.SampleRequest.{SampleRequest}
 use Rattle.run_account.specs.Samples.{are_taking, entry_request, entry_requests, has_sample, result_of, sampled_from}
 
@@ -25,6 +25,16 @@ none_from own rule (point ∷ points) = none_from own (rule + 1) points
 pub none_sampled : (requests : List SampleRequest) (checker : Option LcOwn) → requests ≡ [] → has_sample requests checker ≡ false
 none_sampled requests None none = refl
 none_sampled requests (Some own) none = (λ i. sampled_from (none i) own 0 own.points) ∙ none_from own 0 own.points
+
+-- a disabled Limit Checker samples nothing
+no_result : (requests : List SampleRequest) (own : LcOwn) (rule : ℕ) (taking : Bool) → is_disabled own.mode ≡ true → are_taking requests rule ≡ taking → is_some (result_of requests (Some own) rule) ≡ false
+no_result requests own rule false mode taken = rw taken refl
+no_result requests own rule true mode taken = rw (taken, mode) refl
+
+pub none_disabled : (requests : List SampleRequest) (own : LcOwn) (rule : ℕ) (points : List (Point Tally)) → is_disabled own.mode ≡ true → sampled_from requests own rule points ≡ false
+none_disabled requests own rule [] mode = refl
+none_disabled requests own rule (point ∷ points) mode =
+    ap (λ one. one || sampled_from requests own (rule + 1) points) (no_result requests own rule (are_taking requests rule) mode refl) ∙ none_disabled requests own (rule + 1) points mode
 
 -- a rule that was sampled is among those from it on
 pub found_here : (requests : List SampleRequest) (own : LcOwn) (points : List (Point Tally)) (n rule : ℕ) → n < length points → is_some (result_of requests (Some own) rule) ≡ true →

@@ -186,6 +186,14 @@ pub record IsAccountOf (it : RunAccount) (steps : List Step) : Type 0 where
 abbrev pub schedule_of : RunAccount → Schedule
 schedule_of it = it.schedule.now
 
+-- the run's text in force after its last record, by its number from 0
+abbrev pub force_of : RunAccount → Option ℕ
+force_of it = it.force
+
+-- the requests for samples of the next record of its run, if that has these bytes
+abbrev pub requests_after : RunAccount → List ℕ → List SampleRequest
+requests_after it bytes = requests_in it.schedule.now it.slot bytes
+
 abbrev pub records_of : RunAccount → ℕ
 records_of it = it.records
 

@@ -20,9 +20,13 @@ over allowed gap = if nat_lt allowed gap then gap else 0
 abbrev pub unsampled_at : RunClock → Lane → ℕ
 unsampled_at clock lane = add lane.unsampled (over lane.allowed (clock.passed - lane.last))
 
+-- a lane after a sample at this time, after which a gap that lasts longer than `allowed` is late
+abbrev pub lane_after : (allowed : ℕ) → RunClock → Lane → Lane
+lane_after allowed clock lane = record lane { last = clock.passed; allowed = allowed; unsampled = unsampled_at clock lane }
+
 -- a lane after a sample at this time
 abbrev pub lane_at : (slots : ℕ) → RunClock → Lane → Lane
-lane_at slots clock lane = record lane { last = clock.passed; allowed = two_cycles slots clock.tick; unsampled = unsampled_at clock lane }
+lane_at slots clock lane = lane_after (two_cycles slots clock.tick) clock lane
 
 -- a slot of the schedule samples the rule with this number
 abbrev pub is_scheduled : Schedule → ℕ → Bool

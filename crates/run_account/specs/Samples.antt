@@ -1,5 +1,5 @@
 -- Which rules are sampled in a record, and with which result. This project's own.
-use Rattle.std.specs.Prelude.{ℕ, ◌+◌, ◌==◌, ◌||◌, Bool, false, List, [], ◌∷◌, ◌++◌, drop, get_or, length, nat_lt, slice_get, is_some, Option, Some, None, Result, Ok, Err, if◌then◌else◌}
+use Rattle.std.specs.Prelude.{◌≡◌, ℕ, ◌+◌, ◌==◌, ◌||◌, Bool, true, false, List, [], ◌∷◌, ◌++◌, drop, get_or, length, nat_lt, slice_get, is_some, Option, Some, None, Result, Ok, Err, if◌then◌else◌}
 use Rattle.std.specs.List.{list_any}
 use Rattle.lc_model.specs.declared.command.SampleRequest.{SampleRequest}
 use Rattle.lc_model.specs.Command.{sample_request, takes}
@@ -58,7 +58,7 @@ requests_in all slot bytes = if nat_lt (length bytes) header_size then [] else b
 abbrev pub requests_of : Requests → List SampleRequest
 requests_of requests.Nothing = []
 requests_of (requests.Slot entries) = entry_requests (entries_of entries.now)
-requests_of (requests.Ground request) = request ∷ []
+requests_of (requests.One request) = request ∷ []
 
 -- one of them takes the rule with this number
 abbrev pub are_taking : List SampleRequest → ℕ → Bool
@@ -92,3 +92,17 @@ sampled_from all own rule (point ∷ points) = is_some (result_of all (Some own)
 abbrev pub has_sample : List SampleRequest → Option LcOwn → Bool
 has_sample all None = false
 has_sample all (Some own) = sampled_from all own 0 own.points
+
+-- a list of results by rule number, from this rule on, in the place of a list of as many
+abbrev pub results_from : List SampleRequest → Option LcOwn → (rule : ℕ) → List (Option ApResult) → List (Option ApResult)
+results_from all checker rule [] = []
+results_from all checker rule (before ∷ others) = result_of all checker rule ∷ results_from all checker (rule + 1) others
+
+-- each result of a list is that of the rule with its place as number; rules beyond the list's end are not in it
+abbrev pub AreResults : List SampleRequest → Option LcOwn → List (Option ApResult) → Type 0
+AreResults all checker results = (rule : ℕ) (found : Option ApResult) → slice_get results rule ≡ Some found → found ≡ result_of all checker rule
+
+-- the results of a list, if they are those of the newest record
+abbrev pub shown_if : Bool → List (Option ApResult) → List (Option ApResult)
+shown_if false results = []
+shown_if true results = results

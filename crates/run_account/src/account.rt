@@ -5,7 +5,7 @@ ghost use Rattle.flight_profile.specs.Checkers.{engine_among};
 ghost use Rattle.run_stepper.specs.Stepping.{IsAtRest, host_in};
 ghost use Rattle.run_stepper.specs.Steps.{Step};
 ghost use Rattle.run_stepper.specs.Watching.{step_shown};
-ghost use Rattle.run_account.specs.Account.{HasPacket, HasSampled, IsAccountOf, packets_of, records_of, rows_of, samples_of, schedule_of, steps_back_of, ungiven_of, unsampled_of};
+ghost use Rattle.run_account.specs.Account.{HasPacket, HasSampled, IsAccountOf, force_of, packets_of, records_of, requests_after, rows_of, samples_of, schedule_of, steps_back_of, ungiven_of, unsampled_of};
 ghost use Rattle.run_account.specs.Packets.{brings};
 ghost use Rattle.run_account.specs.Samples.{requests_of};
 
@@ -15,7 +15,9 @@ use crate::force::force_after;
 use crate::lanes::{Lane, count_lanes, lanes_of};
 use crate::packets::{PacketCount, count_packet, mid_in};
 use crate::requests::{Requests, is_sampled, requests_in};
+use crate::results::{no_results, shown_results, take_results};
 use crate::texts::{most_rules, packets_of, rows_of};
+use lc_model::ApResult;
 use rpn_compiler::RuleText;
 use run_stepper::Stepping;
 use schedules::Schedule;
@@ -34,6 +36,9 @@ pub struct RunAccount<'s> {
     ungiven: u64,
     rows: Vec<RuleRow>,
     lanes: Vec<Lane>,
+    /// The results of the newest record by rule number, one for each lane, if `has_results`; else old ones.
+    results: Vec<Option<ApResult>>,
+    has_results: bool,
     packets: Vec<PacketCount>,
 }
 
@@ -58,6 +63,8 @@ impl<'s> RunAccount<'s> {
             ungiven: 0,
             rows: rows_of(alloc, texts)?,
             lanes: lanes_of(alloc, schedule, most_rules(texts))?,
+            results: no_results(alloc, most_rules(texts))?,
+            has_results: false,
             packets: packets_of(alloc, texts)?,
         })
     }
@@ -78,6 +85,7 @@ impl<'s> RunAccount<'s> {
             (engine_among (host_in stepping.now).host.seats) self.old.force }
     {
         let engine = stepping.checker();
+        self.has_results = false;
         if !is_sampled(requests, engine) {
             return;
         }
@@ -86,9 +94,13 @@ impl<'s> RunAccount<'s> {
         if force.is_none() {
             self.ungiven = self.ungiven.saturating_add(1);
         }
-        count_rows(self.rows.as_mut_slice(), requests, engine, force);
+        let results = self.results.as_mut_slice();
+        self.has_results = take_results(results, requests, engine);
+        let results = shown_results(results, self.has_results);
+        count_rows(self.rows.as_mut_slice(), results, requests, engine, force);
         count_lanes(
             self.lanes.as_mut_slice(),
+            results,
             requests,
             engine,
             self.schedule,
@@ -96,9 +108,11 @@ impl<'s> RunAccount<'s> {
         );
     }
 
-    /// Takes the record that was handled last.
-    pub fn add(&mut self, stepping: &Stepping)
+    /// Takes the record that was handled last. Returns the requests for samples that it brought.
+    pub fn add(&mut self, stepping: &Stepping) -> Requests<'s>
         requires { IsAtRest stepping.now }
+        ensures requests { requests_of result ≡
+            requests_after self.old (host_in stepping.now).held.last }
         ensures account { (steps : List Step) → IsAccountOf self.old steps →
             IsAccountOf self.new (steps ++ step_shown stepping.now ∷ []) }
         ensures schedule { schedule_of self.new ≡ schedule_of self.old }
@@ -112,6 +126,14 @@ impl<'s> RunAccount<'s> {
         self.add_packet(bytes);
         self.add_samples(requests, stepping);
         self.slot = stepping.next_slot();
+        requests
+    }
+
+    /// The number, from 0, of the run's text in force after the last record. None if the tables in force are of none of the run's texts.
+    pub fn text_in_force(&self) -> Option<usize>
+        ensures { result ≡ force_of self.now }
+    {
+        self.force
     }
 
     /// The number of records.
@@ -147,6 +169,11 @@ impl<'s> RunAccount<'s> {
         ensures { result.now ≡ rows_of self.now }
     {
         self.rows.as_slice()
+    }
+
+    /// The results of the newest record by rule number, `None` for a rule that was not sampled. Empty if the record sampled nothing.
+    pub fn results(&self) -> &[Option<ApResult>] {
+        shown_results(self.results.as_slice(), self.has_results)
     }
 
     /// The packets that came, for each message id that the texts name.

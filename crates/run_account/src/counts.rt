@@ -1,11 +1,12 @@
 //! How often each rule was sampled, and with which results.
 
-ghost use Rattle.std.specs.Prelude.{◌≡◌, map, option_map};
+ghost use Rattle.std.specs.Prelude.{◌≡◌, map, option_map, Some};
 ghost use Rattle.run_account.specs.Clock.{add};
 ghost use Rattle.run_account.specs.Counts.{counts_with, none_counted, row_sampled, row_with};
-ghost use Rattle.run_account.specs.Samples.{requests_of};
+ghost use Rattle.run_account.specs.Samples.{AreResults, requests_of};
 
-use crate::requests::{Requests, result_of};
+use crate::requests::Requests;
+use crate::results::result_at;
 use lc_model::ApResult;
 use limit_engine::Engine;
 
@@ -72,34 +73,58 @@ impl RuleCounts {
 }
 
 impl RuleRow {
-    /// The row after a sample with this result, under tables of the text with this number; the same if it is of another text, or if
-    /// the rule was not sampled.
-    fn with(self, force: Option<usize>, found: Option<ApResult>) -> RuleRow
-        ensures { result ≡ row_with force found self }
+    /// The row after a sample with this result, under tables of its text; the same if the rule was not sampled.
+    fn with(self, found: Option<ApResult>) -> RuleRow
+        ensures { result ≡ row_with (Some self.text) found self }
     {
-        match (force, found) {
-            (Some(text), Some(found)) if text == self.text => RuleRow {
+        match found {
+            Some(found) => RuleRow {
                 text: self.text,
                 rule: self.rule,
                 counts: self.counts.with(found),
             },
-            _ => self,
+            None => self,
         }
     }
 }
 
-/// Counts the results that these requests led to, in the engine after them, whose tables are of the text with this number.
+/// Counts the results that these requests led to, in the engine after them, whose tables are of this text. `results` has those of the
+/// first rules.
+fn count_text(
+    rows: &mut [RuleRow],
+    results: &[Option<ApResult>],
+    requests: Requests<'_>,
+    engine: Option<&Engine>,
+    text: usize,
+)
+    requires { AreResults (requests_of requests) (option_map (λ engine. engine.now) engine)
+        results.now }
+    ensures { rows.new ≡ map (row_sampled (requests_of requests.entry)
+        (option_map (λ engine. engine.now) engine.entry) (Some text)) rows.old }
+{
+    for row in rows.iter_mut() {
+        if row.text == text {
+            *row = row.with(result_at(results, requests, engine, row.rule));
+        }
+    }
+}
+
+/// Counts the results that these requests led to, in the engine after them, whose tables are of the text with this number. `results`
+/// has those of the first rules.
 pub fn count_rows(
     rows: &mut [RuleRow],
+    results: &[Option<ApResult>],
     requests: Requests<'_>,
     engine: Option<&Engine>,
     force: Option<usize>,
 )
+    requires { AreResults (requests_of requests) (option_map (λ engine. engine.now) engine)
+        results.now }
     ensures { rows.new ≡ map (row_sampled (requests_of requests.entry)
         (option_map (λ engine. engine.now) engine.entry) force) rows.old }
 {
-    for row in rows.iter_mut() {
-        let found = result_of(requests, engine, row.rule);
-        *row = row.with(force, found);
+    match force {
+        Some(text) => count_text(rows, results, requests, engine, text),
+        None => {}
     }
 }

@@ -3,11 +3,13 @@
 ghost use Rattle.std.specs.Prelude.{◌≡◌, ◌<◌, [], length, map, option_map, IfOk};
 ghost use Rattle.std.specs.List.{AllByRecursion};
 ghost use Rattle.lc_model.specs.Tables.Image.{numbers_below};
-ghost use Rattle.run_account.specs.Lanes.{is_scheduled, lane_at, lane_with, new_lane, over, rules_of, two_cycles, unsampled_at};
-ghost use Rattle.run_account.specs.Samples.{requests_of};
+ghost use Rattle.run_account.specs.Lanes.{is_scheduled, lane_after, lane_at, lane_with, new_lane, over, rules_of, two_cycles, unsampled_at};
+ghost use Rattle.run_account.specs.Samples.{AreResults, requests_of};
 
 use crate::clock::{RunClock, SECOND};
-use crate::requests::{Requests, are_entries_taking, result_of};
+use crate::requests::{Requests, are_entries_taking};
+use crate::results::result_at;
+use lc_model::ApResult;
 use limit_engine::Engine;
 use schedules::Schedule;
 use std::alloc::{AllocError, Global};
@@ -68,17 +70,25 @@ impl Lane {
         }
     }
 
-    /// The lane after a sample at this time.
-    pub fn at(self, schedule: &Schedule, clock: RunClock) -> Lane
-        ensures { result ≡ lane_at (length schedule.now) clock self }
+    /// The lane after a sample at this time, after which the next one is late if it takes longer than `allowed`.
+    #[inline(always)]
+    fn after(self, allowed: u64, clock: RunClock) -> Lane
+        ensures { result ≡ lane_after allowed clock self }
     {
         Lane {
             rule: self.rule,
             is_scheduled: self.is_scheduled,
             last: clock.passed,
-            allowed: two_cycles(schedule, clock.tick),
+            allowed,
             unsampled: self.unsampled_until(clock),
         }
+    }
+
+    /// The lane after a sample at this time.
+    pub fn at(self, schedule: &Schedule, clock: RunClock) -> Lane
+        ensures { result ≡ lane_at (length schedule.now) clock self }
+    {
+        self.after(two_cycles(schedule, clock.tick), clock)
     }
 
     /// The time without a sample up to this one.
@@ -104,20 +114,24 @@ pub fn lanes_of(alloc: Global, schedule: &Schedule, count: usize) -> Result<Vec<
     Ok(lanes)
 }
 
-/// Takes the samples that these requests led to, in the engine after them.
+/// Takes the samples that these requests led to, in the engine after them. `results` has the results of the first rules.
 pub fn count_lanes(
     lanes: &mut [Lane],
+    results: &[Option<ApResult>],
     requests: Requests<'_>,
     engine: Option<&Engine>,
     schedule: &Schedule,
     clock: RunClock,
 )
+    requires { AreResults (requests_of requests) (option_map (λ engine. engine.now) engine)
+        results.now }
     ensures { lanes.new ≡ map (lane_with (length schedule.now) clock (requests_of requests.entry)
         (option_map (λ engine. engine.now) engine.entry)) lanes.old }
 {
+    let allowed = two_cycles(schedule, clock.tick);
     for lane in lanes.iter_mut() {
-        if result_of(requests, engine, lane.rule).is_some() {
-            *lane = lane.at(schedule, clock);
+        if result_at(results, requests, engine, lane.rule).is_some() {
+            *lane = lane.after(allowed, clock);
         }
     }
 }

@@ -10,6 +10,7 @@ mod lanes;
 mod listing;
 mod packets;
 mod requests;
+mod results;
 mod texts;
 mod warning;
 
@@ -20,5 +21,5 @@ pub use force::may_change;
 pub use lanes::Lane;
 pub use listing::{AccountJson, WarningLine};
 pub use packets::PacketCount;
-pub use requests::{Requests, requests_in, result_of};
+pub use requests::{Requests, is_sampled, requests_in, result_of};
 pub use warning::AccountWarning;

@@ -4,7 +4,7 @@ use crate::account::RunAccount;
 use crate::clock::SECOND;
 use crate::counts::RuleRow;
 use crate::texts::{packet_name, reads, rule_at};
-use crate::warning::AccountWarning;
+use crate::warning::{AccountWarning, is_text_never_sampled};
 use rpn_compiler::RuleText;
 use std::fmt::{self, Display, Formatter, Write};
 use std::str;
@@ -74,6 +74,18 @@ fn write_rules<W: Write>(
     Ok(())
 }
 
+/// Writes the numbers of the texts of which no rule was sampled.
+fn write_idle_texts<W: Write>(f: &mut Formatter<W>, rows: &[RuleRow], count: usize) -> fmt::Result {
+    let mut sign = "";
+    for text in 0..count {
+        if is_text_never_sampled(rows, text) {
+            write!(f, "{sign} {text}")?;
+            sign = ",";
+        }
+    }
+    Ok(())
+}
+
 /// Writes the names of the rules of a text that compare a field of packets with this message id.
 fn write_readers<W: Write>(f: &mut Formatter<W>, text: &RuleText<'_>, mid: u16) -> fmt::Result {
     let mut sign = ", which these rules compare: ";
@@ -96,12 +108,12 @@ impl Display for WarningLine<'_, '_, '_> {
                  ticks, `SCH` and a schedule that samples?",
                 self.account.records()
             ),
-            AccountWarning::TextNotSampled { text } => write!(
-                f,
-                "warning[never-sampled]: no rule of text {text} was sampled"
-            ),
-            AccountWarning::NeverSampled { text } => {
-                write!(f, "warning[never-sampled]: never sampled: ")?;
+            AccountWarning::TextsNotSampled => {
+                write!(f, "warning[not-sampled]: no rule was sampled of text")?;
+                write_idle_texts(f, rows, texts.len())
+            }
+            AccountWarning::RulesNotSampled { text } => {
+                write!(f, "warning[not-sampled]: not sampled: ")?;
                 write_rules(f, rows, texts, text, false)
             }
             AccountWarning::AlwaysStale { text } => {

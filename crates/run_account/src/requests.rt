@@ -1,9 +1,9 @@
 //! The requests for samples that a record brings to the Limit Checker.
 
-ghost use Rattle.std.specs.Prelude.{◌≡◌, [], option_map, IsTrue, not};
+ghost use Rattle.std.specs.Prelude.{◌≡◌, [], false, option_map, slice_get, IsTrue, Some, not};
 ghost use Rattle.lc_model.specs.LimitChecker.Steps.{is_disabled};
 ghost use Rattle.schedules.specs.Entry.{entries_of, entry_of};
-ghost use Rattle.run_account.specs.Samples.{are_taking, entry_request, entry_requests, has_sample, packet_request, requests_in, requests_of, result_of, sampled_from, standing_result};
+ghost use Rattle.run_account.specs.Samples.{are_taking, entry_request, entry_requests, has_sample, packet_request, point_result, requests_in, requests_of, result_of, sampled_from, standing_result};
 
 use lc_model::packet::{message_id, stream_fault};
 use lc_model::stream::HEADER;
@@ -18,8 +18,8 @@ pub enum Requests<'a> {
     Nothing,
     /// Those among the entries of a slot, which a tick published.
     Slot(&'a [Entry]),
-    /// One from the ground.
-    Ground(SampleRequest),
+    /// One: the only one of a slot, or one from the ground.
+    One(SampleRequest),
 }
 
 /// Whether an entry of the schedule requests a sample that takes the rule with this number.
@@ -57,6 +57,25 @@ fn packet_request(packet: &[u8]) -> Option<SampleRequest>
     sample_request(packet).ok()
 }
 
+/// The requests for samples among the entries of a slot.
+fn slot_requests(entries: &[Entry]) -> Requests<'_>
+    ensures { requests_of result ≡ entry_requests (entries_of entries.now) }
+{
+    let mut found: Option<SampleRequest> = None;
+    for entry in entries {
+        if let Entry::Sample { first, last, ages } = *entry {
+            if found.is_some() {
+                return Requests::Slot(entries);
+            }
+            found = Some(SampleRequest { first, last, ages });
+        }
+    }
+    match found {
+        Some(request) => Requests::One(request),
+        None => Requests::Nothing,
+    }
+}
+
 /// The requests for samples that a record brings. `slot` is the slot of the schedule that the next tick publishes before the record;
 /// none if no scheduler runs.
 pub fn requests_in<'s>(schedule: &'s Schedule, slot: Option<usize>, bytes: &[u8]) -> Requests<'s>
@@ -67,10 +86,10 @@ pub fn requests_in<'s>(schedule: &'s Schedule, slot: Option<usize>, bytes: &[u8]
     }
     match (bytes[0], slot) {
         (1, _) => match packet_request(bytes.split_at(HEADER).1) {
-            Some(request) => Requests::Ground(request),
+            Some(request) => Requests::One(request),
             None => Requests::Nothing,
         },
-        (2, Some(slot)) if slot < schedule.len() => Requests::Slot(schedule.entries(slot)),
+        (2, Some(slot)) if slot < schedule.len() => slot_requests(schedule.entries(slot)),
         _ => Requests::Nothing,
     }
 }
@@ -83,7 +102,7 @@ impl Requests<'_> {
         match self {
             Requests::Nothing => true,
             Requests::Slot(entries) => entries.is_empty(),
-            Requests::Ground(_) => false,
+            Requests::One(_) => false,
         }
     }
 
@@ -94,13 +113,13 @@ impl Requests<'_> {
         match self {
             Requests::Nothing => false,
             Requests::Slot(entries) => are_entries_taking(entries, rule),
-            Requests::Ground(request) => request.takes(rule),
+            Requests::One(request) => request.takes(rule),
         }
     }
 }
 
 /// Whether a Limit Checker in this mode samples.
-fn is_mode_on(mode: LcMode) -> bool
+pub(crate) fn is_mode_on(mode: LcMode) -> bool
     ensures { result ≡ not (is_disabled mode) }
 {
     match mode {
@@ -109,17 +128,46 @@ fn is_mode_on(mode: LcMode) -> bool
     }
 }
 
-/// The last result of the rule with this number, if it is sampled where a request takes it.
-fn standing_result(engine: &Engine, rule: usize) -> Option<ApResult>
-    ensures { result ≡ standing_result engine.now rule }
+/// The last result of the rule with this number, if it is sampled where a request takes it and the mode allows samples.
+#[inline(always)]
+fn point_result(engine: &Engine, rule: usize) -> Option<ApResult>
+    ensures { result ≡ point_result (slice_get engine.now.points rule) }
 {
-    if !is_mode_on(engine.mode()) || engine.rule_count() <= rule {
+    if engine.rule_count() <= rule {
         return None;
     }
     let standing = engine.standing(rule);
     match standing.state {
         ApMode::Active | ApMode::Passive => standing.last,
         ApMode::Disabled | ApMode::PermOff => None,
+    }
+}
+
+/// The result that these requests led to for the rule with this number, in an engine after them whose mode allows samples.
+#[inline(always)]
+pub(crate) fn sampled_result(
+    requests: Requests<'_>,
+    engine: &Engine,
+    rule: usize,
+) -> Option<ApResult>
+    requires { is_disabled engine.now.mode ≡ false }
+    ensures { result ≡ result_of (requests_of requests.entry) (Some engine.now) rule }
+{
+    if requests.takes(rule) {
+        point_result(engine, rule)
+    } else {
+        None
+    }
+}
+
+/// The last result of the rule with this number, if it is sampled where a request takes it.
+fn standing_result(engine: &Engine, rule: usize) -> Option<ApResult>
+    ensures { result ≡ standing_result engine.now rule }
+{
+    if is_mode_on(engine.mode()) {
+        point_result(engine, rule)
+    } else {
+        None
     }
 }
 
@@ -142,8 +190,11 @@ pub fn result_of(requests: Requests<'_>, engine: Option<&Engine>, rule: usize) -
 fn has_sampled(requests: Requests<'_>, checker: &Engine) -> bool
     ensures { result ≡ sampled_from (requests_of requests.entry) checker.now 0 checker.now.points }
 {
+    if !is_mode_on(checker.mode()) {
+        return false;
+    }
     for rule in 0..checker.rule_count() {
-        if result_of(requests, Some(checker), rule).is_some() {
+        if sampled_result(requests, checker, rule).is_some() {
             return true;
         }
     }

@@ -10,10 +10,10 @@ use std::alloc::{AllocError, Global};
 pub enum AccountWarning {
     /// No rule was sampled in the whole run.
     NothingSampled,
-    /// No rule of this text was sampled, though rules of other tables were.
-    TextNotSampled { text: usize },
+    /// No rule of some texts was sampled, though rules of other tables were.
+    TextsNotSampled,
     /// Some rules of this text were not sampled, though others were.
-    NeverSampled { text: usize },
+    RulesNotSampled { text: usize },
     /// Some rules of this text were stale in each of their samples.
     AlwaysStale { text: usize },
     /// No packet of this message id came, which this text names.
@@ -38,10 +38,16 @@ impl RuleRow {
     }
 }
 
-/// Whether all rows are of rules that were never sampled.
-fn are_never_sampled(rows: &[RuleRow], text: usize) -> bool {
+/// Whether no rule of a text was sampled.
+pub(crate) fn is_text_never_sampled(rows: &[RuleRow], text: usize) -> bool {
     rows.iter()
         .all(|row| row.text != text || row.is_never_sampled())
+}
+
+/// Whether a rule with this number was sampled, of whichever text.
+fn is_sampled_somewhere(rows: &[RuleRow], rule: usize) -> bool {
+    rows.iter()
+        .any(|row| row.rule == rule && !row.is_never_sampled())
 }
 
 /// The rules of a text that have a fault, as one warning; none if no rule has it.
@@ -54,18 +60,24 @@ fn of_rules(rows: &[RuleRow], text: usize) -> (bool, bool) {
 }
 
 impl RunAccount<'_> {
-    /// The number of the rule with the longest time without a sample that the schedule asks for, and that time; none if there is none.
+    /// The number of the rule with the longest time without a sample that the schedule asks for, and that time; none if there is none. Rules
+    /// that were never sampled have a warning of their own, and would hide the others.
     fn longest_unsampled(&self, texts: &[RuleText<'_>]) -> Option<(usize, u64)> {
         let mut longest = None;
         let mut most = 0u64;
         for rule in 0..crate::texts::most_rules(texts) {
             let time = self.unsampled(rule);
-            if time > most {
+            if time > most && is_sampled_somewhere(self.rows(), rule) {
                 most = time;
                 longest = Some((rule, time));
             }
         }
         longest
+    }
+
+    /// Whether no rule of one of the texts was sampled.
+    fn has_text_never_sampled(&self, texts: &[RuleText<'_>]) -> bool {
+        (0..texts.len()).any(|text| is_text_never_sampled(self.rows(), text))
     }
 
     /// Adds the warnings about the rules of a text.
@@ -74,14 +86,9 @@ impl RunAccount<'_> {
         text: usize,
         warnings: &mut Vec<AccountWarning>,
     ) -> Result<(), AllocError> {
-        if are_never_sampled(self.rows(), text) {
-            return warnings
-                .push(AccountWarning::TextNotSampled { text })
-                .map_err(AllocError::from);
-        }
         let (has_unsampled, has_stale) = of_rules(self.rows(), text);
-        if has_unsampled {
-            warnings.push(AccountWarning::NeverSampled { text })?;
+        if has_unsampled && !is_text_never_sampled(self.rows(), text) {
+            warnings.push(AccountWarning::RulesNotSampled { text })?;
         }
         if has_stale {
             warnings.push(AccountWarning::AlwaysStale { text })?;
@@ -105,7 +112,8 @@ impl RunAccount<'_> {
         Ok(())
     }
 
-    /// The warnings about the run. Where nothing was sampled, only that is said of rules. The only error is a lack of memory.
+    /// The warnings about the run. Where nothing was sampled, only that is said of rules; where no record came, nothing else at all. The
+    /// only error is a lack of memory.
     pub fn warnings(
         &self,
         alloc: Global,
@@ -114,6 +122,11 @@ impl RunAccount<'_> {
         let mut warnings = Vec::new(alloc);
         if self.samples() == 0 {
             warnings.push(AccountWarning::NothingSampled)?;
+        } else if self.has_text_never_sampled(texts) {
+            warnings.push(AccountWarning::TextsNotSampled)?;
+        }
+        if self.records() == 0 {
+            return Ok(warnings);
         }
         for (text, source) in texts.iter().enumerate() {
             if self.samples() > 0 {

@@ -11,9 +11,7 @@ use rpn_compiler::RuleText;
 use run_account::{AccountWarning, RunAccount, WarningLine};
 use run_stepper::{RunInputs, read_texts};
 use scenario_errors::LineError;
-use scenario_trial::{
-    TrialError, TrialOutcome, TrialWarning, Tried, account_of_script, try_scenario,
-};
+use scenario_trial::{TrialError, TrialOutcome, TrialWarning, Tried, try_scenario};
 use script_errors::script_warnings;
 use std::alloc::{AllocError, Global};
 use std::cell::Cell;
@@ -155,6 +153,18 @@ fn warning_head(
             alloc,
             "no given rule text has this number",
         ),
+        TrialWarning::RuleNotSampled { n: _ } => String::from_str(
+            alloc,
+            "no rule that leads to this was sampled in these seconds, so it could not come",
+        ),
+        TrialWarning::RuleStale { n: _ } => String::from_str(
+            alloc,
+            "each rule that leads to this was stale or in error in these seconds, so it could not come",
+        ),
+        TrialWarning::TypeOff { n: _ } => String::from_str(
+            alloc,
+            "events of this type were off for `LC` in these seconds, so it could not come",
+        ),
         TrialWarning::NothingRan { n: _ } => String::from_str(
             alloc,
             "nothing came of the Limit Checker, of which this expects something",
@@ -178,6 +188,15 @@ fn name_line_and_hint(warning: TrialWarning) -> (&'static str, usize, &'static s
         TrialWarning::UngivenTables { n } => ("rule-text", n, "give the rule text of these tables"),
         TrialWarning::NoRecord { n } => ("no-record", n, "name seconds that have a record"),
         TrialWarning::UnknownNumber { n } => ("unknown-number", n, "look at the number"),
+        TrialWarning::RuleNotSampled { n } => {
+            (
+                "rule-not-sampled",
+                n,
+                "name seconds with samples of the rule",
+            )
+        }
+        TrialWarning::RuleStale { n } => ("rule-stale", n, "send the packets of its fields"),
+        TrialWarning::TypeOff { n } => ("type-off", n, "turn the type on before"),
         TrialWarning::NothingRan { n } => ("nothing-ran", n, "start `LC` before"),
         TrialWarning::NothingTried => ("nothing-tried", 1, "add a line `expect`"),
     }
@@ -215,43 +234,58 @@ fn with_messages(
     Ok(told)
 }
 
-/// The line, without its end, that a script's run sampled nothing; empty if it sampled something.
+/// The lines that a script's run sampled nothing, and that its time steps back, if that is so.
 #[derive(Clone, Copy)]
-struct SampledNothing<'a, 's> {
+struct AccountLines<'a, 's> {
     name: &'a str,
     account: &'a RunAccount<'s>,
 }
 
-impl Display for SampledNothing<'_, '_> {
-    fn fmt<W: fmt::Write>(&self, f: &mut Formatter<W>) -> fmt::Result {
-        if self.account.samples() > 0 {
-            return Ok(());
-        }
+impl AccountLines<'_, '_> {
+    /// Writes a warning about the run as a line.
+    fn write_line<W: fmt::Write>(
+        &self,
+        f: &mut Formatter<W>,
+        warning: AccountWarning,
+    ) -> fmt::Result {
         let line = WarningLine {
             account: self.account,
             texts: &[],
-            warning: AccountWarning::NothingSampled,
+            warning,
         };
         writeln!(f, "{}: {line}", self.name)
     }
 }
 
-/// Writes the warnings about a script, a file's name and text, and those of its trial with these rule texts, to standard error. Returns
-/// whether there are warnings about the script itself.
+impl Display for AccountLines<'_, '_> {
+    fn fmt<W: fmt::Write>(&self, f: &mut Formatter<W>) -> fmt::Result {
+        if self.account.samples() == 0 {
+            self.write_line(f, AccountWarning::NothingSampled)?;
+        }
+        let count = self.account.steps_back();
+        if count > 0 {
+            self.write_line(f, AccountWarning::StepsBack { count })?;
+        }
+        Ok(())
+    }
+}
+
+/// Writes the warnings about a script, a file's name and text, and those of its trial with these rule texts, to standard error, and
+/// about what the run looked at. Returns whether a line of the script has a warning.
 fn warn<R: Eprint + AllocGlobal>(
     rt: &R,
     script: (&str, &[u8]),
     texts: &[&[u8]],
-    warnings: &[TrialWarning],
-    account: &RunAccount<'_>,
+    outcome: &TrialOutcome<'_>,
 ) -> Result<bool, AllocError> {
     let (name, text) = script;
     let told = script_warnings(rt.alloc(), text)?;
-    let has_own = !told.is_empty();
-    let told = with_messages(rt.alloc(), told, text, texts, warnings)?;
+    let told = with_messages(rt.alloc(), told, text, texts, outcome.warnings.as_slice())?;
+    let told = with_messages(rt.alloc(), told, text, texts, outcome.idle.as_slice())?;
     let page = warnings_page_of(rt.alloc(), name, text, told.as_slice())?;
-    let _said = eprint!(rt; "{page}{}", SampledNothing { name, account });
-    Ok(has_own)
+    let account = &outcome.account;
+    let _said = eprint!(rt; "{page}{}", AccountLines { name, account });
+    Ok(!told.is_empty())
 }
 
 /// The result of a trial, by whether a rule was sampled and whether there are warnings about its script: `Unmet` before `Warned` before
@@ -281,14 +315,16 @@ fn result_of<R: Eprint + AllocGlobal>(
     rt: &R,
     script: (&str, &[u8]),
     plan: RunInputs<'_>,
-    outcome: &TrialOutcome,
-    account: &RunAccount<'_>,
+    outcome: &TrialOutcome<'_>,
     strict: bool,
 ) -> Result<(), Fault<'static>> {
-    let warnings = outcome.warnings.as_slice();
-    let has_own = warn(rt, script, plan.texts, warnings, account)?;
-    let is_warned = has_own || !warnings.is_empty();
-    ending_of(outcome.tried, account.samples() > 0, is_warned, strict)
+    let is_warned = warn(rt, script, plan.texts, outcome)?;
+    ending_of(
+        outcome.tried,
+        outcome.account.samples() > 0,
+        is_warned,
+        strict,
+    )
 }
 
 /// Runs rule texts over the stream of a script, and lists its unmet expectations, or all packets of the run if it has no expectations.
@@ -306,21 +342,12 @@ fn try_script<'a, R: Files + Eprint + AllocGlobal, W: Write>(
     let text = read(rt, script, LONGEST_WHOLE)?;
     let kind = Cell::new(None);
     let mut noted = Noting::new(out, &kind);
-    let tried = try_scenario(rt.alloc(), script, text.as_slice(), plan, &mut noted);
-    let looked = account_of_script(rt.alloc(), text.as_slice(), plan);
-    match (tried, looked) {
-        (Ok(outcome), Ok(account)) => {
+    match try_scenario(rt.alloc(), script, text.as_slice(), plan, &mut noted) {
+        Ok(outcome) => {
             listing_result(noted.flush())?;
-            result_of(
-                rt,
-                (script, text.as_slice()),
-                plan,
-                &outcome,
-                &account,
-                strict,
-            )
+            result_of(rt, (script, text.as_slice()), plan, &outcome, strict)
         }
-        (Err(error), _) | (Ok(_), Err(error)) => Err(trial_fault(
+        Err(error) => Err(trial_fault(
             rt.alloc(),
             (script, text.as_slice()),
             rules,

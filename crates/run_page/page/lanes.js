@@ -51,7 +51,7 @@ function place(element, cell, width) {
 // What a cell says, the longest first: its result, with the state where that isn't active; of what isn't sampled why.
 function cellTexts(cell, worst, state) {
   const word = CELL_WORDS[worst];
-  if (cell.pause) return [`${cell.pause}, was ${word}`, cell.pause, { 'LC disabled': 'LC off', 'off for good': 'off' }[cell.pause] ?? 'D'];
+  if (cell.pause) return [`${cell.pause}, was ${word}`, cell.pause, { 'LC disabled': 'LC off', 'off for good': 'off', disabled: 'D' }[cell.pause] ?? '–'];
   return [...(state === 'passive' && word ? [`${word}, passive`, `${word} P`] : []), word, ...(LETTERS[worst] ?? [])];
 }
 

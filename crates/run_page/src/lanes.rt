@@ -1,9 +1,8 @@
 //! When the rules of each lane were sampled, and the gaps in which a sample was due and none came.
 
-use crate::sampling::sample_count;
-use limit_engine::Engine;
+use lc_model::ApResult;
 use page_json::{Gap, LaneSamples};
-use run_account::{Lane as Due, Requests, RunClock, result_of};
+use run_account::{Lane as Due, RunClock};
 use run_summary::Place;
 use schedules::Schedule;
 use std::alloc::{AllocError, Global};
@@ -136,24 +135,23 @@ impl Lanes {
         self.next = next;
     }
 
-    /// Takes a record that requests these samples, by the engine after it. `before` is the place of the record before it. The only error
-    /// is a lack of memory.
+    /// Takes a record that led to these results of the rules, by their numbers; none if it sampled nothing. `before` is the place of the
+    /// record before it. The only error is a lack of memory.
     pub fn take(
         &mut self,
         schedule: &Schedule,
-        requests: Requests<'_>,
-        engine: Option<&Engine>,
+        results: &[Option<ApResult>],
         clock: RunClock,
         before: Place,
         place: Place,
     ) -> Result<(), AllocError> {
         self.begin_gaps(clock, before, place);
-        if sample_count(requests) == 0 {
+        if results.is_empty() {
             return Ok(());
         }
         let mut is_one = false;
         for (rule, lane) in self.lanes.iter_mut().enumerate() {
-            if result_of(requests, engine, rule).is_some() {
+            if let Some(Some(_)) = results.get(rule) {
                 is_one = true;
                 lane.end_gap(self.most, place)?;
                 lane.samples.records = lane.samples.records.saturating_add(1);

@@ -31,8 +31,8 @@ impl<P: Progress> Observer for PageObserver<'_, '_, '_, P> {
 
     fn show(&mut self, stepping: &Stepping) -> Result<(), WatchError> {
         let record = stepping.last_record();
-        self.account.add(stepping);
-        self.page.add(stepping, record, self.account.records())?;
+        let requests = self.account.add(stepping);
+        self.page.add(stepping, record, requests, &self.account)?;
         self.handled = self.handled.saturating_add(record.len() as u64);
         self.progress.update(self.handled);
         Ok(())

@@ -174,7 +174,7 @@ element.place = cell.from.record;
 }
 function cellTexts(cell, worst, state) {
 const word = CELL_WORDS[worst];
-if (cell.pause) return [`${cell.pause}, was ${word}`, cell.pause, { 'LC disabled': 'LC off', 'off for good': 'off' }[cell.pause] ?? 'D'];
+if (cell.pause) return [`${cell.pause}, was ${word}`, cell.pause, { 'LC disabled': 'LC off', 'off for good': 'off', disabled: 'D' }[cell.pause] ?? '–'];
 return [...(state === 'passive' && word ? [`${word}, passive`, `${word} P`] : []), word, ...(LETTERS[worst] ?? [])];
 }
 function openCell(lane, cell) {

@@ -6,6 +6,7 @@ use crate::clock::ticks_in;
 use crate::part::{Part, Phase};
 use crate::telling::Telling;
 use rpn_compiler::RuleText;
+use run_account::{Requests, RunAccount};
 use run_stepper::Stepping;
 use schedules::Schedule;
 use std::alloc::{AllocError, Global};
@@ -72,22 +73,24 @@ impl<'a, 's> ShownPart<'a, 's> {
         Ok(())
     }
 
-    /// Takes a record that was handled, unless it comes after the part. Its number counts from 1. The only error is a lack of memory.
+    /// Takes a record that was handled, which requested these samples, unless it comes after the part. `run` is the account of the run up to
+    /// this record. The only error is a lack of memory.
     pub(crate) fn add(
         &mut self,
         stepping: &Stepping,
         record: &[u8],
-        number: u64,
+        requests: Requests<'_>,
+        run: &RunAccount<'_>,
     ) -> Result<(), AllocError>
         requires { IsAtRest stepping.now }
     {
         let ticks = ticks_in(record);
         let phase = self.part.phase_after(self.phase, ticks);
-        self.come_to(phase, ticks, number.saturating_sub(1))?;
+        self.come_to(phase, ticks, run.records().saturating_sub(1))?;
         if phase.is_after() {
             return Ok(());
         }
-        self.telling.take(stepping, record, number)
+        self.telling.take(stepping, record, requests, run)
     }
 
     /// Ends with this number of records: a part that didn't begin is empty. The only error is a lack of memory.

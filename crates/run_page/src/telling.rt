@@ -7,12 +7,12 @@ use crate::clock::{RecordClock, ticks_in};
 use crate::entry::value_entry;
 use crate::lanes::Lanes;
 use crate::lists::Lists;
-use crate::sampling::{sample_count, samples_in};
+use crate::sampling::sample_count;
 use lc_model::EventKind;
 use rpn_compiler::RuleText;
-use run_account::RunClock;
+use run_account::{Requests, RunAccount, RunClock, may_change};
 use run_stepper::Stepping;
-use run_summary::{Account, Place, Seen, TypesOn, is_asked};
+use run_summary::{Account, FieldRange, Place, Seen, TypesOn};
 use schedules::Schedule;
 use std::alloc::{AllocError, Global};
 
@@ -20,8 +20,6 @@ use std::alloc::{AllocError, Global};
 #[derive(Drop)]
 pub struct Telling<'a, 's> {
     schedule: &'s Schedule,
-    /// The slot that the next tick publishes, if a scheduler runs.
-    slot: Option<usize>,
     passing: RunClock,
     /// The place of the last record.
     before: Place,
@@ -34,11 +32,19 @@ pub struct Telling<'a, 's> {
     pub(crate) account: Account<'a>,
 }
 
-/// Adds the new values of the fields that the packet at this place brought.
-fn tell_values(seen: &[Seen<'_>], place: Place, lists: &mut Lists) -> Result<(), AllocError> {
-    for (field, seen) in seen.iter().enumerate() {
+/// Adds the new values of the fields that the packet at this place brought, which lie in this range.
+fn tell_values(
+    seen: &[Seen<'_>],
+    range: FieldRange,
+    place: Place,
+    lists: &mut Lists,
+) -> Result<(), AllocError> {
+    let Some(seen) = seen.get(range.first..range.end) else {
+        return Ok(());
+    };
+    for (index, seen) in seen.iter().enumerate() {
         if let Some(met) = seen.come_in(place) {
-            lists.value(field, value_entry(place, met))?;
+            lists.value(range.first.saturating_add(index), value_entry(place, met))?;
         }
     }
     Ok(())
@@ -54,11 +60,10 @@ fn types_of(stepping: &Stepping) -> TypesOn {
     }
 }
 
-/// Takes what the host shows after a record, if it is asked there: the run's text in force, and the types of events that are on for the
-/// Limit Checker.
-fn show(account: &mut Account<'_>, stepping: &Stepping, record: &[u8]) {
-    if is_asked(record, stepping.packets()) {
-        account.show(stepping.own_text_in_force(), types_of(stepping));
+/// Takes what may have changed with a record: the run's text in force, and the types of events that are on for the Limit Checker.
+fn show(account: &mut Account<'_>, stepping: &Stepping, record: &[u8], force: Option<usize>) {
+    if may_change(record, stepping.packets()) {
+        account.show(force, types_of(stepping));
     }
 }
 
@@ -74,7 +79,6 @@ impl<'a, 's> Telling<'a, 's> {
         let lanes = Lanes::new(alloc, schedule, account.lanes)?;
         Ok(Telling {
             schedule,
-            slot: None,
             passing: RunClock::new(),
             before: Place { record: 1, time: 0 },
             is_anew: true,
@@ -108,18 +112,14 @@ impl<'a, 's> Telling<'a, 's> {
         self.account.stand_again(place, self.behind.mode)
     }
 
-    /// Takes the samples that a record requests. Returns their number. The only error is a lack of memory.
+    /// Takes the results of a record. `run` is the account of the run up to it. The only error is a lack of memory.
     fn take_samples(
         &mut self,
-        stepping: &Stepping,
         record: &[u8],
         place: Place,
-    ) -> Result<usize, AllocError>
-        requires { IsAtRest stepping.now }
-    {
+        run: &RunAccount<'_>,
+    ) -> Result<(), AllocError> {
         let schedule = self.schedule;
-        let requests = samples_in(schedule, self.slot, record);
-        self.slot = stepping.next_slot();
         self.passing = self.passing.after(record);
         if self.is_anew {
             self.lanes.begin_anew(place);
@@ -128,27 +128,39 @@ impl<'a, 's> Telling<'a, 's> {
         }
         let before = self.before;
         self.before = place;
-        let engine = stepping.checker();
         self.lanes
-            .take(schedule, requests, engine, self.passing, before, place)?;
-        Ok(sample_count(requests))
+            .take(schedule, run.results(), self.passing, before, place)
     }
 
-    /// Takes a record that was handled.
+    /// Looks at the rules after a record, if they may differ from those before it. Returns whether they do, or are looked at first.
+    fn look(&mut self, stepping: &Stepping, may_differ: bool) -> Result<bool, AllocError>
+        requires { IsAtRest stepping.now }
+    {
+        if may_differ || !self.behind.looked {
+            return self.behind.look(stepping);
+        }
+        Ok(false)
+    }
+
+    /// Takes a record that was handled and requested these samples. `run` is the account of the run up to it.
     pub(crate) fn take(
         &mut self,
         stepping: &Stepping,
         record: &[u8],
-        number: u64,
+        requests: Requests<'_>,
+        run: &RunAccount<'_>,
     ) -> Result<(), AllocError>
         requires { IsAtRest stepping.now }
     {
-        let place = self.clock.next(number, ticks_in(record));
-        let samples = self.take_samples(stepping, record, place)?;
+        let place = self.clock.next(run.records(), ticks_in(record));
+        let samples = sample_count(requests);
+        self.take_samples(record, place, run)?;
         self.account.add_record(record, place)?;
-        tell_values(self.account.seen.as_slice(), place, &mut self.lists)?;
-        let is_new = self.behind.look(stepping)?;
-        show(&mut self.account, stepping, record);
+        let came = self.account.came;
+        tell_values(self.account.seen.as_slice(), came, place, &mut self.lists)?;
+        let may_differ = !requests.is_nothing() || may_change(record, stepping.packets());
+        let is_new = self.look(stepping, may_differ)?;
+        show(&mut self.account, stepping, record, run.text_in_force());
         if is_new {
             return self.take_new(place, stepping.packets(), samples);
         }

@@ -1,10 +1,9 @@
 -- The record in front of a stream, where only a piece of the stream is there.
-use Rattle.std.proofs.Common.{◌≡◌, refl, sym, ◌∙◌, ap, subst, ℕ, ◌+◌, ◌<◌, ◌≤◌, ◌⊎◌, inl, inr, min, Bool, true, false, not, cond, nat_lt, List, [], ◌∷◌, ◌++◌, length, take, drop, length-drop, length-take, Option, Some, None, arith}
+use Rattle.std.proofs.Common.{◌≡◌, refl, sym, ◌∙◌, ap, ℕ, ◌+◌, ◌<◌, ◌≤◌, ◌⊎◌, inl, inr, min, Bool, true, false, not, cond, nat_lt, List, [], ◌∷◌, ◌++◌, length, take, drop, length-drop, length-take, Option, Some, None, arith}
 use Rattle.std.specs.Int.{w32, from_be_bytes}
 use Rattle.std.proofs.lemmas.List.{drop-append-le, drop_all, drop_min, take_all, take-append-drop}
-use Rattle.std.proofs.Math.Seq.{take-length}
 use Rattle.lc_model.specs.Host.Stream.{StreamEntry, Contents, Front, EndOfStream, Record, CutRecord, NoRecord, all_kinds, body_size, contents_of, fits_body, front, header_size, moment_of, record_of}
-use Rattle.lc_model.proofs.Facts.{tested_less, tested_not_less, test_less, test_not_less}
+use Rattle.lc_model.proofs.Facts.{tested_less, tested_not_less, test_not_less}
 use Rattle.lc_model.proofs.Host.StreamsGoOn.{all_fronts_stay}
 use Rattle.run_stepper.specs.Trace.{moment_in, size_in_front}
 
@@ -95,9 +94,6 @@ long_moment bytes long = rw (test_not_less (length bytes) 11 long) refl
 pub long_size : (bytes : List ℕ) → 11 ≤ length bytes → size_in_front bytes ≡ min (11 + body_size bytes) (length bytes)
 long_size bytes long = rw (test_not_less (length bytes) 11 long) refl
 
-pub short_size : (bytes : List ℕ) → length bytes < 11 → size_in_front bytes ≡ length bytes
-short_size bytes short = rw (test_less (length bytes) 11 short) refl
-
 -- ---- a piece of the record in front
 
 -- what is taken of the record in front, and what there is behind it
@@ -125,34 +121,6 @@ module _ (n : ℕ) (stream piece more : List ℕ) (is : stream ≡ piece ++ more
 
   pub none_of : front all_kinds n piece ≡ NoRecord → front all_kinds n stream ≡ NoRecord
   none_of there = ap (front all_kinds n) is ∙ (all_fronts_stay all_kinds n piece more).none there
-
--- where a part of a record is all that is there, the stream is cut in it
-pub part_of_all : (n : ℕ) (stream piece : List ℕ) → piece ≡ take (size_in_front stream) stream → 0 < length stream → front all_kinds n piece ≡ CutRecord →
-    front all_kinds n stream ≡ CutRecord
-part_of_all n stream piece is some there = subst (λ (bytes : List ℕ). front all_kinds n bytes ≡ CutRecord) (all_there (nat_lt (length stream) 11) refl) there
-  where
-    as_long : length piece ≡ min (size_in_front stream) (length stream)
-    as_long = ap length is ∙ length-take (size_in_front stream) stream
-
-    by_size : size_in_front stream ≡ length stream → piece ≡ stream
-    by_size same = is ∙ ap (λ k. take k stream) same ∙ take-length stream
-
-    behind : stream ≡ piece ++ drop (size_in_front stream) stream
-    behind = sym (take-append-drop (size_in_front stream) stream) ∙ ap (λ (front : List ℕ). front ++ drop (size_in_front stream) stream) (sym is)
-
-    by_cut : 11 ≤ length stream → size_in_front stream ≡ min (11 + body_size stream) (length stream) → 11 ≤ length piece → body_size stream ≡ body_size piece →
-        (length piece < 11) ⊎ (length piece < 11 + body_size piece) → size_in_front stream ≡ length stream
-    by_cut enough least of_piece size (inl short) = absurd (omega (arith, short, of_piece))
-    by_cut enough least of_piece size (inr cut) = omega (arith, cut, least, size, as_long, enough)
-
-    all_there : (b : Bool) → nat_lt (length stream) 11 ≡ b → piece ≡ stream
-    all_there true short = by_size (short_size stream (tested_less (length stream) 11 short))
-    all_there false long =
-        let enough : 11 ≤ length stream = tested_not_less (length stream) 11 long in
-        let least : size_in_front stream ≡ min (11 + body_size stream) (length stream) = long_size stream enough in
-        let of_piece : 11 ≤ length piece = omega (arith, as_long, least, enough) in
-        let size : body_size stream ≡ body_size piece = ap body_size behind ∙ same_size piece (drop (size_in_front stream) stream) of_piece in
-        by_size (by_cut enough least of_piece size (a_part n piece there))
 
 -- ---- a record by itself
 

@@ -5,7 +5,7 @@ pub mod Arriving
 pub mod Output
 pub mod TextsRead
 pub mod Stepped
-pub mod Walking
+pub mod SeenThrough
 pub mod Passing
 pub mod Pieces
 pub mod Shown

@@ -13,7 +13,7 @@ use Rattle.run_stepper.specs.Trace.{ending_by}
 use Rattle.run_stepper.specs.declared.ending.Ending.{Ending}
 use Rattle.run_stepper.specs.declared.ending.Ending.TheVariants as ended
 use Rattle.run_stepper.specs.declared.handled.Handled.TheVariants as handled
-use Rattle.run_stepper.specs.Watching.{Arrives, EndsThere, GoesThrough, IsFed, IsNew, MeetsEnd, SeesMore, Took, Watched, ending_at, without_bytes}
+use Rattle.run_stepper.specs.Watching.{GoesThrough, IsFed, IsNew, ending_at, without_bytes}
 
 -- what is known of bytes that come and records that are handed out
 pub record Laws : Type 0 where

@@ -1,8 +1,7 @@
 -- The records of a stream are shown to an observer, one by one.
-use Rattle.std.proofs.Common.{◌≡◌, ℕ, ◌+◌, Bool, true, false, List, [], ◌∷◌, ◌++◌, length, length-append, Option, refl, ap, sym, ◌∙◌, subst, arith}
+use Rattle.std.proofs.Common.{◌≡◌, ℕ, ◌+◌, Bool, false, List, [], ◌∷◌, ◌++◌, length, length-append, Option, refl, ap, sym, ◌∙◌, subst, arith}
 use Rattle.std.proofs.lemmas.Bool.{false≢true}
 use Rattle.std.specs.Io.KnownBytes.{IsAtEnd}
-use Rattle.lc_model.specs.Host.Stream.{EndOfStream, CutRecord}
 use Rattle.flight_core.specs.Feeding.{Feeding}
 use Rattle.flight_core.specs.Records.{Held}
 use Rattle.run_stepper.specs.Stepping.{GoesOn, HandlesAlone, HandlesRecord, MeetsNoRecord, Waits, holding_none}

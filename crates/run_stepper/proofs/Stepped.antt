@@ -68,7 +68,7 @@ module _ (n : ℕ) (bytes more : List ℕ) (entry : StreamEntry) (one : records_
   there : IsRecord both entry more
   there = a_record n both entry more ((all_fronts_stay all_kinds n bytes more).a_record entry [] own)
 
-  as_long : size_in_front both ≡ length bytes
+  pub as_long : size_in_front both ≡ length bytes
   as_long = omega (arith, long_size both there.long, there.inside, ap length there.behind, length-drop (11 + body_size both) both, length-append bytes more)
 
   given_is : bytes ≡ take (size_in_front both) both
@@ -113,6 +113,20 @@ module _ (pairs : List TablePair) (first : Executive (List ℕ)) (stream : List 
   none_of [] none = refl
   none_of (entry ∷ entries) none = absurd (omega (arith, none))
 
+  -- after as many records as the stream has none is left
+  pub none_left : (last : Feeding) (done : List Part) (behind : List ℕ) → Tracing pairs first stream last done behind → length done ≡ length (records_of (length pairs) stream).0 →
+      (left pairs first stream (length done) behind).0 ≡ []
+  none_left last done behind far many =
+      let others : List StreamEntry = (left pairs first stream (length done) behind).0 in
+      none_of others (omega (
+        arith,
+        many,
+        ap length far.writes,
+        length-append done (parts_from (meanings_of pairs) (executive_in last.host) others),
+        as_many (meanings_of pairs) others (executive_in last.host),
+        as_many (meanings_of pairs) (records_of (length pairs) stream).0 first,
+      ))
+
   -- all records were gone through
   finishes : (last : Feeding) (steps : List Step) (behind : List ℕ) (ending : Ending) → Tracing pairs first stream last (map part_of steps) behind →
       AreItsRecords (length pairs) stream steps ending → Finishes pairs first stream last.host (map part_of steps) ending
@@ -122,15 +136,7 @@ module _ (pairs : List TablePair) (first : Executive (List ℕ)) (stream : List 
       let others : List StreamEntry = (left pairs first stream (length parts) behind).0 in
       let many : length steps ≡ length (records_of (length pairs) stream).0 =
       sym (length-map steps (λ (step : Step). records_of (length pairs) step.bytes)) ∙ ap length all.each ∙ length-map (records_of (length pairs) stream).0 one_record in
-      let none : others ≡ [] = none_of others (omega (
-        arith,
-        many,
-        length-map steps part_of,
-        ap length far.writes,
-        length-append parts (parts_from (meanings_of pairs) (executive_in last.host) others),
-        as_many (meanings_of pairs) others (executive_in last.host),
-        as_many (meanings_of pairs) (records_of (length pairs) stream).0 first,
-      )) in
+      let none : others ≡ [] = none_left last parts behind far (length-map steps part_of ∙ many) in
       record {
         writes =
             sym (append-nil parts)

@@ -1,19 +1,17 @@
 -- A run over a stream, record by record, and what is left of it.
-use Rattle.std.proofs.Common.{◌≡◌, refl, sym, ◌∙◌, ap, subst, ℕ, ◌+◌, ◌<◌, ◌≤◌, Bool, true, false, true≢false, ◌==◌, nat_lt, List, [], ◌∷◌, ◌++◌, length, take, drop, map, length-append, length-take, append_assoc, append-nil, Option, Some, None, option_map, Result, Ok, Err, arith}
+use Rattle.std.proofs.Common.{◌≡◌, refl, sym, ◌∙◌, ap, subst, ℕ, ◌+◌, ◌≤◌, false, List, [], ◌∷◌, ◌++◌, length, take, drop, map, length-append, length-take, append_assoc, append-nil, Option, Some, None, option_map, Result, Ok, Err, arith}
 use Rattle.std.specs.Option.{option_or}
 use Rattle.std.specs.List.{concat}
-use Rattle.std.proofs.lemmas.List.{take-append-drop, take_all}
+use Rattle.std.proofs.lemmas.List.{take-append-drop}
 use Rattle.lc_model.specs.Device.{Sink}
 use Rattle.lc_model.specs.Tables.Interpretation.{FileMeanings}
 use Rattle.lc_model.specs.Host.Run.{input_of}
 use Rattle.lc_model.specs.Host.Schedule.{Schedule}
-use Rattle.lc_model.specs.Host.Stream.{StreamEntry, End, Bad, Truncated, Front, Record, NoRecord, CutRecord, all_kinds, body_size, front, records_by_front, records_numbered, records_of}
+use Rattle.lc_model.specs.Host.Stream.{StreamEntry, End, Front, Record, all_kinds, front, records_by_front, records_numbered, records_of}
 use Rattle.lc_model.specs.Kept.Executive.{Executive, Member, first_executive, step_by}
 use Rattle.lc_model.specs.Kept.Stations as model
 use Rattle.lc_model.specs.Kept.Stations.{first_host}
-use Rattle.lc_model.proofs.Facts.{test_unequal, tested_less, tested_not_less}
 use Rattle.lc_model.proofs.Host.Streams.{front_decides}
-use Rattle.lc_model.specs.Kept.Summary.{LcOwn}
 use Rattle.host_refinement.specs.Statements.{executive_after}
 use Rattle.rpn_compiler.specs.declared.files.TablePair.{TablePair}
 use Rattle.app_host.specs.Shared.{on_board}
@@ -25,52 +23,19 @@ use Rattle.flight_core.specs.declared.halt.Halt.TheVariants as halt
 use Rattle.flight_core.specs.Brought.{meanings_of}
 use Rattle.flight_core.specs.Feeding.{Feeding, HandlesOne, fed_with}
 use Rattle.flight_core.specs.Flight.{AreAllKnown}
-use Rattle.flight_core.specs.Front.{part_of}
-use Rattle.flight_core.specs.Going.{IsHandled, MeetsNone, NoneIsHeld}
+use Rattle.flight_core.specs.Going.{IsHandled}
 use Rattle.flight_core.specs.Records.{Held}
 use Rattle.flight_core.specs.Run.{members_of}
 use Rattle.flight_core.proofs.Known.{all_not_other, known_first, party_known, still_known}
 use Rattle.flight_profile.specs.Stock.{names_of}
 use Rattle.run_stepper.specs.declared.ending.Ending.{Ending}
-use Rattle.run_stepper.specs.declared.ending.Ending.TheVariants as ended
-use Rattle.run_stepper.specs.declared.error.CourseError.{CourseError}
-use Rattle.run_stepper.specs.declared.handled.Handled.{Handled}
 use Rattle.run_stepper.specs.declared.handled.Handled.TheVariants as handled
 use Rattle.flight_profile.specs.Checkers.{engine_among, engine_of}
-use Rattle.run_stepper.specs.Stepping.{HasStepped, BeginsWith, one_record, told_of}
-use Rattle.run_stepper.specs.declared.standing.RuleStanding.{RuleStanding}
+use Rattle.run_stepper.specs.Stepping.{HasStepped, BeginsWith, told_of}
 use Rattle.run_stepper.specs.Trace.{HasRun, Part, Traced, ending_by, engine_in, moment_in, parts_from, size_in_front}
-use Rattle.run_stepper.proofs.InFront.{IsAllOf, a_record, all_of, by_itself, long_size, none_of, part_of_all, short_size}
+use Rattle.run_stepper.proofs.InFront.{IsAllOf, all_of}
 
 -- ---- so far
-
-some_size : (bytes : List ℕ) → 0 < length bytes → 0 < size_in_front bytes
-some_size bytes some = by_test (nat_lt (length bytes) 11) refl
-  where
-    by_test : (b : Bool) → nat_lt (length bytes) 11 ≡ b → 0 < size_in_front bytes
-    by_test true short = omega (arith, short_size bytes (tested_less (length bytes) 11 short), some)
-    by_test false long = let enough : 11 ≤ length bytes = tested_not_less (length bytes) 11 long in omega (arith, long_size bytes enough, enough)
-
--- no record is in front of what is left, by which the stream ends so behind so many records, and the host stays as it was
-pub record MeetsFault (now before : Hosted) (left : List StreamEntry × End) (count : ℕ) (ending : Ending) : Type 0 where
-  pub end : End
-  pub none : left ≡ ([], end)
-  pub ends : ending ≡ ending_by count end
-  pub host : now ≡ before
-
--- bytes are one record, and nothing else
-pub record IsOneRecord (texts : ℕ) (bytes : List ℕ) : Type 0 where
-  pub entry : StreamEntry
-  pub one : records_of texts bytes ≡ one_record entry
-
--- the bytes up to the end of a record that is in front of others are it
-alone_in_front : (n : ℕ) (bytes given : List ℕ) (entry : StreamEntry) (rest : List ℕ) → front all_kinds n bytes ≡ Record entry rest → given ≡ take (size_in_front bytes) bytes → records_of n given ≡ one_record entry
-alone_in_front n bytes given entry rest there is =
-    let record_is = a_record n bytes entry rest there in
-    let size : size_in_front bytes ≡ 11 + body_size bytes = omega (arith, long_size bytes record_is.long, record_is.inside) in
-    let own : given ≡ take (11 + body_size bytes) bytes = is ∙ ap (λ k. take k bytes) size in
-    front_decides all_kinds n 1 given
-    ∙ ap (records_by_front (records_numbered all_kinds n 2) 1) (ap (front all_kinds n) own ∙ by_itself n bytes entry rest there)
 
 module _ (pairs : List TablePair) (first : Executive (List ℕ)) (stream : List ℕ) where
   abbrev texts : ℕ
@@ -96,18 +61,6 @@ module _ (pairs : List TablePair) (first : Executive (List ℕ)) (stream : List 
     pub writes : done ≡ parts_from (meanings_of pairs) first (records_of texts stream).0
     pub ends : ending ≡ ending_by (length done) (records_of texts stream).1
     pub stands : executive_in h ≡ executive_after on_board first (meanings_of pairs) (records_of texts stream).0
-
-  -- nothing is left
-  pub over : (it : Feeding) (done : List Part) (rest : List ℕ) → Tracing it done rest → rest ≡ [] → Finishes it.host done (ended.Whole (length done))
-  unfolding parts_from executive_after
-  over it done rest far none = record {
-    writes =
-        sym (append-nil done)
-        ∙ ap (λ (r : List ℕ). done ++ parts_from (meanings_of pairs) (executive_in it.host) (left (length done) r).0) (sym none)
-        ∙ far.writes;
-    ends = ap (ending_by (length done)) (ap (λ (r : List ℕ). (left (length done) r).1) (sym none) ∙ far.ends);
-    stands = ap (λ (r : List ℕ). executive_after on_board (executive_in it.host) (meanings_of pairs) (left (length done) r).0) (sym none) ∙ far.stands;
-  }
 
   -- no whole record is in front of what is left
   pub ends_there : (it : Feeding) (done : List Part) (rest : List ℕ) (e : End) → Tracing it done rest → left (length done) rest ≡ ([], e) → Finishes it.host done (ending_by (length done) e)
@@ -150,56 +103,6 @@ module _ (pairs : List TablePair) (first : Executive (List ℕ)) (stream : List 
         front_decides all_kinds texts (1 + length done) rest
         ∙ (let next : 1 + length done + 1 ≡ 1 + (1 + length done) = omega arith in
         λ i. records_by_front (records_numbered all_kinds texts (next i)) (1 + length done) (there i))
-
-    -- what comes next is no record
-    pub no_record : (new : Feeding) (written : List ℕ) → HasStepped given it new written (Ok handled.NoRecord) → MeetsFault new.host it.host (left (length done) rest) (length done) (ended.NoRecord (length done + 1))
-    no_record new written step = by_answer step.answer step.one step.told
-      where
-        meets : {before now : Sink} → MeetsNone (meanings_of it.files) (fed_with given it).held new.held it.host new.host before now →
-            MeetsFault new.host it.host (left (length done) rest) (length done) (ended.NoRecord (length done + 1))
-        meets none =
-            let there : front all_kinds texts rest ≡ NoRecord = none_of texts rest piece (drop 73739 given ++ behind) parted (in_texts NoRecord none.front) in
-            let number : 1 + length done ≡ length done + 1 = omega arith in
-            record { end = Bad (1 + length done); none = decided NoRecord there; ends = ap ended.NoRecord (sym number); host = none.host }
-
-        by_answer : {before now : Sink} (answer : Result (Option ℕ) Halt) → HandlesOne (fed_with given it) new before now answer → Ok handled.NoRecord ≡ told_of answer →
-            MeetsFault new.host it.host (left (length done) rest) (length done) (ended.NoRecord (length done + 1))
-        by_answer (Ok (Some total)) one told = absurd (cc told)
-        by_answer (Ok None) one told = absurd (cc told)
-        by_answer (Err halt.NoRecord) one told = meets (one.where_open far.is_open)
-        by_answer (Err (halt.Unsent sent)) one told = absurd (cc told)
-        by_answer (Err halt.Fault) one told = absurd (cc told)
-        by_answer (Err halt.Bound) one told = absurd (cc told)
-
-    -- the stream ends inside it
-    pub a_part : (new : Feeding) (written : List ℕ) → 0 < length rest → HasStepped given it new written (Ok handled.Part) →
-        MeetsFault new.host it.host (left (length done) rest) (length done) (ended.Cut (length done + 1))
-    a_part new written some step = by_answer step.answer step.one step.told
-      where
-        cut_of : (bytes : List ℕ) → 0 < length bytes → part_of bytes ≡ CutRecord
-        cut_of [] more = absurd (omega (arith, more))
-        cut_of (b ∷ bytes) more = refl
-
-        holds : {before now : Sink} → NoneIsHeld (meanings_of it.files) (fed_with given it).held new.held it.host new.host before now →
-            MeetsFault new.host it.host (left (length done) rest) (length done) (ended.Cut (length done + 1))
-        holds none =
-            let short : length piece < 65547 = none.few in
-            let size : 0 < size_in_front rest = some_size rest some in
-            let long : length given ≤ 73739 = omega (arith, short, ap length piece_is, length-take 73739 given) in
-            let whole : piece ≡ take (size_in_front rest) rest = piece_is ∙ take_all 73739 given long ∙ is in
-            let there : front all_kinds texts piece ≡ CutRecord =
-            in_texts CutRecord (none.front ∙ cut_of piece (omega (arith, ap length whole, length-take (size_in_front rest) rest, size, some))) in
-            let number : 1 + length done ≡ length done + 1 = omega arith in
-            record { end = Truncated (1 + length done); none = decided CutRecord (part_of_all texts rest piece whole some there); ends = ap ended.Cut (sym number); host = none.host }
-
-        by_answer : {before now : Sink} (answer : Result (Option ℕ) Halt) → HandlesOne (fed_with given it) new before now answer → Ok handled.Part ≡ told_of answer →
-            MeetsFault new.host it.host (left (length done) rest) (length done) (ended.Cut (length done + 1))
-        by_answer (Ok (Some total)) one told = absurd (cc told)
-        by_answer (Ok None) one told = holds (one.where_open far.is_open)
-        by_answer (Err halt.NoRecord) one told = absurd (cc told)
-        by_answer (Err (halt.Unsent sent)) one told = absurd (cc told)
-        by_answer (Err halt.Fault) one told = absurd (cc told)
-        by_answer (Err halt.Bound) one told = absurd (cc told)
 
     -- ---- one record more
 
@@ -260,25 +163,6 @@ module _ (pairs : List TablePair) (first : Executive (List ℕ)) (stream : List 
         by_answer : (answer : Result (Option ℕ) Halt) → HandlesOne (fed_with given it) new (record { gained = Some []; failed = step.failed }) (record { gained = Some part.packets; failed = step.fails }) answer →
             Ok handled.Whole ≡ told_of answer → Tracing new (done ++ part ∷ []) behind
         by_answer (Ok (Some total)) one told = goes _ _ total refl refl one.files (one.where_open far.is_open)
-        by_answer (Ok None) one told = absurd (cc told)
-        by_answer (Err halt.NoRecord) one told = absurd (cc told)
-        by_answer (Err (halt.Unsent sent)) one told = absurd (cc told)
-        by_answer (Err halt.Fault) one told = absurd (cc told)
-        by_answer (Err halt.Bound) one told = absurd (cc told)
-
-    -- its bytes are that record, and nothing else
-    pub one_alone : (new : Feeding) (written : List ℕ) → HasStepped given it new written (Ok handled.Whole) → IsOneRecord texts given
-    one_alone new written step = by_answer step.answer step.one step.told
-      where
-        goes : {before now : Sink} {total : ℕ} → IsHandled (meanings_of it.files) (fed_with given it).held new.held it.host new.host before now total → IsOneRecord texts given
-        goes is_handled =
-            let entry : StreamEntry = is_handled.next.entry in
-            let there : front all_kinds texts piece ≡ Record entry is_handled.next.rest = in_texts (Record entry is_handled.next.rest) is_handled.next.front in
-            let found : IsAllOf texts rest piece (drop 73739 given ++ behind) parted entry is_handled.next.rest = all_of texts rest piece (drop 73739 given ++ behind) parted entry is_handled.next.rest few there in
-            record { entry = entry; one = alone_in_front texts rest given entry (drop (size_in_front rest) rest) found.there is }
-
-        by_answer : {before now : Sink} (answer : Result (Option ℕ) Halt) → HandlesOne (fed_with given it) new before now answer → Ok handled.Whole ≡ told_of answer → IsOneRecord texts given
-        by_answer (Ok (Some total)) one told = goes (one.where_open far.is_open)
         by_answer (Ok None) one told = absurd (cc told)
         by_answer (Err halt.NoRecord) one told = absurd (cc told)
         by_answer (Err (halt.Unsent sent)) one told = absurd (cc told)

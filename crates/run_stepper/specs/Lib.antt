@@ -2,5 +2,5 @@ pub mod Events
 pub mod Stepping
 pub mod Trace
 pub mod Steps
-pub mod Walk
+pub mod Places
 pub mod Watching

@@ -104,11 +104,6 @@ abbrev pub standing_in : Option LcOwn → ℕ → RuleStanding
 standing_in None rule = standing.Stopped
 standing_in (Some own) rule = standing_by (slice_get own.points rule)
 
--- the standing of the rule with this number after the records of a stream
-abbrev pub IsStanding : List (List ℕ) → Schedule → List ℕ → ℕ → RuleStanding → Type 0
-IsStanding sources schedule stream rule found =
-    (t : Traced) × (now : Executive (List ℕ)) × HasRun sources schedule stream t now × (found ≡ standing_in (engine_in now.seats) rule)
-
 -- ---- packet by packet
 
 -- a packet of a run, with the number, from 0, and the moment of the record that led to it

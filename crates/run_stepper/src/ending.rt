@@ -9,6 +9,6 @@ pub enum Ending {
     NoRecord { n: u64 },
     /// Inside record `n`, counted from 1.
     Cut { n: u64 },
-    /// At the bound of reads. A `Walk` never ends so.
+    /// At the bound of reads. `watch` never returns it.
     Bound,
 }

@@ -1,5 +1,6 @@
-//! Laws of the definitions: the packets of each record, and the output of a run.
+//! Laws of the definitions: the packets of each record, the output of a run, and what a watched run shows at a place.
 
+ghost use Rattle.run_stepper.specs.Places.{RunsAreSeenThrough};
 ghost use Rattle.run_stepper.specs.Steps.{StepsAreARun};
 ghost use Rattle.run_stepper.specs.Trace.{PartsAreTheOutput};
 
@@ -12,4 +13,9 @@ pub fn parts_are_the_output()
 /// definitions call for.
 pub fn steps_are_a_run()
     ensures { StepsAreARun }
+{}
+
+/// What a watched run shows at a place of its stream is what stands after the bytes before that place.
+pub fn runs_are_seen_through()
+    ensures { RunsAreSeenThrough }
 {}

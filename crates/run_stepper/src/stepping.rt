@@ -9,11 +9,13 @@ ghost use Rattle.run_stepper.specs.declared.error.CourseError.TheVariants.{Memor
 ghost use Rattle.run_stepper.specs.Events.{is_type_of_checker_on};
 ghost use Rattle.flight_profile.specs.Force.{text_in_force};
 ghost use Rattle.flight_profile.specs.Checkers.{engine_among, slot_among};
-ghost use Rattle.run_stepper.specs.Stepping.{BeginsWith, GoesOn, HandlesAlone, HasHandled, HasStepped, IsAtRest, IsRefusal, host_in, refusal_of, written_by};
+ghost use Rattle.run_stepper.specs.Stepping.{BeginsWith, GoesOn, HandlesAlone, HasHandled, IsAtRest, IsRefusal, host_in, refusal_of, written_by};
+ghost use Rattle.run_stepper.specs.Trace.{engine_in, standing_in};
 ghost use Rattle.run_stepper.specs.Watching.{IsNew};
 
 use crate::error::CourseError;
 use crate::handled::Handled;
+use crate::standing::{RuleStanding, standing_in};
 use flight_core::{FedHost, Halt, RunError};
 use flight_profile::{Member, engine_on, own_stock, slot_on, text_in_force};
 use lc_model::{ByteSink, DeviceFault, EventKind};
@@ -117,18 +119,6 @@ impl Stepping {
         }
     }
 
-    /// Feeds these bytes, and handles the next record. The only error is `Memory`.
-    pub(crate) fn step(&mut self, bytes: &[u8]) -> Result<Handled, CourseError>
-        requires ready { IsAtRest self.old }
-        ensures ready { IsAtRest self.new }
-        ensures stepped { HasStepped bytes.now (host_in self.old) (host_in self.new)
-            (written_by self.new) result }
-        ensures memory { IfErr result (λ error. error ≡ Memory) }
-    {
-        let _taken = self.feed(bytes);
-        self.handle()
-    }
-
     /// The bytes of the record that was handled last, header and body. Valid until the next `feed`.
     pub fn last_record(&self) -> &[u8]
         ensures { result.now ≡ (host_in self.now).held.last }
@@ -158,6 +148,15 @@ impl Stepping {
             engine_among (host_in self.now).host.seats }
     {
         engine_on(self.fed.host())
+    }
+
+    /// The state and last result of the rule with this number, from 0.
+    pub fn rule_standing(&self, rule: usize) -> RuleStanding
+        requires { IsAtRest self.now }
+        ensures { result ≡ standing_in
+            (engine_in (executive_in (host_in self.now).host).seats) rule }
+    {
+        standing_in(self.checker(), rule)
     }
 
     /// The number, from 0, of the rule text in force among those that these table files are of: the first whose images are the

@@ -1,9 +1,14 @@
 //! The packets that each record of a stream led to.
 
-ghost use Rattle.std.specs.Prelude.{◌≡◌, ◌++◌, IfOk};
+ghost use Rattle.std.specs.Prelude.{◌≡◌, ◌++◌, ◌∷◌, [], IfOk};
+ghost use Rattle.run_stepper.specs.declared.ending.Ending.TheVariants as ended;
+ghost use Rattle.run_stepper.specs.Steps.{part_of};
 ghost use Rattle.run_stepper.specs.Trace.{arrived_by, arrived_from, has_record};
+ghost use Rattle.run_stepper.specs.Watching.{step_shown};
 
 use crate::ending::Ending;
+use crate::framing::moment_of;
+use crate::stepping::Stepping;
 use lc_model::Moment;
 use lc_model::packet::first_packet;
 use std::alloc::{AllocError, Global};
@@ -11,7 +16,7 @@ use std::marker::Model;
 
 /// A record's moment, and the packets that it led to, one after the other.
 #[derive(Drop)]
-pub(crate) struct Led {
+struct Led {
     moment: Moment,
     packets: Vec<u8>,
 }
@@ -26,7 +31,7 @@ impl Model for Led {
 
 impl Led {
     /// Copies these packets of a record at this moment. The only error is out of memory.
-    pub(crate) fn of(alloc: Global, moment: Moment, packets: &[u8]) -> Result<Led, AllocError>
+    fn of(alloc: Global, moment: Moment, packets: &[u8]) -> Result<Led, AllocError>
         ensures { IfOk result (λ led. led ≡ record { moment = moment; packets = packets.now }) }
     {
         Ok(Led {
@@ -55,11 +60,11 @@ impl<'a> Model for Came<'a> {
     ghost view = { λ came. record { place = came.place; moment = came.moment; packet = came.packet.now } };
 }
 
-/// A finished run over a stream: the packets that each record led to, up to the first fault, and how the stream ended.
+/// A run over a stream: the packets that each record led to, up to the first fault, and how the stream ended. An observer fills it.
 #[derive(Drop)]
 pub struct Trace {
-    pub(crate) parts: Vec<Led>,
-    pub(crate) ending: Ending,
+    parts: Vec<Led>,
+    ending: Ending,
 }
 
 impl Model for Trace {
@@ -87,6 +92,36 @@ fn push_packets<'a>(came: &mut Vec<Came<'a>>, place: usize, led: &'a Led) -> Res
 }
 
 impl Trace {
+    /// A trace without a record, of a stream that ended whole.
+    pub fn new(alloc: Global) -> Trace
+        ensures { result ≡ record { parts = []; ending = ended.Whole 0 } }
+    {
+        Trace {
+            parts: Vec::new(alloc),
+            ending: Ending::Whole { records: 0 },
+        }
+    }
+
+    /// Adds the record that was handled last: its moment, and the packets that it led to. The only error is out of memory.
+    pub fn add(&mut self, alloc: Global, stepping: &Stepping) -> Result<(), AllocError>
+        ensures { IfOk result (λ _. self.new ≡ record {
+          parts = self.old.parts ++ part_of (step_shown stepping.now) ∷ [];
+          ending = self.old.ending;
+        }) }
+    {
+        let moment = moment_of(stepping.last_record());
+        let led = Led::of(alloc, moment, stepping.packets())?;
+        self.parts.push(led)?;
+        Ok(())
+    }
+
+    /// Stores how the stream ended.
+    pub fn end(&mut self, ending: Ending)
+        ensures { self.new ≡ record { parts = self.old.parts; ending = ending } }
+    {
+        self.ending = ending;
+    }
+
     /// How the stream ended.
     pub fn ending(&self) -> Ending
         ensures { result ≡ self.now.ending }

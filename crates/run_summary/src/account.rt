@@ -10,7 +10,7 @@ use crate::place::{ABSENT, Place, Stand, stand_in};
 use crate::plans::{Part, RulePlans, parts_at, plans_of};
 use crate::recent::{Recent, drop_values, no_values, take_values};
 use crate::samples::FailRun;
-use crate::seen::{Seen, all_unseen, count_all_anew, forget_all, see_all};
+use crate::seen::{FieldRange, NO_FIELDS, Seen, all_unseen, count_all_anew, forget_all, see_all};
 use crate::sent::Sending;
 use crate::texts::{fields_of, rule_count};
 use crate::uplinks::{UPLINKS, Uplink, keep_uplink};
@@ -29,6 +29,8 @@ pub struct Account<'a> {
     pub lanes: usize,
     /// What is known of each field that the texts' rules compare.
     pub seen: Vec<Seen<'a>>,
+    /// Where the fields lie of which the newest record brought values.
+    pub came: FieldRange,
     pub(crate) recent: Vec<Recent>,
     pub(crate) rows: Vec<FailRun>,
     /// The rules before the newest record.
@@ -115,6 +117,7 @@ impl<'a> Account<'a> {
             plans,
             lanes,
             seen,
+            came: NO_FIELDS,
             recent,
             rows,
             before,
@@ -131,8 +134,8 @@ impl<'a> Account<'a> {
         parts_at(self.plans.as_slice(), text, rule)
     }
 
-    /// Takes a record: counts and keeps what it brings. Call it before `show`, `sample`, `write` and `stand` for that record. `Seen::come_in`
-    /// then has the field values that it brought. The only error is a lack of memory.
+    /// Takes a record: counts and keeps what it brings. Call it before `show`, `sample`, `write` and `stand` for that record. `came` and
+    /// `Seen::come_in` then tell the field values that it brought. The only error is a lack of memory.
     pub fn add_record(&mut self, bytes: &[u8], place: Place) -> Result<(), AllocError> {
         let brings = read_record(bytes);
         self.figures.take(brings);
@@ -148,15 +151,18 @@ impl<'a> Account<'a> {
         match brings {
             Brought::Telemetry(packet) => {
                 let is_taken = self.bands.is_watching();
-                see_all(&mut self.seen, packet, place, is_taken);
-                take_values(self.seen.as_slice(), place, &mut self.recent)
+                self.came = see_all(&mut self.seen, packet, place, is_taken);
+                take_values(self.seen.as_slice(), self.came, place, &mut self.recent)
             }
-            Brought::Tick | Brought::Command | Brought::File => Ok(()),
+            Brought::Tick | Brought::Command | Brought::File => {
+                self.came = NO_FIELDS;
+                Ok(())
+            }
         }
     }
 
     /// Takes what the host shows after the record: the number of the text in force, and the types of events that are on for the Limit
-    /// Checker. Call it after `add_record` and before `sample` and `write` where `is_asked` says so.
+    /// Checker. Call it after `add_record` and before `sample` and `write`, where these may have changed.
     pub fn show(&mut self, force: Option<usize>, types: TypesOn) {
         self.types = types;
         self.bands.show(force);

@@ -1,6 +1,5 @@
 //! What a record brings, as far as a page shows it.
 
-use lc_model::mids;
 use lc_model::packet::message_id;
 use lc_model::stream::HEADER;
 
@@ -51,21 +50,4 @@ pub(crate) fn read_record(bytes: &[u8]) -> Brought<'_> {
         return Brought::Telemetry(&[]);
     }
     body_brought(bytes[0], bytes.split_at(HEADER).1)
-}
-
-/// Whether a record of these bytes brings a sample request.
-fn is_sample_request(bytes: &[u8]) -> bool {
-    HEADER + 2 <= bytes.len() && message_id(bytes.split_at(HEADER).1) == mids::SAMPLE
-}
-
-/// Whether `Account::show` has to be called at the record with these bytes, which led to these packets: it brings a file or a half of a
-/// rule text, a command that is no sample request, or a tick that led to packets. No other record changes the tables in force or the
-/// types of events that are on.
-pub fn is_asked(bytes: &[u8], packets: &[u8]) -> bool {
-    match read_record(bytes) {
-        Brought::Telemetry(_) => false,
-        Brought::Tick => !packets.is_empty(),
-        Brought::Command => !is_sample_request(bytes),
-        Brought::File => true,
-    }
 }

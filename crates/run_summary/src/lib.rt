@@ -23,7 +23,6 @@ mod values;
 
 pub use account::Account;
 pub use bands::{Bands, How, ModeFrom, TablesFrom};
-pub use brought::is_asked;
 pub use ends::{Ends, Left};
 pub use figures::Figures;
 pub use holds::{Hold, TypesOn};
@@ -31,7 +30,7 @@ pub use place::{ABSENT, Place, Stand, result_bit, stand_in, state_bit};
 pub use plans::Part;
 pub use recent::{FieldValues, ValueFrom};
 pub use samples::{Sample, verdict};
-pub use seen::{Met, Seen};
+pub use seen::{FieldRange, Met, Seen};
 pub use sent::{Request, SeenEvent, Sending};
 pub use texts::{Field, condition_tokens, rule_at, rule_count, token_bytes};
 pub use uplinks::Uplink;

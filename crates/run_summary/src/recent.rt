@@ -2,7 +2,7 @@
 
 use crate::place::Place;
 use crate::plans::Part;
-use crate::seen::Seen;
+use crate::seen::{FieldRange, Seen};
 use std::alloc::{AllocError, Global};
 use std::collections::VecDeque;
 
@@ -81,12 +81,17 @@ pub(crate) fn no_values(alloc: Global, fields: usize) -> Result<Vec<Recent>, All
     Ok(all)
 }
 
-/// Takes the values that the packet at this place brought. The only error is a lack of memory.
+/// Takes the values that the packet at this place brought, of the fields in this range. The only error is a lack of memory.
 pub(crate) fn take_values(
     seen: &[Seen<'_>],
+    range: FieldRange,
     place: Place,
     all: &mut [Recent],
 ) -> Result<(), AllocError> {
+    let FieldRange { first, end } = range;
+    let (Some(all), Some(seen)) = (all.get_mut(first..end), seen.get(first..end)) else {
+        return Ok(());
+    };
     for (recent, seen) in all.iter_mut().zip(seen.iter()) {
         if let Some(met) = seen.come_in(place) {
             recent.take(place, met.value)?;

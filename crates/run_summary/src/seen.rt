@@ -62,11 +62,13 @@ impl<'a> Seen<'a> {
         }
     }
 
-    /// Takes a packet with this message id if it is the field's.
-    fn see(&mut self, mid: u16, packet: &[u8], place: Place, is_taken: bool) {
-        if self.field.mid == u32::from(mid) {
+    /// Takes a packet with this message id if it is the field's. Returns whether it is.
+    fn see(&mut self, mid: u16, packet: &[u8], place: Place, is_taken: bool) -> bool {
+        let is_own = self.field.mid == u32::from(mid);
+        if is_own {
             self.take(packet, place, is_taken);
         }
+        is_own
     }
 
     /// The field's value in its last packet, if that is of this place; else `None`.
@@ -105,16 +107,38 @@ pub(crate) fn all_unseen<'a>(
     Ok(all)
 }
 
+/// Where the fields lie of which a record brought values: from this index on, before that one. Others may lie between them.
+#[derive(Clone, Copy)]
+pub struct FieldRange {
+    pub first: usize,
+    pub end: usize,
+}
+
+/// Of no field.
+pub(crate) const NO_FIELDS: FieldRange = FieldRange { first: 0, end: 0 };
+
 /// Takes a telemetry packet, unless the host refuses it: the fields of its message id get new values. `is_taken` says whether the Limit
-/// Checker takes the packets that it watches.
-pub(crate) fn see_all(all: &mut [Seen<'_>], packet: &[u8], place: Place, is_taken: bool) {
+/// Checker takes the packets that it watches. Returns where these fields lie.
+pub(crate) fn see_all(
+    all: &mut [Seen<'_>],
+    packet: &[u8],
+    place: Place,
+    is_taken: bool,
+) -> FieldRange {
     if packet.len() < 2 || stream_fault(packet).is_some() {
-        return;
+        return NO_FIELDS;
     }
     let mid = message_id(packet);
-    for seen in all.iter_mut() {
-        seen.see(mid, packet, place, is_taken);
+    let mut range = NO_FIELDS;
+    for (index, seen) in all.iter_mut().enumerate() {
+        if seen.see(mid, packet, place, is_taken) {
+            if range.end == 0 {
+                range.first = index;
+            }
+            range.end = index.saturating_add(1);
+        }
     }
+    range
 }
 
 /// Clears what comparisons meet of all fields.

@@ -1,25 +1,15 @@
 -- Expectations stand in the order of their lines, and these begin one after the other in the stream.
-use Rattle.std.proofs.Common.{◌≡◌, refl, sym, ◌∙◌, ap, subst, ℕ, zero, suc, ◌+◌, ◌-◌, ◌<◌, ◌≤◌, List, [], ◌∷◌, ◌++◌, length, map, take, drop, append_assoc, append-nil, Option, Some, None, Result, Ok, Err, slice_index, arith}
+use Rattle.std.proofs.Common.{◌≡◌, refl, sym, ◌∙◌, ap, subst, ℕ, zero, suc, ◌+◌, ◌-◌, ◌<◌, ◌≤◌, List, [], ◌∷◌, ◌++◌, length, map, append_assoc, append-nil, Option, Some, None, Result, Ok, Err, slice_index, arith}
 use Rattle.std.specs.Prelude.{⊤}
 use Rattle.std.specs.List.{AllByRecursion}
-use Rattle.std.proofs.Math.ListN.{get_or}
-use Rattle.std.proofs.lemmas.List.{drop_more, length-map}
-use Rattle.lc_model.specs.Host.Schedule.{Schedule}
+use Rattle.std.proofs.lemmas.List.{length-map}
 use Rattle.lc_model.specs.Host.ScheduleText.{lines_of, words_of}
-use Rattle.lc_model.specs.Kept.Executive.{Executive}
-use Rattle.rpn_compiler.specs.declared.files.TablePair.{TablePair}
-use Rattle.flight_core.specs.Compiled.{AreAllCompiled}
-use Rattle.scenarios.specs.Declarations.{Declarations}
 use Rattle.stream_script.specs.ByLines.{AreStarts}
-use Rattle.run_stepper.specs.declared.standing.RuleStanding.{RuleStanding}
-use Rattle.flight_profile.specs.Force.{text_in_force}
-use Rattle.run_stepper.specs.Trace.{engine_in}
-use Rattle.run_stepper.specs.Walk.{Course, StandsBehind}
 use Rattle.scenario_trial.specs.declared.expectation_lines.Placed.{Placed}
 use Rattle.scenario_trial.specs.declared.fault.ExpectationFault.{ExpectationFault}
-use Rattle.scenario_trial.specs.declared.verdict.Judged.{Judged}
-use Rattle.scenario_trial.specs.Arrivals.{AreAhead, IsFound, placed_in, rule_in, standing_named}
-use Rattle.scenario_trial.specs.Expected.{Expected, expected_of}
+use Rattle.scenario_trial.specs.Expected.{Expected}
+use Rattle.scenario_trial.specs.ProbedLine.{ProbedLine}
+use Rattle.scenario_trial.specs.Probes.{AreAhead, IsOfLine, expected_line}
 use Rattle.scenario_trial.specs.Reading.{PlacedExpected, ReadFault, expectations_in, line_expected, lines_expected, placed_of, silenced_in, silenced_line, with_expected}
 use Rattle.scenario_trial.proofs.Comments.{lines_again}
 
@@ -95,102 +85,50 @@ module _ (starts : List ℕ) (ascend : (place : ℕ) → place + 1 < length star
       omega (arith, no_less a (b - a) (omega (arith, less, same)), ap (slice_index starts) same)
 
   ahead : (ps : List Placed) (from place : ℕ) → 0 < from → (from - 1 < length starts → place ≤ slice_index starts (from - 1)) → AreInOrder from (1 + length starts) (map placed_of ps) →
-      AreAhead place starts ps
+      AreAhead place starts (map (expected_line starts) ps)
   ahead [] from place some near is = tt
   ahead (p ∷ ps) from place some near is =
       let inside : p.n - 1 < length starts = omega (arith, is.0, is.1, some) in
       let first : from - 1 < length starts = omega (arith, is.0, inside) in
       let next : p.n + 1 - 1 ≡ p.n = omega arith in (
-        omega (arith, is.0, some),
         inside,
+        refl,
         omega (arith, near first, later (from - 1) (p.n - 1) (omega (arith, is.0)) inside),
         ahead ps (p.n + 1) (slice_index starts (p.n - 1)) (omega arith)
             (λ within. later (p.n - 1) (p.n + 1 - 1) (omega arith) within) is.2,
       )
 
-pub all_ahead : (script stream starts : List ℕ) (found : List Placed) → expectations_in script ≡ Ok (map placed_of found) → AreStarts (silenced_in script) stream starts → AreAhead 0 starts found
-all_ahead script stream starts found says begin =
-    let others : Others [] 1 (1 + length (lines_of script)) (map placed_of found) = in_order (lines_of script) [] 1 (map placed_of found) says in
-    let many : length (lines_of script) ≡ length starts = sym (begin.each ∙ ap length (lines_again script) ∙ length-map (lines_of script) silenced_line) in
-    let ordered : AreInOrder 1 (1 + length starts) (map placed_of found) =
-    subst (λ (all : List PlacedExpected). AreInOrder 1 (1 + length starts) all) (sym others.are)
-    (subst (λ (count : ℕ). AreInOrder 1 (1 + count) others.more) many others.ordered) in
-    ahead starts begin.ascend found 1 0 (omega arith) (λ within. omega arith) ordered
+inside : (starts : List ℕ) (ps : List Placed) (from : ℕ) → 0 < from → AreInOrder from (1 + length starts) (map placed_of ps) → AllByRecursion (IsOfLine starts) ps
+inside starts [] from some is = tt
+inside starts (p ∷ ps) from some is = ((omega (arith, is.0, some), omega (arith, is.0, is.1, some)), inside starts ps (p.n + 1) (omega arith) is.2)
 
--- ---- a run up to them
+-- ---- those of a script
 
-pub nearer : (place before : ℕ) (starts : List ℕ) (ps : List Placed) → before ≤ place → AreAhead place starts ps → AreAhead before starts ps
-nearer place before starts [] on is = tt
-nearer place before starts (p ∷ ps) on is = (is.0, is.1, omega (arith, on, is.2), is.3)
+module _ (script stream starts : List ℕ) (found : List Placed) (says : expectations_in script ≡ Ok (map placed_of found)) (begin : AreStarts (silenced_in script) stream starts) where
+  ordered : AreInOrder 1 (1 + length starts) (map placed_of found)
+  ordered =
+      let others : Others [] 1 (1 + length (lines_of script)) (map placed_of found) = in_order (lines_of script) [] 1 (map placed_of found) says in
+      let many : length (lines_of script) ≡ length starts = sym (begin.each ∙ ap length (lines_again script) ∙ length-map (lines_of script) silenced_line) in
+      subst (λ (all : List PlacedExpected). AreInOrder 1 (1 + length starts) all) (sym others.are)
+      (subst (λ (count : ℕ). AreInOrder 1 (1 + count) others.more) many others.ordered)
 
-pub found_there : (sources : List (List ℕ)) (schedule : Schedule) (declared : Declarations) (script stream starts : List ℕ) (pairs : List TablePair) (placed : Placed) (now : Executive (List ℕ)) (force : Option ℕ) (found : RuleStanding) →
-    AreStarts script stream starts → AreAllCompiled sources pairs → placed.n - 1 < length starts → StandsBehind sources schedule (take (slice_index starts (placed.n - 1)) stream) now →
-    force ≡ text_in_force pairs now → found ≡ standing_named declared force (engine_in now.seats) (rule_in (expected_of placed.expectation)) →
-    IsFound sources schedule declared script (record { placed = placed; force = force; found = found })
-found_there sources schedule declared script stream starts pairs placed now force found begin compiled inside behind is_force stands = record {
-  stream = take (slice_index starts (placed.n - 1)) stream;
-  says = begin.front (placed.n - 1) inside;
-  now = now;
-  behind = behind;
-  in_force = (pairs, compiled, is_force);
-  stands = stands;
-}
+  pub all_inside : AllByRecursion (IsOfLine starts) found
+  all_inside = inside starts found 1 (omega arith) ordered
 
--- with one more that is judged
-pub each_more : (judged : List Judged) (one : Judged) (rest : List Placed) → map placed_in (judged ++ one ∷ []) ++ rest ≡ map placed_in judged ++ one.placed ∷ rest
-each_more [] one rest = refl
-each_more (first ∷ judged) one rest = ap (λ others. first.placed ∷ others) (each_more judged one rest)
+  pub all_ahead : AreAhead 0 starts (map (expected_line starts) found)
+  all_ahead = ahead starts begin.ascend found 1 0 (omega arith) (λ within. omega arith) ordered
 
-pub all_more : {A : Type 0} (P : A → Type 0) (judged : List A) (one : A) → AllByRecursion P judged → P one → AllByRecursion P (judged ++ one ∷ [])
-all_more P [] one all is = (is, tt)
-all_more P (first ∷ judged) one all is = (all.0, all_more P judged one all.1 is)
+-- ---- where what is the same has several names
 
--- what is so when one more is judged, behind those so far
-pub record Further (P : Judged → Type 0) (starts : List ℕ) (ps left : List Placed) (place : ℕ) (judged : List Judged) : Type 0 where
-  pub ahead : AreAhead place starts left
-  pub each : map placed_in judged ++ left ≡ ps
-  pub found : AllByRecursion P judged
+pub inside_as : (script quiet stream starts starts' : List ℕ) (found : List Placed) → expectations_in script ≡ Ok (map placed_of found) → quiet ≡ silenced_in script → AreStarts quiet stream starts →
+    starts' ≡ starts → AllByRecursion (IsOfLine starts') found
+inside_as script quiet stream starts starts' found says silent begin same =
+    subst (λ them. AllByRecursion (IsOfLine them) found) (sym same)
+    (all_inside script stream starts found says (subst (λ q. AreStarts q stream starts) silent begin))
 
-pub one_judged : (P : Judged → Type 0) (starts : List ℕ) (ps : List Placed) (k place now : ℕ) (d : Placed) (judged after : List Judged) (force : Option ℕ) (found : RuleStanding) →
-    k < length ps → AreAhead place starts (drop k ps) → map placed_in judged ++ drop k ps ≡ ps → AllByRecursion P judged →
-    after ≡ judged ++ record { placed = get_or ps k d; force = force; found = found } ∷ [] →
-    (let at : ℕ = slice_index starts ((get_or ps k d).n - 1) in place ≤ at → now ≤ at) →
-    (let n : ℕ = (get_or ps k d).n in n - 1 < length starts → place ≤ slice_index starts (n - 1) → P (record { placed = get_or ps k d; force = force; found = found })) →
-    Further P starts ps (drop (k + 1) ps) now after
-one_judged P starts ps k place now d judged after force found less is each all items near this =
-    let p : Placed = get_or ps k d in
-    let one : Judged = record { placed = p; force = force; found = found } in
-    let parts : drop k ps ≡ p ∷ drop (k + 1) ps = drop_more ps k d less in
-    let here : AreAhead place starts (p ∷ drop (k + 1) ps) = subst (AreAhead place starts) parts is in
-    let there : now ≤ slice_index starts (p.n - 1) = near here.2 in
-    let more : map placed_in (judged ++ one ∷ []) ++ drop (k + 1) ps ≡ ps = each_more judged one (drop (k + 1) ps) ∙ ap (λ left. map placed_in judged ++ left) (sym parts) ∙ each in
-    let founds : AllByRecursion P (judged ++ one ∷ []) = all_more P judged one all (this here.1 here.2) in
-    record {
-      ahead = nearer (slice_index starts (p.n - 1)) now starts (drop (k + 1) ps) there here.3;
-      each = ap (λ items. map placed_in items ++ drop (k + 1) ps) items ∙ more;
-      found = subst (AllByRecursion P) (sym items) founds;
-    }
-
--- the same of a run of these texts over this stream, which stands behind what the script says before the expectation's line
-pub one_found : (sources : List (List ℕ)) (schedule : Schedule) (declared : Declarations) (script stream starts : List ℕ) (pairs : List TablePair) (course : Course) (ps : List Placed) (k place now : ℕ) (d : Placed)
-    (judged after : List Judged) (standing : Executive (List ℕ)) (force : Option ℕ) (found : RuleStanding) →
-    AreStarts script stream starts → AreAllCompiled sources pairs → course ≡ record { sources = sources; schedule = schedule; stream = stream } →
-    k < length ps → AreAhead place starts (drop k ps) → map placed_in judged ++ drop k ps ≡ ps → AllByRecursion (IsFound sources schedule declared script) judged →
-    after ≡ judged ++ record { placed = get_or ps k d; force = force; found = found } ∷ [] →
-    (let at : ℕ = slice_index starts ((get_or ps k d).n - 1) in place ≤ at → now ≤ at) →
-    (let at : ℕ = slice_index starts ((get_or ps k d).n - 1) in place ≤ at → StandsBehind course.sources course.schedule (take at course.stream) standing) →
-    force ≡ text_in_force pairs standing → found ≡ standing_named declared force (engine_in standing.seats) (rule_in (expected_of (get_or ps k d).expectation)) →
-    Further (IsFound sources schedule declared script) starts ps (drop (k + 1) ps) now after
-one_found sources schedule declared script stream starts pairs course ps k place now d judged after standing force found begin compiled same less is each all items near stands is_force named =
-    let p : Placed = get_or ps k d in
-    let at : ℕ = slice_index starts (p.n - 1) in
-    one_judged (IsFound sources schedule declared script) starts ps k place now d judged after force found less is each all items near
-    (λ inside on. found_there sources schedule declared script stream starts pairs p standing force found begin compiled inside
-    (subst (λ (it : Course). StandsBehind it.sources it.schedule (take at it.stream) standing) same (stands on)) is_force named)
-
--- where the script is given without its expectations, and the two lists by other names
-pub ahead_of : (script quiet stream starts starts' : List ℕ) (found found' : List Placed) → expectations_in script ≡ Ok (map placed_of found) → AreStarts quiet stream starts →
-    quiet ≡ silenced_in script → starts' ≡ starts → found' ≡ found → AreAhead 0 starts' found'
-ahead_of script quiet stream starts starts' found found' says begin silent same others =
-    let these : AreAhead 0 starts found = all_ahead script stream starts found says (subst (λ (q : List ℕ). AreStarts q stream starts) silent begin) in
-    subst (λ (it : List ℕ). AreAhead 0 it found') (sym same) (subst (λ (ps : List Placed). AreAhead 0 starts ps) (sym others) these)
+pub ahead_as : (script quiet stream starts starts' there : List ℕ) (found : List Placed) (lines : List ProbedLine) → expectations_in script ≡ Ok (map placed_of found) → quiet ≡ silenced_in script →
+    AreStarts quiet stream starts → starts' ≡ starts → there ≡ starts → lines ≡ map (expected_line starts') found → AreAhead 0 there lines
+ahead_as script quiet stream starts starts' there found lines says silent begin same as_well of =
+    subst (λ them. AreAhead 0 them lines) (sym as_well)
+    (subst (AreAhead 0 starts) (sym (of ∙ ap (λ them. map (expected_line them) found) same))
+    (all_ahead script stream starts found says (subst (λ q. AreStarts q stream starts) silent begin)))

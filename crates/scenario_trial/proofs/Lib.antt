@@ -2,6 +2,11 @@ mod Lines
 mod Marked
 mod Comments
 mod Ahead
+mod Lookups
+mod Probed
+mod WholeStream
+mod Runs
 mod Forces
+mod Expecting
 mod Settling
 mod TrialSteps

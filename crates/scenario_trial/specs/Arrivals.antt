@@ -1,5 +1,5 @@
 -- What of the packets that came may be expected, and how the rules of expectations stand. This project's own.
-use Rattle.std.specs.Prelude.{◌≡◌, ℕ, ◌-◌, ◌<◌, ◌≤◌, Bool, true, false, List, [], ◌∷◌, codes, bytes_eq, filter_map, find, is_none, length, map, slice_index, take, Option, Some, None, Ok, ⊤, if◌then◌else◌}
+use Rattle.std.specs.Prelude.{◌≡◌, ℕ, ◌-◌, Bool, true, false, List, codes, bytes_eq, filter_map, find, is_none, length, map, take, Option, Some, None, Ok, if◌then◌else◌}
 use Rattle.std.specs.List.{AllByRecursion}
 use Rattle.lc_model.specs.Host.Schedule.{Schedule}
 use Rattle.lc_model.specs.Host.ScheduleText.{lines_of}
@@ -16,7 +16,7 @@ use Rattle.run_stepper.specs.declared.ending.Ending.{Ending}
 use Rattle.run_stepper.specs.declared.ending.Ending.TheVariants.{Whole}
 use Rattle.flight_profile.specs.Force.{IsInForce}
 use Rattle.run_stepper.specs.Trace.{Arrived, Traced, arrived_from, engine_in, standing_in}
-use Rattle.run_stepper.specs.Walk.{StandsBehind}
+use Rattle.run_stepper.specs.Places.{StandsBehind}
 use Rattle.scenario_trial.specs.declared.expectation.Arrival.{Arrival}
 use Rattle.scenario_trial.specs.declared.expectation.ArrivalKind.{ArrivalKind}
 use Rattle.scenario_trial.specs.declared.expectation.ArrivalKind.TheVariants as kind
@@ -82,14 +82,6 @@ is_of_nobody declared (Some name) = is_none (rule_numbered declared None name)
 
 abbrev pub has_no_rule : Declarations → PlacedExpected → Bool
 has_no_rule declared placed = is_of_nobody declared (rule_in placed.expected)
-
--- ---- expectations in the order of their lines
-
--- the lines of these expectations begin in a stream at this place or behind it, one after the other
-abbrev pub AreAhead : ℕ → List ℕ → List Placed → Type 0
-AreAhead place starts [] = ⊤
-AreAhead place starts (p ∷ ps) =
-    (0 < p.n) × (p.n - 1 < length starts) × (place ≤ slice_index starts (p.n - 1)) × AreAhead (slice_index starts (p.n - 1)) starts ps
 
 module _ (sources : List (List ℕ)) (schedule : Schedule) (declared : Declarations) (script : List ℕ) where
   -- Behind what the script says before this line this rule text is in force, or none, and the rule stands so that an expectation names there.

@@ -3,6 +3,8 @@ pub mod Expected
 pub mod Reading
 pub mod Judged
 pub mod Arrivals
+pub mod ProbedLine
+pub mod Probes
 pub mod Settled
 pub mod Origin
 pub mod Numbers
@@ -10,4 +12,4 @@ pub mod Untried
 pub mod Telling
 pub mod Warned
 pub mod Outcomes
-pub mod Looking
+pub mod Probing

@@ -12,7 +12,7 @@ use Rattle.scenarios.specs.declared.force.ForceChange.{ForceChange}
 use Rattle.stream_script.specs.ByLines.{line_start}
 use Rattle.stream_script.specs.Script.{script_in}
 use Rattle.flight_profile.specs.Force.{IsInForce}
-use Rattle.run_stepper.specs.Walk.{StandsBehind}
+use Rattle.run_stepper.specs.Places.{StandsBehind}
 use Rattle.scenario_trial.specs.Reading.{silenced_in}
 
 -- ---- the commands that set the state of a rule

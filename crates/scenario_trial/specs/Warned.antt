@@ -181,7 +181,8 @@ abbrev pub warnings_of : List RuleText → Declarations → (lines : List ℕ) �
 warnings_of texts declared lines judged expectations parts =
     with_idle (expectation_warnings texts declared lines parts judged) (idle_warning lines expectations (arrived_from 0 parts))
 
--- An outcome is that of a run, with these warnings before its own.
+-- An outcome is that of a run, with these warnings before its own, and what the run looked at.
 pub record IsWarnedBefore (first : List TrialWarning) (run outcome : TrialOutcome) : Type 0 where
   pub tried : outcome.tried ≡ run.tried
   pub warned : outcome.warnings.items ≡ first ++ run.warnings.items
+  pub account : outcome.account ≡ run.account

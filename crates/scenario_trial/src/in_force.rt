@@ -1,26 +1,25 @@
 //! Which rule text is in force at each command of a script that sets a rule's state. A run of the script shows it; then the scenario is
 //! read again with the texts that the run has shown.
 
-ghost use Rattle.std.specs.Prelude.{◌≡◌, ◌++◌, ◌<◌, length, map, true, IfErr, IfOk};
-ghost use Rattle.std.specs.List.{AllByRecursion, list_any};
-ghost use Rattle.flight_core.specs.Compiled.{AreAllCompiled, sources_of};
+ghost use Rattle.std.specs.Prelude.{◌≡◌, length, map, true, IfErr, IfOk};
+ghost use Rattle.std.specs.List.{list_any};
+ghost use Rattle.flight_core.specs.Compiled.{sources_of};
 ghost use Rattle.lc_model.specs.Host.ScheduleText.{lines_of, words_of};
 ghost use Rattle.text_lines.specs.Lines.{texts_of};
 ghost use Rattle.scenarios.specs.Declarations.{AreDeclared, nothing_declared};
-ghost use Rattle.stream_script.specs.ByLines.{AreStarts};
-ghost use Rattle.run_stepper.specs.Stepping.{IsAtRest};
-ghost use Rattle.run_stepper.specs.Walk.{IsUnderWay, course_of, place_of};
+ghost use Rattle.scenario_trial.specs.Probes.{changes_by, state_line};
 ghost use Rattle.scenario_trial.specs.Reading.{silenced_in};
-ghost use Rattle.scenario_trial.specs.Settled.{AreShown, IsGuessed, IsSettled, IsShown, are_of_state, is_of_state, is_state_code, line_in, marked_from, sets_state};
+ghost use Rattle.scenario_trial.specs.Settled.{AreShown, IsGuessed, IsSettled, are_of_state, is_of_state, is_state_code, marked_from, sets_state};
 ghost use Rattle.scenario_trial.specs.Untried.{IsPlainUntried, IsUntried, plain_script_of};
-ghost use Rattle.scenario_trial.specs.declared.error.TrialError.TheVariants.{Memory};
 
 use crate::error::TrialError;
 use crate::expectation_lines::silence;
 use crate::expectation_words::is;
-use crate::judging::Trial;
+use crate::probe::{Finding, Probe};
+use crate::probing::{Trial, run_whole};
 use crate::trial::{check_rules, expectations_of, stream_of};
-use run_stepper::{RunInputs, Walk, compile_texts};
+use rpn_compiler::RuleText;
+use run_stepper::RunInputs;
 use scenarios::{DeclaredItems, ForceChange, Plain, plain_script};
 use std::alloc::{AllocError, Global};
 use text_lines::{first_line, words};
@@ -88,45 +87,88 @@ fn is_some_marked(marks: &[bool]) -> bool
     marks.iter().any(|mark| *mark)
 }
 
-impl Trial<'_, '_> {
-    /// The text in force at each marked line of the script, in a run that has not begun.
-    fn forces(&self, walk: &mut Walk<'_>, marks: &[bool]) -> Result<Vec<ForceChange>, TrialError>
-        requires under_way { IsUnderWay walk.old }
-        requires course { course_of walk.old ≡ record {
-          sources = sources_of self.now.inputs.texts.now;
-          schedule = self.now.inputs.schedule.now;
-          stream = self.now.stream.now;
-        } }
-        requires begun { place_of walk.old ≡ 0 }
-        requires compiled { AreAllCompiled (sources_of self.now.inputs.texts.now) self.now.pairs.now }
-        requires starts { AreStarts self.now.script.now self.now.stream.now self.now.starts.now }
-        requires each { length marks.now ≡ length self.now.starts.now }
-        ensures ready { IsAtRest walk.new.stepping }
-        ensures lines { IfOk result (λ changes. map line_in changes.items ≡ marked_from 1 marks.now) }
-        ensures shown { IfOk result (λ changes. AllByRecursion (IsShown
-            (sources_of self.now.inputs.texts.now) self.now.inputs.schedule.now
-            self.now.script.now) changes.items) }
-        ensures memory { IfErr result (λ error. error ≡ Memory) }
-    {
-        let mut changes = Vec::new(self.alloc);
-        for place in 0..marks.len() {
-            if marks[place] {
-                walk.go_to(self.starts[place])?;
-                changes.push(ForceChange {
-                    line: place + 1,
-                    text: walk.text_in_force(self.pairs),
-                })?;
-            }
+/// The probes at the marked lines, by the places at which all lines begin. Out of memory is the only error.
+fn state_probes(
+    alloc: Global,
+    starts: &[usize],
+    marks: &[bool],
+) -> Result<Vec<Probe<'static>>, AllocError>
+    requires { length marks.now ≡ length starts.now }
+    ensures { IfOk result (λ probes. probes.items ≡
+        map (state_line starts.now) (marked_from 1 marks.now)) }
+{
+    let mut probes = Vec::new(alloc);
+    for k in 0..marks.len() {
+        if marks[k] {
+            probes.push(Probe {
+                n: k + 1,
+                place: starts[k],
+                rule: None,
+            })?;
         }
-        Ok(changes)
     }
+    Ok(probes)
+}
+
+/// The text in force at the line of each probe, by what it finds. Out of memory is the only error.
+fn changes_of(
+    alloc: Global,
+    probes: &[Probe<'_>],
+    findings: &[Finding],
+) -> Result<Vec<ForceChange>, AllocError>
+    requires { length findings.now ≡ length probes.now }
+    ensures { IfOk result (λ changes. changes.items ≡ changes_by probes.now findings.now) }
+{
+    let mut changes = Vec::new(alloc);
+    for k in 0..probes.len() {
+        let probe = &probes[k];
+        changes.push(ForceChange {
+            line: probe.n,
+            text: findings[k].force,
+        })?;
+    }
+    Ok(changes)
+}
+
+/// The text in force at each marked line of a plain script, found by running it. `quiet` is the script without its expectations.
+fn probed_forces<'t>(
+    alloc: Global,
+    inputs: RunInputs<'_>,
+    texts: &[RuleText<'t>],
+    declared: &DeclaredItems<'t>,
+    plain: &Plain,
+    quiet: &[u8],
+    marks: &[bool],
+) -> Result<Vec<ForceChange>, TrialError>
+    requires quiet { quiet.now ≡ silenced_in plain.now.text.items }
+    requires marks { marks.now ≡ map sets_state (lines_of quiet.now) }
+    ensures shown { IfOk result (λ changes. AreShown (sources_of inputs.entry.texts.now)
+        inputs.entry.schedule.now (silenced_in plain.now.text.items) changes.items) }
+    ensures refused { IfErr result (IsPlainUntried (sources_of inputs.entry.texts.now)
+        inputs.entry.schedule.now declared.now (plain_script_of plain.now)) }
+{
+    let said = stream_of(alloc, plain, quiet)?;
+    let probes = state_probes(alloc, said.starts.as_slice(), marks)?;
+    let trial = Trial {
+        alloc,
+        inputs,
+        declared,
+        script: quiet,
+        stream: said.stream.as_slice(),
+        starts: said.starts.as_slice(),
+        probes: probes.as_slice(),
+        texts,
+    };
+    let run = run_whole(&trial, inputs, &[], (plain, &said))?;
+    Ok(changes_of(alloc, probes.as_slice(), run.findings.as_slice())?)
 }
 
 /// The text in force at each line of a plain script that sets the state of a rule, found by running it.
-fn shown_forces(
+fn shown_forces<'t>(
     alloc: Global,
     inputs: RunInputs<'_>,
-    declared: &DeclaredItems<'_>,
+    texts: &[RuleText<'t>],
+    declared: &DeclaredItems<'t>,
     plain: &Plain,
 ) -> Result<Vec<ForceChange>, TrialError>
     ensures shown { IfOk result (λ changes. AreShown (sources_of inputs.entry.texts.now)
@@ -141,21 +183,15 @@ fn shown_forces(
     }
     let expectations = expectations_of(alloc, plain)?;
     check_rules(plain, declared, expectations.as_slice())?;
-    let said = stream_of(alloc, plain, quiet.as_slice())?;
-    let pairs = compile_texts(alloc, inputs.texts)?;
-    let trial = Trial {
+    probed_forces(
         alloc,
         inputs,
-        pairs: pairs.as_slice(),
+        texts,
         declared,
-        script: quiet.as_slice(),
-        stream: said.stream.as_slice(),
-        starts: said.starts.as_slice(),
-    };
-    let mut walk = Walk::begin(alloc, inputs, trial.stream)?;
-    let forces = trial.forces(&mut walk, marks.as_slice());
-    let _trace = walk.close();
-    forces
+        plain,
+        quiet.as_slice(),
+        marks.as_slice(),
+    )
 }
 
 /// Whether two plain scripts are the same, line by line.
@@ -167,11 +203,12 @@ fn is_same(plain: &Plain, other: &Plain) -> bool
 
 /// The plain script of a scenario, and what is in force at its commands. A command that sets the state of a rule by its name has the
 /// rule's number in the text that is in force at its line.
-pub fn settle_script(
+pub fn settle_script<'t>(
     alloc: Global,
     scenario: &[u8],
     inputs: RunInputs<'_>,
-    declared: &DeclaredItems<'_>,
+    texts: &[RuleText<'t>],
+    declared: &DeclaredItems<'t>,
 ) -> Result<SettledScript, TrialError>
     requires { AreDeclared (sources_of inputs.texts.now) nothing_declared declared.now }
     ensures settled { IfOk result (λ script. IsSettled (sources_of inputs.entry.texts.now)
@@ -185,7 +222,7 @@ pub fn settle_script(
     let mut plain = plain_script(alloc, scenario, declared, &[])?;
     let mut first = 0;
     for round in 0..MOST_ROUNDS {
-        let changes = shown_forces(alloc, inputs, declared, &plain)?;
+        let changes = shown_forces(alloc, inputs, texts, declared, &plain)?;
         let again = plain_script(alloc, scenario, declared, changes.as_slice())?;
         if is_same(&again, &plain) {
             return Ok(SettledScript {

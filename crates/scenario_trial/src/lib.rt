@@ -1,7 +1,6 @@
 //! Trials: a run over the stream of a script, and whether what the script expects has come.
 #![tactic(auto)]
 
-mod account;
 mod error;
 mod expectation;
 mod expectation_lines;
@@ -12,13 +11,15 @@ mod judging;
 pub mod laws;
 mod numbers;
 mod origin;
+mod probe;
+mod probing;
 mod stopping;
 mod telling;
 mod trial;
+mod unfailing;
 mod verdict;
 mod warning;
 
-pub use account::account_of_script;
 pub use error::TrialError;
 pub use expectation::{Arrival, ArrivalKind, Coming, Expectation, Span, What, has_come};
 pub use expectation_lines::{Placed, ReadError, read_expectations, silence};

@@ -13,7 +13,7 @@ use rpn_compiler::RuleText;
 const OWN_EVENTS: u16 = 11;
 
 /// Whether something of this number comes whatever the rules are.
-fn is_own(kind: ArrivalKind, number: u16) -> bool
+pub fn is_own(kind: ArrivalKind, number: u16) -> bool
     ensures { result ≡ is_own kind number }
 {
     match kind {
@@ -31,6 +31,14 @@ fn sends(rule: &Rule, kind: ArrivalKind, number: u16) -> bool
         ArrivalKind::Sequence => rule.sequence == number,
         ArrivalKind::Event => rule.event_id == number,
         ArrivalKind::HostEvent => false,
+    }
+}
+
+/// Whether a rule leads to something of this kind and number, or of any number.
+pub fn leads_to(rule: &Rule, what: What) -> bool {
+    match what.number {
+        Some(number) => sends(rule, what.kind, number),
+        None => what.kind.number() == ArrivalKind::Sequence.number(),
     }
 }
 

@@ -1,14 +1,12 @@
 //! A run over the stream of a script, and which of its expectations are met.
 
 ghost use Rattle.std.specs.Prelude.{◌≡◌, filter_map, find, length, map, None, Ok, IfErr, IfOk};
-ghost use Rattle.std.specs.List.{AllByRecursion};
-ghost use Rattle.flight_core.specs.Compiled.{AreAllCompiled, sources_of};
-ghost use Rattle.run_stepper.specs.Trace.{IsTraced};
-ghost use Rattle.scenario_trial.specs.Arrivals.{AreAhead, IsFound, arrival_of, arrivals_of, event_kind, has_no_rule, placed_in};
+ghost use Rattle.flight_core.specs.Compiled.{sources_of};
+ghost use Rattle.scenario_trial.specs.Arrivals.{arrival_of, arrivals_of, event_kind, has_no_rule};
 ghost use Rattle.scenario_trial.specs.Judged.{unmet_of};
-ghost use Rattle.scenario_trial.specs.Outcomes.{IsPlainTried, IsTried};
-ghost use Rattle.scenario_trial.specs.Reading.{expectations_in, placed_of};
-ghost use Rattle.scenario_trial.specs.Untried.{IsNotRun, IsOfNobody, IsOwn, IsPlainUntried, IsUnexpected, IsUnsaid, IsUntried, plain_script_of, script_error_at};
+ghost use Rattle.scenario_trial.specs.Outcomes.{IsJudgedRun, IsPlainTried, IsTried};
+ghost use Rattle.scenario_trial.specs.Reading.{expectations_in, placed_of, silenced_in};
+ghost use Rattle.scenario_trial.specs.Untried.{IsOfNobody, IsOwn, IsPlainUntried, IsUnexpected, IsUnsaid, IsUntried, plain_script_of, script_error_at};
 ghost use Rattle.scenario_trial.specs.Warned.{IsWarnedBefore, warnings_of};
 ghost use Rattle.stream_script.specs.ByLines.{AreStarts};
 ghost use Rattle.stream_script.specs.Script.{script_in};
@@ -18,15 +16,17 @@ use crate::expectation::{Arrival, ArrivalKind, Coming, Expectation};
 use crate::expectation_lines::{Placed, read_expectations, silence};
 use crate::expectation_words::is;
 use crate::in_force::settle_script;
-use crate::judging::Trial;
-use crate::stopping::{is_whole, stop_line};
+use crate::judging::{expectation_probes, judged_of};
+use crate::probing::{Trial, run_whole};
 use crate::telling::Unmet;
+use crate::unfailing::Unfailing;
 use crate::verdict::{Judged, unmet_of};
 use crate::warning::{TrialWarning, expectation_warnings, idle_warning, state_warnings, with_idle};
 use diagnostics::Many;
 use packet_listing::{PacketLine, Sent, read_packet};
 use rpn_compiler::RuleText;
-use run_stepper::{Came, RunInputs, Trace, Walk, compile_texts, read_texts};
+use run_account::RunAccount;
+use run_stepper::{Came, RunInputs, Trace, read_texts};
 use scenarios::{DeclaredItems, Plain, declared_in};
 use std::alloc::{AllocError, Global};
 use std::io::{self, Write};
@@ -39,11 +39,30 @@ pub struct Tried {
     pub unmet: u64,
 }
 
-/// The result of a trial, and warnings about its script.
+/// The result of a trial, warnings about its script, and what its run looked at.
 #[derive(Drop)]
-pub struct TrialOutcome {
+pub struct TrialOutcome<'s> {
     pub tried: Tried,
     pub warnings: Vec<TrialWarning>,
+    /// Warnings of expectations that nothing comes, in whose seconds nothing could come.
+    pub idle: Vec<TrialWarning>,
+    pub account: RunAccount<'s>,
+}
+
+/// The result of a trial, and warnings about its expectations.
+#[derive(Drop)]
+struct Judgment {
+    tried: Tried,
+    warnings: Vec<TrialWarning>,
+}
+
+/// A run to the end of its stream: each expectation with the state of its rule, the packets of each record, and what the run looked at.
+#[derive(Drop)]
+struct JudgedRun<'p, 's> {
+    judged: Vec<Judged<'p>>,
+    trace: Trace,
+    account: RunAccount<'s>,
+    unfailing: Unfailing,
 }
 
 /// The kind of an event with this sender, if such events can be expected.
@@ -222,37 +241,6 @@ pub(crate) fn check_rules(
     Ok(())
 }
 
-/// Runs the script: each expectation with the state of its rule, and the packets of each record.
-fn run<'p>(
-    trial: &Trial<'_, '_>,
-    expectations: &[Placed<'p>],
-) -> Result<(Vec<Judged<'p>>, Trace), TrialError>
-    requires compiled { AreAllCompiled (sources_of trial.now.inputs.texts.now) trial.now.pairs.now }
-    requires starts { AreStarts trial.now.script.now trial.now.stream.now trial.now.starts.now }
-    requires ahead { AreAhead 0 trial.now.starts.now expectations.now }
-    ensures traced { IfOk result (λ found. IsTraced (sources_of trial.now.inputs.texts.now)
-        trial.now.inputs.schedule.now trial.now.stream.now found.1) }
-    ensures each { IfOk result (λ found. map placed_in found.0.items ≡ expectations.now) }
-    ensures found { IfOk result (λ found. AllByRecursion (IsFound
-        (sources_of trial.now.inputs.texts.now) trial.now.inputs.schedule.now
-        trial.now.declared.now trial.now.script.now) found.0.items) }
-    ensures refused { IfErr result (IsNotRun (sources_of trial.now.inputs.texts.now)) }
-{
-    let mut walk = Walk::begin(trial.alloc, trial.inputs, trial.stream)?;
-    match trial.judge_each(&mut walk, expectations) {
-        Ok(judged) => {
-            let finished = walk.finish();
-            let trace = walk.close();
-            finished?;
-            Ok((judged, trace))
-        }
-        Err(error) => {
-            let _trace = walk.close();
-            Err(error)
-        }
-    }
-}
-
 /// Writes a line for each unmet expectation, and a last one with their number.
 fn report<W: Write>(
     alloc: Global,
@@ -282,33 +270,27 @@ fn report<W: Write>(
 /// The result of a run that reached the end of its stream: with expectations, they are judged; without, the packets that came are
 /// listed.
 fn judge<W: Write>(
-    trial: &Trial<'_, '_>,
+    alloc: Global,
     texts: &[RuleText<'_>],
+    declared: &DeclaredItems<'_>,
     script: (&str, &Plain),
     expectations: &[Placed<'_>],
     judged: &[Judged<'_>],
     trace: &Trace,
     out: &mut W,
-) -> Result<TrialOutcome, TrialError>
-    ensures counted { IfOk result (λ outcome. outcome.tried ≡ record {
+) -> Result<Judgment, TrialError>
+    ensures counted { IfOk result (λ judgment. judgment.tried ≡ record {
       expected = length judged.now;
       unmet = length (unmet_of (arrivals_of trace.now) judged.now);
     }) }
-    ensures warned { IfOk result (λ outcome. outcome.warnings.items ≡ warnings_of texts.now
-        trial.now.declared.now script.entry.1.now.lines.items judged.now
+    ensures warned { IfOk result (λ judgment. judgment.warnings.items ≡ warnings_of texts.now
+        declared.now script.entry.1.now.lines.items judged.now
         (map placed_of expectations.now) trace.now.parts) }
     ensures own { IfErr result IsOwn }
 {
-    let came = trace.came(trial.alloc)?;
-    let arrivals = arrivals_of(trial.alloc, came.as_slice())?;
-    let about_lines = expectation_warnings(
-        trial.alloc,
-        texts,
-        trial.declared,
-        script.1,
-        trace,
-        judged,
-    )?;
+    let came = trace.came(alloc)?;
+    let arrivals = arrivals_of(alloc, came.as_slice())?;
+    let about_lines = expectation_warnings(alloc, texts, declared, script.1, trace, judged)?;
     let idle = idle_warning(script.1, expectations, came.as_slice(), arrivals.as_slice());
     let warnings = with_idle(about_lines, idle)?;
     if judged.is_empty() {
@@ -317,84 +299,127 @@ fn judge<W: Write>(
             expected: 0,
             unmet: 0,
         };
-        return Ok(TrialOutcome { tried, warnings });
+        return Ok(Judgment { tried, warnings });
     }
-    let tried = report(trial.alloc, script, arrivals.as_slice(), judged, out)?;
-    Ok(TrialOutcome { tried, warnings })
+    let tried = report(alloc, script, arrivals.as_slice(), judged, out)?;
+    Ok(Judgment { tried, warnings })
+}
+
+/// Runs a script without its expectations. Each expectation with what its probe finds, the packets of each record, and what the run looked
+/// at. `quiet` is the script without its expectations.
+fn run_plain<'p, 's, 't>(
+    alloc: Global,
+    inputs: RunInputs<'s>,
+    texts: &[RuleText<'t>],
+    declared: &DeclaredItems<'t>,
+    plain: &Plain,
+    quiet: &[u8],
+    expectations: &[Placed<'p>],
+) -> Result<JudgedRun<'p, 's>, TrialError>
+    requires quiet { quiet.now ≡ silenced_in plain.now.text.items }
+    requires said { expectations_in plain.now.text.items ≡ Ok (map placed_of expectations.now) }
+    ensures ran { IfOk result (IsJudgedRun (sources_of inputs.entry.texts.now)
+        inputs.entry.schedule.now declared.now (plain_script_of plain.now) expectations.now) }
+    ensures refused { IfErr result (IsPlainUntried (sources_of inputs.entry.texts.now)
+        inputs.entry.schedule.now declared.now (plain_script_of plain.now)) }
+{
+    let said = stream_of(alloc, plain, quiet)?;
+    let probes = expectation_probes(alloc, said.starts.as_slice(), expectations)?;
+    let trial = Trial {
+        alloc,
+        inputs,
+        declared,
+        script: quiet,
+        stream: said.stream.as_slice(),
+        starts: said.starts.as_slice(),
+        probes: probes.as_slice(),
+        texts,
+    };
+    let run = run_whole(&trial, inputs, expectations, (plain, &said))?;
+    let judged = judged_of(alloc, expectations, run.findings.as_slice())?;
+    Ok(JudgedRun {
+        judged,
+        trace: run.trace,
+        account: run.account,
+        unfailing: run.unfailing,
+    })
 }
 
 /// Runs a plain script without its expectations, and judges them. A run that stops before the stream's end is an error, and so is an
 /// expectation that names a rule that no text has.
-fn try_plain<W: Write>(
+fn try_plain<'s, 't, W: Write>(
     alloc: Global,
     name: &str,
-    inputs: RunInputs<'_>,
-    texts: &[RuleText<'_>],
-    declared: &DeclaredItems<'_>,
+    inputs: RunInputs<'s>,
+    texts: &[RuleText<'t>],
+    declared: &DeclaredItems<'t>,
     plain: &Plain,
     out: &mut W,
-) -> Result<TrialOutcome, TrialError>
+) -> Result<TrialOutcome<'s>, TrialError>
     ensures tried { IfOk result (IsPlainTried (sources_of inputs.entry.texts.now)
         inputs.entry.schedule.now texts.now declared.now (plain_script_of plain.now)) }
     ensures refused { IfErr result (IsPlainUntried (sources_of inputs.entry.texts.now)
         inputs.entry.schedule.now declared.now (plain_script_of plain.now)) }
 {
     let expectations = expectations_of(alloc, plain)?;
-    check_rules(plain, declared, expectations.as_slice())?;
+    let expected = expectations.as_slice();
+    check_rules(plain, declared, expected)?;
     let quiet = silence(alloc, plain.text.as_slice())?;
-    let said = stream_of(alloc, plain, quiet.as_slice())?;
-    let pairs = compile_texts(alloc, inputs.texts)?;
-    let trial = Trial {
+    let run = run_plain(
         alloc,
         inputs,
-        pairs: pairs.as_slice(),
-        declared,
-        script: quiet.as_slice(),
-        stream: said.stream.as_slice(),
-        starts: said.starts.as_slice(),
-    };
-    let (judged, trace) = run(&trial, expectations.as_slice())?;
-    if !is_whole(trace.ending()) {
-        return Err(TrialError::Stopped {
-            n: plain.line(stop_line(&said, trace.ending())),
-        });
-    }
-    judge(
-        &trial,
         texts,
-        (name, plain),
-        expectations.as_slice(),
-        judged.as_slice(),
-        &trace,
-        out,
-    )
+        declared,
+        plain,
+        quiet.as_slice(),
+        expected,
+    )?;
+    let script = (name, plain);
+    let judged = run.judged.as_slice();
+    let judgment = judge(
+        alloc, texts, declared, script, expected, judged, &run.trace, out,
+    )?;
+    let has_samples = run.account.samples() > 0;
+    let idle = run.unfailing.warnings(alloc, plain, texts, has_samples)?;
+    Ok(TrialOutcome {
+        tried: judgment.tried,
+        warnings: judgment.warnings,
+        idle,
+        account: run.account,
+    })
 }
 
 /// The outcome of a run, with these warnings before its own. Out of memory is the only error.
-fn with_warnings(first: Vec<TrialWarning>, run: TrialOutcome) -> Result<TrialOutcome, AllocError>
-    ensures { IfOk result (IsWarnedBefore first.items run) }
+fn with_warnings<'s>(
+    first: Vec<TrialWarning>,
+    run: TrialOutcome<'s>,
+) -> Result<TrialOutcome<'s>, AllocError>
+    ensures { IfOk result (IsWarnedBefore first.items run.entry) }
 {
     let mut warnings = first;
     warnings.extend_from_slice(run.warnings.as_slice())?;
     Ok(TrialOutcome {
         tried: run.tried,
         warnings,
+        idle: run.idle,
+        account: run.account,
     })
 }
 
 /// Runs rule texts over the stream of a scenario, which may use the texts' names. Without expectations, the packets that came are listed.
-/// With some, a line is written for each that isn't met, with what came instead, and a last one with their number.
+/// With some, a line is written for each that isn't met, with what came instead, and a last one with their number. The outcome has what the
+/// run looked at.
 ///
 /// Errors: `Rules` for the first text that doesn't compile; `Scenario`, `Expectation` or `Script` for the first line that can't be read;
 /// `NoRule` for the first expectation that names a rule of no text; `Stopped` with the line whose record stopped the run; `Unsettled`;
 /// all before anything is written. `Memory`. `Write` if the output refuses bytes.
-pub fn try_scenario<W: Write>(
+pub fn try_scenario<'s, W: Write>(
     alloc: Global,
     name: &str,
     scenario: &[u8],
-    plan: RunInputs<'_>,
+    plan: RunInputs<'s>,
     out: &mut W,
-) -> Result<TrialOutcome, TrialError>
+) -> Result<TrialOutcome<'s>, TrialError>
     ensures tried { IfOk result (IsTried (sources_of plan.entry.texts.now) plan.entry.schedule.now
         scenario.now) }
     ensures refused { IfErr result (IsUntried (sources_of plan.entry.texts.now)
@@ -403,7 +428,7 @@ pub fn try_scenario<W: Write>(
     let found = read_texts(alloc, plan.texts)?;
     let texts = found.as_slice();
     let declared = declared_in(alloc, texts)?;
-    let script = settle_script(alloc, scenario, plan, &declared)?;
+    let script = settle_script(alloc, scenario, plan, texts, &declared)?;
     let first = state_warnings(alloc, texts, &declared, &script, scenario)?;
     match try_plain(alloc, name, plan, texts, &declared, &script.plain, out) {
         Ok(run) => Ok(with_warnings(first, run)?),

@@ -49,6 +49,18 @@ pub enum TrialWarning {
     UnknownNumber {
         n: usize,
     },
+    /// This line expects that something does not come, and no rule that leads to it was sampled in these seconds.
+    RuleNotSampled {
+        n: usize,
+    },
+    /// This line expects that something does not come, and each rule that leads to it was stale or in error in these seconds.
+    RuleStale {
+        n: usize,
+    },
+    /// This line expects that an event does not come, and events of its type were off in these seconds.
+    TypeOff {
+        n: usize,
+    },
     /// This line has the first expectation about the Limit Checker, and nothing came of the Limit Checker.
     NothingRan {
         n: usize,

@@ -14,7 +14,7 @@ OF_ONE = "recording integer not null references recordings, "
 TABLES = {
     "inputs": "name text primary key, path text not null, sha256 text",
     "recordings": "recording integer primary key, path text not null unique, sha256 text, bytes integer, outcome text not null, "
-    "records integer, old_samples integer, new_samples integer, steps_back integer, requests_old integer, requests_new integer, "
+    "records integer, old_samples integer, new_samples integer, old_ungiven integer, new_ungiven integer, steps_back integer, requests_old integer, requests_new integer, "
     "requests_moved integer, requests_both integer, requests_reordered integer, new_requests integer, events_old integer, "
     "events_new integer, events_both integer, events_reordered integer, imported text, began text, seconds real",
     "requests": OF_ONE + "run text not null, record integer not null, time real not null, sequence integer not null, rules text",
@@ -22,6 +22,9 @@ TABLES = {
     "level text not null, rule text, text text not null",
     "differences": OF_ONE + "number integer not null, kind text not null, run text, record integer not null, time real not null, "
     "new_record integer, new_time real, command text, sequence integer, sender text, id integer, level text, text text, order_of text, rules text",
+    "rules": OF_ONE + "run text not null, text integer not null, rule integer not null, name text not null, sampled integer not null, "
+    "passed integer not null, failed integer not null, stale integer not null, errors integer not null, unsampled integer not null",
+    "packets": OF_ONE + "run text not null, mid integer not null, packets integer not null",
     "failures": OF_ONE + "step text not null, status integer, says text not null",
 }
 # The columns that say when and how long, and so differ between campaigns that agree.

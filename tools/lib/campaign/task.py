@@ -141,8 +141,18 @@ class Recording:
         except ValueError as error:
             raise self.calls.last from error
 
+    def write_account(self, run, account):
+        """Writes a row for each rule and each message id that the texts of a run name."""
+        for it in account["rules"]:
+            names = ("text", "rule", "name", "sampled", "passed", "failed", "stale", "errors", "unsampled")
+            self.write("rules", run, *(it[name] for name in names))
+        for it in account["packets"]:
+            self.write("packets", run, it["mid"], it["packets"])
+
     def write_rows(self, compared):
-        """Writes a row for each request, each event and each difference."""
+        """Writes a row for each request, each event, each difference, and what the runs looked at."""
+        for run in RUNS:
+            self.write_account(run, compared["account"][run])
         for it in compared["requests"]:
             self.write("requests", it["run"], it["record"], it["time"], it["sequence"], ", ".join(it["rules"]) or None)
         for it in compared["events"]:
@@ -166,7 +176,7 @@ class Recording:
         self.found["new_requests"] = int(compared["new_requests"])
         accounts = compared["account"]
         self.found |= {"records": accounts["old"]["records"], "steps_back": accounts["old"]["steps_back"]}
-        self.found |= {f"{run}_samples": accounts[run]["samples"] for run in RUNS}
+        self.found |= {f"{run}_{name}": accounts[run][name] for run in RUNS for name in ("samples", "ungiven")}
 
     def judge(self, compared):
         """Notes the outcome. A run without a sample is a failure, whatever it came to."""

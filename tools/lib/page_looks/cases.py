@@ -140,6 +140,18 @@ def expect_records_alone(look):
     look.expect("go back" in look.ask("byId('ended').textContent"), "that times go back isn't told")
 
 
+def expect_no_samples(look):
+    """Where samples were due and none came lanes are grey, and the first screen says so."""
+    for width, height in [(1400, 1000), (360, 740)]:
+        look.show(width, height)
+        pauses = look.ask("lanes.map(lane => lane.spans.at(-1).pause).join()")
+        look.expect(pauses == "no sample,no sample", f"the last spans pause by {pauses}")
+        greys = look.ask("[...document.querySelectorAll('#lanes .cell.paused')].map(each => each.textContent).join()")
+        look.expect("D" not in greys.split(","), f"what was due and not sampled is told as {greys}")
+        said = look.ask("byId('answers').innerText")
+        look.expect("not sampled at the end, though due" in said, f"the first screen says {said}")
+
+
 def expect_plain_texts(look):
     """Texts from files are texts."""
     look.show()
@@ -165,6 +177,7 @@ CASES = {
     "storm": [expect_left_out, expect_held],
     "one_rule": [expect_hex],
     "back_in_time": [expect_records_alone],
+    "paused": [expect_no_samples],
     "foreign": [expect_plain_texts],
     "full": [expect_bounds_told],
 }

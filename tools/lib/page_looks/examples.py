@@ -163,6 +163,25 @@ def back_in_time():
     return run.data()
 
 
+def paused():
+    """Ticks stop in the middle, as after a clock that is reset: from there on no rule is sampled though each is due."""
+    fields = {"VOLTS": field("BUS", 0x883, "u16be", 12)}
+    rules = [Rule("LOW", "VOLTS < 2400", 2, 7, 1001, says="low volts"), Rule("HIGH", "VOLTS > 3000", 2, 8, 1002, says="high volts")]
+    run, begins = Course(fields, [rules], 100), None
+    run.started(0)
+    for second in range(40):
+        run.after(1)
+        run.telemetry("BUS", VOLTS=2600 - 10 * second)
+        if second < 20:
+            run.tick()
+        if second == 21:
+            begins = list(run.here)
+    data = run.data()
+    for lane in data["sampling"]:
+        lane["gaps"] = [[*begins, data["figures"]["records"] + 1, data["end"], 1]]
+    return data
+
+
 def foreign():
     """Tables that are of none of the texts, texts with markup in their names, a checker that isn't there at first, and a packet that the host
     refuses."""
@@ -187,11 +206,11 @@ def unknown():
     data = foreign()
     first, record, end = data["requests"][0], data["figures"]["records"], data["end"]
     packet = data["figures"]["packets"]
-    for rule, text in [(None, None), (0, None), (None, 0)]:
+    for rule, text, one_of in [(None, None, []), (0, None, []), (None, 0, [0, 1])]:
         packet += 1
         data["requests"].append(
             {**first, "packet": packet, "record": record, "time": end, "rule": rule, "text": text, "event": None, "samples": [],
-             "held": None if rule is None else "type", "counted": 0 if rule is None else 3}
+             "held": None, "counted": None if rule is None else 3, "one_of": one_of}
         )  # fmt: skip
         data["figures"]["packets"] += 1
         data["figures"]["requests"] += 1
@@ -232,4 +251,4 @@ def storm():
     return run.data()
 
 
-EXAMPLES = [wheels, wheels_part, storm, unknown, empty_part, cells, one_record, no_record, one_rule, many, full, back_in_time, foreign]
+EXAMPLES = [wheels, wheels_part, storm, unknown, empty_part, cells, one_record, no_record, one_rule, many, full, back_in_time, paused, foreign]

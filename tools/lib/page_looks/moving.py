@@ -4,6 +4,7 @@ import csv
 import io
 import json
 import os
+import re
 import tempfile
 import time
 
@@ -182,7 +183,7 @@ def filters(look):
         wanted = look.ask(f"sent.filter(item => item.kind === '{kind}').length")
         look.expect(look.ask("found.length") == wanted, f"the kind {kind} shows other rows")
     look.do("byId('kind').value = ''; byId('rule').value = '0'; byId('rule').dispatchEvent(new Event('input'))")
-    look.expect(look.ask("found.every(item => item.rule === 0) && lanes.every(lane => lane.row.hidden === (lane.rule !== 0))"), "a rule's filter shows others")
+    look.expect(look.ask("found.every(item => item.rule === 0 || item.request?.one_of.includes(0)) && lanes.every(lane => lane.row.hidden === (lane.rule !== 0))"), "a rule's filter shows others")
     look.do("byId('rule').value = ''; byId('rule').dispatchEvent(new Event('input'))")
 
 
@@ -251,7 +252,8 @@ def taps(look):
                 break
             x, y, name = slim
             look.browser.click(x, y)
-            look.expect(name in look.ask("byId('panel').textContent"), f"a tap beside a narrow span does not open {name}")
+            near = re.sub(r" s \([^)]*, record ([^)]*)\)", r" s, record \1", name)
+            look.expect(near in look.ask("byId('panel').textContent"), f"a tap beside a narrow span does not open {near}")
             look.expect(look.ask("(() => { const box = byId('panel').getBoundingClientRect(); return box.top >= 0 && box.top < innerHeight - 60; })()"), "what a tap opens is not on the screen")
             look.browser.key("Escape", 27)
             look.expect(look.ask("byId('panel').hidden"), "Escape does not close what was opened")

@@ -170,7 +170,7 @@ def of_a_sparse_file(programs):
             lesser.truncate(300 << 20)
         nothing = (
             b"warning[nothing-sampled]: records: 0, and no rule was sampled: is `LC` started and enabled, are there tables, ticks, `SCH` and"
-            b" a schedule that samples?\nwarning[no-packet]: no packet 0x0883 came, which these rules compare: LOW\n"
+            b" a schedule that samples?\n"
         )
         calls = {
             "table hole": (3, b"cannot use hole: it has more than 32768 bytes\n"),
