@@ -1,17 +1,12 @@
 """Random rule texts and schedules for the model of a page, and what a page has to say of them. Written from docs/RULES.md and
 crates/run_page/page/DATA.md alone."""
 
+import operator
+
 TRUE, FALSE, STALE, ERROR = "true", "false", "stale", "error"
 RESULT = {TRUE: "fail", FALSE: "pass", STALE: "stale", ERROR: "error"}
 WIDTHS = {"u8": 1, "i8": 1, "u16be": 2, "u16le": 2, "i16be": 2, "i16le": 2, "u32be": 4, "u32le": 4, "i32be": 4, "i32le": 4}
-OPERATORS = {
-    "<": lambda a, b: a < b,
-    "<=": lambda a, b: a <= b,
-    "!=": lambda a, b: a != b,
-    "==": lambda a, b: a == b,
-    ">=": lambda a, b: a >= b,
-    ">": lambda a, b: a > b,
-}
+OPERATORS = {"<": operator.lt, "<=": operator.le, "!=": operator.ne, "==": operator.eq, ">=": operator.ge, ">": operator.gt}
 HEADER = 12
 ALL_RULES = 65_535
 LEVELS = ("debug", "info", "error", "critical")

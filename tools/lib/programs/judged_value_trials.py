@@ -3,6 +3,7 @@ mean, which values a field under its mask has, and that the two lists of values 
 
 import bisect
 import itertools
+import operator
 import random
 import re
 import subprocess
@@ -14,14 +15,7 @@ from trial import SECONDS, Trial, written
 CALLS = ["flight_tools check"]
 SEED = 2_026
 RULES_OF_A_TEXT, TEXTS = 30, 4
-OPERATORS = {
-    "<": lambda value, number: value < number,
-    "<=": lambda value, number: value <= number,
-    "!=": lambda value, number: value != number,
-    "==": lambda value, number: value == number,
-    ">=": lambda value, number: value >= number,
-    ">": lambda value, number: value > number,
-}
+OPERATORS = {"<": operator.lt, "<=": operator.le, "!=": operator.ne, "==": operator.eq, ">=": operator.ge, ">": operator.gt}
 # Types with their bytes and signs, and masks: all bits, or a few with gaps.
 TYPES = {
     "u8": (1, False, [None, 0x82, 0x31]),
