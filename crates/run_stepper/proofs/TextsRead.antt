@@ -14,8 +14,7 @@ use Rattle.rpn_compiler.specs.declared.rule_text.RuleText.{RuleText}
 use Rattle.rpn_compiler.specs.Fault.{Refuses, refusal_of}
 use Rattle.rpn_compiler.specs.Naming.{NamesTheNumberIn}
 use Rattle.rpn_compiler.specs.TextParts.{AreTextsOf, IsTextOf, items_in}
-use Rattle.rpn_compiler.specs.declared.files.TablePair.{TablePair}
-use Rattle.flight_core.specs.Compiled.{AreAllCompiled, IsCompiled, refusal_for}
+use Rattle.flight_core.specs.Compiled.{refusal_for}
 use Rattle.run_stepper.specs.declared.error.CourseError.{CourseError}
 use Rattle.run_stepper.specs.Stepping as stepping
 use Rattle.run_stepper.specs.Stepping.{IsRefusal}
@@ -88,34 +87,3 @@ pub refused : (sources : List (List ℕ)) (texts : List RuleText) (n : ℕ) (sou
     (answer : CourseError) → answer ≡ stepping.refusal_of (refusal_for n error) → IsRefusal sources answer
 refused sources texts n source error there are within why named answer is =
     subst (IsRefusal sources) (sym is) (first_refused sources n source error there (compiled (take n sources) texts are within) why named)
-
--- ---- table files
-
-more_files : (sources : List (List ℕ)) (pairs : List TablePair) (n : ℕ) (source : List ℕ) (pair : TablePair) → slice_get sources n ≡ Some source →
-    AreAllCompiled (take n sources) pairs → IsCompiled source pair → AreAllCompiled (take (suc n) sources) (pairs ++ pair ∷ [])
-more_files [] pairs n source pair there so_far is = absurd (cc there)
-more_files (first ∷ sources) [] zero source pair there so_far is = (let same : source ≡ first = cc there in subst (λ s. IsCompiled s pair) same is, tt)
-more_files (first ∷ sources) (p ∷ pairs) zero source pair there so_far is = absurd so_far
-more_files (first ∷ sources) [] (suc n) source pair there so_far is = absurd so_far
-more_files (first ∷ sources) (p ∷ pairs) (suc n) source pair there so_far is = (so_far.0, more_files sources pairs n source pair there so_far.1 is)
-
-pub one_compiled : (sources : List (List ℕ)) (pairs after : List TablePair) (n : ℕ) (source : List ℕ) (pair : TablePair) → slice_get sources n ≡ Some source →
-    after ≡ pairs ++ pair ∷ [] → AreAllCompiled (take n sources) pairs → IsCompiled source pair → AreAllCompiled (take (n + 1) sources) after
-one_compiled sources pairs after n source pair there are so_far is =
-    let next : suc n ≡ n + 1 = omega arith in
-    subst (AreAllCompiled (take (n + 1) sources)) (sym are)
-    (subst (λ k. AreAllCompiled (take k sources) (pairs ++ pair ∷ [])) next (more_files sources pairs n source pair there so_far is))
-
-with_files : (sources : List (List ℕ)) (pairs : List TablePair) → AreAllCompiled sources pairs → AreTexts sources
-with_files [] [] all = record { texts = []; compile = tt }
-with_files [] (pair ∷ pairs) all = absurd all
-with_files (source ∷ sources) [] all = absurd all
-with_files (source ∷ sources) (pair ∷ pairs) all =
-    let others : AreTexts sources = with_files sources pairs all.1 in
-    record { texts = (record { source = source; rules = all.0.rules }) ∷ others.texts; compile = ((refl, all.0.compiles), others.compile) }
-
-pub not_compiled : (sources : List (List ℕ)) (pairs : List TablePair) (n : ℕ) (source : List ℕ) (error : CompileError) → slice_get sources n ≡ Some source →
-    AreAllCompiled (take n sources) pairs → Refuses (IsRefused limits source) error → NamesTheNumberIn source error →
-    (answer : CourseError) → answer ≡ stepping.refusal_of (refusal_for n error) → IsRefusal sources answer
-not_compiled sources pairs n source error there are why named answer is =
-    subst (IsRefusal sources) (sym is) (first_refused sources n source error there (with_files (take n sources) pairs are) why named)

@@ -21,7 +21,7 @@ pub use framing::{moment_of, record_size};
 pub use handled::Handled;
 pub use observer::Observer;
 pub use plan::RunInputs;
-pub use rule_texts::{compile_texts, read_texts};
+pub use rule_texts::read_texts;
 pub use standing::RuleStanding;
 pub use stepping::Stepping;
 pub use trace::{Came, Trace};

@@ -1,15 +1,15 @@
-//! Reads and compiles the rule texts of a run.
+//! Reads the rule texts of a run.
 
 ghost use Rattle.std.specs.Prelude.{◌≡◌, ◌<◌, None, Some, IfErr, IfOk, length, slice_get};
 ghost use Rattle.std.specs.List.{AllByRecursion};
-ghost use Rattle.flight_core.specs.Compiled.{AreAllCompiled, refusal_for, sources_of};
+ghost use Rattle.flight_core.specs.Compiled.{refusal_for, sources_of};
 ghost use Rattle.lc_model.specs.Tables.Compiling.{limit_refusal};
 ghost use Rattle.lc_model.specs.Tables.InForce.{limits};
 ghost use Rattle.rpn_compiler.specs.TextParts.{AreTextsOf};
 ghost use Rattle.run_stepper.specs.Stepping.{IsRefusal, refusal_of};
 
 use crate::error::CourseError;
-use rpn_compiler::{CompileError, RuleText, TablePair, compile};
+use rpn_compiler::{CompileError, RuleText};
 use std::alloc::Global;
 
 /// The error for the text with this number.
@@ -47,21 +47,4 @@ pub fn read_texts<'a>(alloc: Global, texts: &[&'a [u8]]) -> Result<Vec<RuleText<
         }
     }
     Ok(found)
-}
-
-/// Compiles rule texts to their table files, in their order.
-///
-/// Errors: `Rules` with the first text that doesn't compile, numbered from 0; `Memory`.
-pub fn compile_texts(alloc: Global, texts: &[&[u8]]) -> Result<Vec<TablePair>, CourseError>
-    ensures compiled { IfOk result (λ pairs. AreAllCompiled (sources_of texts.now) pairs.items) }
-    ensures refused { IfErr result (IsRefusal (sources_of texts.now)) }
-{
-    let mut pairs = Vec::new(alloc);
-    for number in 0..texts.len() {
-        match compile(alloc, text_at(&*texts, number)) {
-            Ok(pair) => pairs.push(pair)?,
-            Err(error) => return Err(refusal(number, error)),
-        }
-    }
-    Ok(pairs)
 }
