@@ -9,18 +9,23 @@ use Rattle.lc_model.specs.Tables.Image.{numbers_below}
 use Rattle.lc_model.specs.declared.command.SampleRequest.{SampleRequest}
 use Rattle.lc_model.specs.declared.mode.ApResult.{ApResult}
 use Rattle.run_stepper.specs.Steps.{Step}
-use Rattle.run_account.specs.Account.{HasPacket, HasSampled, IsAccountOf, Seen, checker_at, force_after, force_at, is_sample, is_step_back, is_ungiven, number, packets_after, requests_at, seen_of, slot_after}
+use Rattle.run_account.specs.Account.{HasCounted, HasPacket, HasSampled, IsAccountOf, HasSettled, Seen, checker_at, counts_of, force_after, force_at, is_sample, is_step_back, is_ungiven, lane_of, lanes_of, number, packets_after, requests_at, rows_of, seen_of, slot_after}
 use Rattle.run_account.specs.Clock.{add, clock_after, first_clock, is_back, more_if, time_of}
-use Rattle.run_account.specs.Counts.{row_sampled, row_with}
-use Rattle.run_account.specs.Lanes.{lane_with, rules_of}
+use Rattle.run_account.specs.Counts.{none_counted as no_counts, row_sampled, row_with}
+use Rattle.run_account.specs.Force.{first_text}
+use Rattle.run_account.specs.Lanes.{lane_with, new_lane, rules_of, two_cycles}
 use Rattle.run_account.specs.Packets.{brings}
+use Rattle.run_account.specs.Repeats.{IsRepeat, lane_by, none_noted, row_by}
 use Rattle.run_account.specs.Samples.{are_taking, has_sample, requests_in, result_of, sampled_from}
 use Rattle.run_account.specs.declared.account.RunAccount.{RunAccount}
 use Rattle.run_account.specs.declared.clock.RunClock.{RunClock}
 use Rattle.run_account.specs.declared.counts.RuleRow.{RuleRow}
+use Rattle.run_account.specs.declared.force.KnownText.{KnownText}
 use Rattle.run_account.specs.declared.lanes.Lane.{Lane}
 use Rattle.run_account.specs.declared.packets.PacketCount.{PacketCount}
+use Rattle.run_account.specs.declared.repeats.Repeats.{Repeats}
 use Rattle.run_account.proofs.Numbers.{counted_more, number_more}
+use Rattle.run_account.proofs.Repeating.{lanes_none, lanes_one_more, rows_none, rows_one_more}
 use Rattle.run_account.proofs.Records.{clock_more, force_more, seen_more, slot_more}
 use Rattle.run_account.proofs.Rows.{CountsPackets, Counts, IsLane, lanes_more, packets_more, rows_more, same_numbers}
 
@@ -35,10 +40,10 @@ pub record HasAdded (old new : RunAccount) (step : Step) : Type 0 where
   pub packets : new.packets.items ≡ packets_after (brings step.bytes) old.packets.items
   pub samples : new.samples ≡ more_if (is_sample old.schedule.now (record { slot = old.slot; known = old.force; before = old.clock; step = step })) old.samples
   pub ungiven : new.ungiven ≡ more_if (is_ungiven old.schedule.now (record { slot = old.slot; known = old.force; before = old.clock; step = step })) old.ungiven
-  pub rows : new.rows.items ≡ (let one : Seen = record { slot = old.slot; known = old.force; before = old.clock; step = step } in
-      map (row_sampled (requests_at old.schedule.now one) (checker_at one) (force_at one)) old.rows.items)
-  pub lanes : new.lanes.items ≡ (let one : Seen = record { slot = old.slot; known = old.force; before = old.clock; step = step } in
-      map (lane_with (length old.schedule.now) (clock_after step.bytes old.clock) (requests_at old.schedule.now one) (checker_at one)) old.lanes.items)
+  pub rows : rows_of new ≡ (let one : Seen = record { slot = old.slot; known = old.force; before = old.clock; step = step } in
+      map (row_sampled (requests_at old.schedule.now one) (checker_at one) (force_at one)) (rows_of old))
+  pub lanes : lanes_of new ≡ (let one : Seen = record { slot = old.slot; known = old.force; before = old.clock; step = step } in
+      map (lane_with (length old.schedule.now) (clock_after step.bytes old.clock) (requests_at old.schedule.now one) (checker_at one)) (lanes_of old))
 
 module _ (old new : RunAccount) (steps : List Step) (step : Step) (added : HasAdded old new step) (is : IsAccountOf old steps) where
   abbrev one : Seen
@@ -48,7 +53,7 @@ module _ (old new : RunAccount) (steps : List Step) (step : Step) (added : HasAd
   all = seen_of steps
 
   seen : all ++ one ∷ [] ≡ seen_of (steps ++ step ∷ [])
-  seen = (λ i. all ++ record { slot = is.slot i; known = is.force i; before = is.clock i; step = step } ∷ []) ∙ sym (seen_more None None first_clock steps step)
+  seen = (λ i. all ++ record { slot = is.slot i; known = is.force i; before = is.clock i; step = step } ∷ []) ∙ sym (seen_more None first_text first_clock steps step)
 
   counted : (is_so : Seen → Bool) (was now : ℕ) → was ≡ number is_so all → now ≡ more_if (is_so one) was → now ≡ number is_so (seen_of (steps ++ step ∷ []))
   counted is_so was now before more = more ∙ ap (more_if (is_so one)) before ∙ sym (number_more is_so all one) ∙ ap (number is_so) seen
@@ -56,7 +61,7 @@ module _ (old new : RunAccount) (steps : List Step) (step : Step) (added : HasAd
   with_schedule : IsAccountOf (record new { schedule = old.schedule }) (steps ++ step ∷ [])
   with_schedule = record {
     slot = added.slot ∙ sym (slot_more None steps step);
-    force = added.force ∙ ap (λ known. force_after known step) is.force ∙ sym (force_more None steps step);
+    force = added.force ∙ ap (λ known. force_after known step) is.force ∙ sym (force_more first_text steps step);
     clock = added.clock ∙ ap (clock_after step.bytes) is.clock ∙ sym (clock_more first_clock steps step);
     records = added.records ∙ ap (λ count. add count 1) is.records ∙ sym (counted_more steps step);
     steps_back = counted is_step_back old.steps_back new.steps_back is.steps_back added.steps_back;
@@ -64,8 +69,8 @@ module _ (old new : RunAccount) (steps : List Step) (step : Step) (added : HasAd
     ungiven = counted (is_ungiven old.schedule.now) old.ungiven new.ungiven is.ungiven added.ungiven;
     rows =
         subst (λ (rows : List RuleRow). AllByRecursion (Counts old.schedule.now (seen_of (steps ++ step ∷ []))) rows) (sym added.rows)
-        (subst (λ (some : List Seen). AllByRecursion (Counts old.schedule.now some) (map (row_sampled (requests_at old.schedule.now one) (checker_at one) (force_at one)) old.rows.items)) seen
-        (rows_more old.schedule.now all one old.rows.items is.rows));
+        (subst (λ (some : List Seen). AllByRecursion (Counts old.schedule.now some) (map (row_sampled (requests_at old.schedule.now one) (checker_at one) (force_at one)) (rows_of old))) seen
+        (rows_more old.schedule.now all one (rows_of old) is.rows));
     packets =
         subst (λ (counts : List PacketCount). AllByRecursion (CountsPackets (seen_of (steps ++ step ∷ []))) counts) (sym added.packets)
         (subst (λ (some : List Seen). AllByRecursion (CountsPackets some) (packets_after (brings step.bytes) old.packets.items)) seen
@@ -73,24 +78,24 @@ module _ (old new : RunAccount) (steps : List Step) (step : Step) (added : HasAd
     lanes =
         subst (λ (lanes : List Lane). AllByRecursion (IsLane old.schedule.now (seen_of (steps ++ step ∷ []))) lanes) (sym added.lanes)
         (subst (λ (some : List Seen). AllByRecursion (IsLane old.schedule.now some)
-        (map (lane_with (length old.schedule.now) (clock_after step.bytes old.clock) (requests_at old.schedule.now one) (checker_at one)) old.lanes.items)) seen
-        (lanes_more old.schedule.now all one old.lanes.items is.lanes));
+        (map (lane_with (length old.schedule.now) (clock_after step.bytes old.clock) (requests_at old.schedule.now one) (checker_at one)) (lanes_of old))) seen
+        (lanes_more old.schedule.now all one (lanes_of old) is.lanes));
     numbered =
         ap rules_of added.lanes
-        ∙ same_numbers (length old.schedule.now) (clock_after step.bytes old.clock) (requests_at old.schedule.now one) (checker_at one) old.lanes.items
+        ∙ same_numbers (length old.schedule.now) (clock_after step.bytes old.clock) (requests_at old.schedule.now one) (checker_at one) (lanes_of old)
         ∙ is.numbered
-        ∙ ap numbers_below (sym (length-map old.lanes.items (lane_with (length old.schedule.now) (clock_after step.bytes old.clock) (requests_at old.schedule.now one) (checker_at one))) ∙ sym (ap length added.lanes));
+        ∙ ap numbers_below (sym (length-map (lanes_of old) (lane_with (length old.schedule.now) (clock_after step.bytes old.clock) (requests_at old.schedule.now one) (checker_at one))) ∙ sym (ap length added.lanes));
   }
 
   pub accounts : IsAccountOf new (steps ++ step ∷ [])
   accounts = subst (λ schedule. IsAccountOf (record new { schedule = schedule }) (steps ++ step ∷ [])) (sym added.schedule) with_schedule
 
 -- its packet and its samples were counted, one after the other
-pub added_so : (old packet sampled : RunAccount) (step : Step) (requests : List SampleRequest) (slot force : Option ℕ) (clock : RunClock) (records back : ℕ) →
+pub added_so : (old packet sampled : RunAccount) (step : Step) (requests : List SampleRequest) (slot : Option ℕ) (force : KnownText) (clock : RunClock) (records back : ℕ) →
     requests ≡ requests_in old.schedule.now old.slot step.bytes → force ≡ force_after old.force step → clock ≡ clock_after step.bytes old.clock → records ≡ add old.records 1 →
     back ≡ more_if (is_back old.clock.last (time_of step.bytes)) old.steps_back →
     HasPacket (brings step.bytes) (record old { force = force; clock = clock; records = records; steps_back = back }) packet →
-    HasSampled packet sampled requests (engine_among step.host.host.seats) packet.force → slot ≡ slot_after step →
+    HasSampled packet sampled requests (engine_among step.host.host.seats) packet.force.number → slot ≡ slot_after step →
     HasAdded old (record sampled { slot = slot }) step
 added_so old packet sampled step requests slot force clock records back bring forced time count backs has samples next =
     let one : Seen = record { slot = old.slot; known = old.force; before = old.clock; step = step } in record {
@@ -102,8 +107,8 @@ added_so old packet sampled step requests slot force clock records back bring fo
       steps_back = samples.steps_back ∙ has.steps_back ∙ backs;
       packets = samples.packets ∙ has.packets;
       samples = samples.samples ∙ (λ i. more_if (has_sample (bring i) (checker_at one)) (has.samples i));
-      ungiven = samples.ungiven ∙ (λ i. more_if (has_sample (bring i) (checker_at one) && is_none ((has.force ∙ forced) i)) (has.ungiven i));
-      rows = samples.rows ∙ (λ i. map (row_sampled (bring i) (checker_at one) ((has.force ∙ forced) i)) (has.rows i));
+      ungiven = samples.ungiven ∙ (λ i. more_if (has_sample (bring i) (checker_at one) && is_none ((has.force ∙ forced) i).number) (has.ungiven i));
+      rows = samples.rows ∙ (λ i. map (row_sampled (bring i) (checker_at one) ((has.force ∙ forced) i).number) (has.rows i));
       lanes =
           samples.lanes
           ∙ (λ i. map (lane_with (length (has.schedule i).now) ((has.clock ∙ time) i) (bring i) (checker_at one)) (has.lanes i));
@@ -191,6 +196,85 @@ none_counted it has_results requests checker force none = record {
   packets = refl;
   samples = λ i. more_if (sym none i) it.samples;
   ungiven = λ i. more_if (sym none i && is_none force) it.ungiven;
-  rows = same_rows requests checker force it.rows.items none;
-  lanes = same_lanes (length it.schedule.now) it.clock requests checker it.lanes.items none;
+  rows = same_rows requests checker force (rows_of it) none;
+  lanes = same_lanes (length it.schedule.now) it.clock requests checker (lanes_of it) none;
 }
+
+-- ---- a sample that repeats those before it
+
+-- it is noted
+pub one_noted : (it : RunAccount) (requests : List SampleRequest) (checker : Option LcOwn) (samples ungiven : ℕ) →
+    samples ≡ more_if (has_sample requests checker) it.samples → ungiven ≡ more_if (has_sample requests checker && is_none it.force.number) it.ungiven →
+    IsRepeat it.repeats it.results.items it.lanes.items requests checker it.force.number it.clock →
+    HasSampled it (record it {
+      samples = samples;
+      ungiven = ungiven;
+      has_results = true;
+      repeats = record { count = it.repeats.count + 1; force = it.force.number; last = it.clock.passed; allowed = two_cycles (length it.schedule.now) it.clock.tick };
+    }) requests checker it.force.number
+one_noted it requests checker samples ungiven sampled of_none repeat =
+    let next : it.repeats.count + 1 ≡ suc it.repeats.count = omega arith in
+    record {
+      schedule = refl;
+      slot = refl;
+      force = refl;
+      clock = refl;
+      records = refl;
+      steps_back = refl;
+      packets = refl;
+      samples = sampled;
+      ungiven = of_none;
+      rows =
+          (λ i. map (row_by (next i) it.force.number it.results.items) it.rows.items)
+          ∙ sym (rows_one_more it.repeats.count it.repeats.force it.force.number it.results.items requests checker it.rows.items repeat.text repeat.same);
+      lanes =
+          (λ i. map (lane_by (next i) it.clock.passed (two_cycles (length it.schedule.now) it.clock.tick) it.results.items) it.lanes.items)
+          ∙ sym (lanes_one_more it.repeats.count it.repeats.last it.repeats.allowed (length it.schedule.now) it.clock it.results.items requests checker it.lanes.items repeat.same repeat.on_time);
+    }
+
+-- or those noted are counted, and then it is
+pub one_counted : (old settled new : RunAccount) (has_results : Bool) (samples ungiven : ℕ) (requests : List SampleRequest) (checker : Option LcOwn) →
+    samples ≡ more_if (has_sample requests checker) old.samples → ungiven ≡ more_if (has_sample requests checker && is_none old.force.number) old.ungiven →
+    HasSettled (record old { samples = samples; ungiven = ungiven; has_results = has_results }) settled →
+    HasCounted settled new requests checker → HasSampled old new requests checker old.force.number
+one_counted old settled new has_results samples ungiven requests checker sampled of_none has counted = record {
+  schedule = counted.schedule ∙ has.schedule;
+  slot = counted.slot ∙ has.slot;
+  force = counted.force ∙ has.force;
+  clock = counted.clock ∙ has.clock;
+  records = counted.records ∙ has.records;
+  steps_back = counted.steps_back ∙ has.steps_back;
+  packets = counted.packets ∙ has.packets;
+  samples = counted.samples ∙ has.samples ∙ sampled;
+  ungiven = counted.ungiven ∙ has.ungiven ∙ of_none;
+  rows =
+      rows_none new.repeats.count new.repeats.force new.results.items new.rows.items (ap (λ (r : Repeats). r.count) counted.repeats ∙ has.none)
+      ∙ counted.rows
+      ∙ (λ i. map (row_sampled requests checker (has.force i).number) (has.rows i));
+  lanes =
+      lanes_none new.repeats.count new.repeats.last new.repeats.allowed new.results.items new.lanes.items (ap (λ (r : Repeats). r.count) counted.repeats ∙ has.none)
+      ∙ counted.lanes
+      ∙ (λ i. map (lane_with (length (has.schedule i).now) (has.clock i) requests checker) (has.lanes i));
+}
+
+-- ---- before the first record
+
+pub none_yet : (it : RunAccount) → it.repeats ≡ none_noted → it.slot ≡ None → it.force ≡ first_text → it.clock ≡ first_clock → it.records ≡ 0 → it.steps_back ≡ 0 → it.samples ≡ 0 → it.ungiven ≡ 0 →
+    AllByRecursion (λ (row : RuleRow). row.counts ≡ no_counts) it.rows.items → AllByRecursion (λ (count : PacketCount). count.packets ≡ 0) it.packets.items →
+    AllByRecursion (λ (lane : Lane). lane ≡ new_lane it.schedule.now lane) it.lanes.items → rules_of it.lanes.items ≡ numbers_below (length it.lanes.items) → IsAccountOf it []
+none_yet it none slot force clock records back samples ungiven rows packets lanes numbered =
+    let no_more : it.repeats.count ≡ 0 = ap (λ (r : Repeats). r.count) none in
+    let same : lanes_of it ≡ it.lanes.items = lanes_none it.repeats.count it.repeats.last it.repeats.allowed it.results.items it.lanes.items no_more in
+    record {
+      slot = slot;
+      force = force;
+      clock = clock;
+      records = records;
+      steps_back = back;
+      samples = samples;
+      ungiven = ungiven;
+      rows = subst (AllByRecursion (λ (row : RuleRow). row.counts ≡ counts_of it.schedule.now row.text row.rule (seen_of []))) (sym (rows_none it.repeats.count it.repeats.force it.results.items it.rows.items no_more)) rows;
+      packets = packets;
+      lanes = subst (AllByRecursion (λ (lane : Lane). lane ≡ lane_of it.schedule.now (seen_of []) lane)) (sym same) lanes;
+      numbered = subst (λ (some : List Lane). rules_of some ≡ numbers_below (length some)) (sym same) numbered;
+    }

@@ -1,7 +1,10 @@
--- After which records other tables may be in force. This project's own.
-use Rattle.std.specs.Prelude.{ℕ, ◌/◌, ◌%◌, ◌==◌, ◌&&◌, not, Bool, true, false, List, drop, get_or, length, nat_le, nat_lt, Option, if◌then◌else◌}
+-- After which records other tables may be in force, and the run's text in force. This project's own.
+use Rattle.std.specs.Prelude.{ℕ, ◌/◌, ◌%◌, ◌==◌, ◌&&◌, not, Bool, true, false, List, drop, get_or, length, nat_le, nat_lt, Option, None, if◌then◌else◌}
+use Rattle.lc_model.specs.Events.Outgoing.{housekeeping_size}
 use Rattle.lc_model.specs.Host.Stream.{header_size}
-use Rattle.lc_model.specs.Packet.{message_id, sample_mid}
+use Rattle.lc_model.specs.Packet.{lc_housekeeping_mid, message_id, sample_mid}
+use Rattle.run_account.specs.Clock.{is_tick}
+use Rattle.run_account.specs.declared.force.KnownText.{KnownText}
 
 -- a packet that is a command, but no request for a sample
 abbrev pub is_order : List ℕ → Bool
@@ -16,6 +19,18 @@ may_change bytes written =
     else if get_or bytes 0 0 == 2 then nat_lt 0 (length written)
     else true
 
--- the text in force, if it may have changed, else that known before
-abbrev pub force_if : Bool → (now known : Option ℕ) → Option ℕ
-force_if changes now known = if changes then now else known
+-- before the first record nothing runs, and the first tick may bring something into force
+abbrev pub first_text : KnownText
+first_text = record { number = None; is_settled = false }
+
+-- A record was a tick that led to the Limit Checker's housekeeping alone, by which it takes what it can.
+abbrev pub is_settling : (bytes written : List ℕ) → Bool
+is_settling bytes written = is_tick bytes && (length written == housekeeping_size && message_id written == lc_housekeeping_mid)
+
+-- after a record the text in force is asked for, if it may have changed: not at a tick, if nothing waits for one
+abbrev pub is_asked : KnownText → (bytes written : List ℕ) → Bool
+is_asked known bytes written = may_change bytes written && not (known.is_settled && is_tick bytes)
+
+-- after a record: the text in force now, if it is asked for, else the one known before
+abbrev pub text_after : KnownText → (bytes written : List ℕ) → (now : Option ℕ) → KnownText
+text_after known bytes written now = if is_asked known bytes written then record { number = now; is_settled = is_settling bytes written } else known

@@ -35,7 +35,7 @@ fn time_of(bytes: &[u8]) -> u64
 }
 
 /// Whether a record is a tick.
-fn is_tick(bytes: &[u8]) -> bool
+pub fn is_tick(bytes: &[u8]) -> bool
     ensures { result ≡ is_tick bytes.now }
 {
     HEADER <= bytes.len() && bytes[0] == TICK
@@ -49,6 +49,23 @@ fn forward(last: Option<u64>, now: u64) -> u64
         None => 0,
         Some(last) => now.saturating_sub(last),
     }
+}
+
+/// Whether a time is earlier than the last one.
+fn is_back(last: Option<u64>, now: u64) -> bool
+    ensures { result ≡ is_back last now }
+{
+    match last {
+        None => false,
+        Some(last) => now < last,
+    }
+}
+
+/// A count with one more, where that is so.
+pub fn more_if(is: bool, count: u64) -> u64
+    ensures { result ≡ more_if is count }
+{
+    if is { count.saturating_add(1) } else { count }
 }
 
 /// The time between two ticks, at least a second; a second if there was only one.
@@ -74,54 +91,26 @@ impl RunClock {
         }
     }
 
-    /// The clock at a tick.
-    fn at_tick(self) -> RunClock
-        ensures { result ≡ ticked_if true self }
+    /// Takes a tick at the time that has passed.
+    fn take_tick(&mut self)
+        ensures { self.new ≡ ticked_if true self.old }
     {
-        RunClock {
-            last: self.last,
-            passed: self.passed,
-            ticked: Some(self.passed),
-            tick: tick_between(self.ticked, self.passed),
-        }
+        self.tick = tick_between(self.ticked, self.passed);
+        self.ticked = Some(self.passed);
     }
 
-    /// The number of steps back with one more if a record is earlier than the last one.
-    pub fn count_back(self, count: u64, bytes: &[u8]) -> u64
-        ensures { result ≡ more_if (is_back self.last (time_of bytes.now)) count }
-    {
-        if self.is_back(bytes) {
-            count.saturating_add(1)
-        } else {
-            count
-        }
-    }
-
-    /// Whether a record is earlier than the last one.
-    fn is_back(self, bytes: &[u8]) -> bool
-        ensures { result ≡ is_back self.last (time_of bytes.now) }
-    {
-        match self.last {
-            None => false,
-            Some(last) => time_of(bytes) < last,
-        }
-    }
-
-    /// The clock after one more record.
-    pub fn after(self, bytes: &[u8]) -> RunClock
-        ensures { result ≡ clock_after bytes.now self }
+    /// Takes one more record. Returns whether it is earlier than the last one.
+    pub fn take(&mut self, bytes: &[u8]) -> bool
+        ensures clock { self.new ≡ clock_after bytes.now self.old }
+        ensures back { result ≡ is_back self.old.last (time_of bytes.now) }
     {
         let now = time_of(bytes);
-        let clock = RunClock {
-            last: Some(now),
-            passed: self.passed.saturating_add(forward(self.last, now)),
-            ticked: self.ticked,
-            tick: self.tick,
-        };
+        let last = self.last;
+        self.passed = self.passed.saturating_add(forward(last, now));
+        self.last = Some(now);
         if is_tick(bytes) {
-            clock.at_tick()
-        } else {
-            clock
+            self.take_tick();
         }
+        is_back(last, now)
     }
 }

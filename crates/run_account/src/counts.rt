@@ -57,33 +57,28 @@ impl RuleCounts {
             .saturating_add(self.errors)
     }
 
-    /// The counts with one more result.
-    fn with(self, found: ApResult) -> RuleCounts
-        ensures { result ≡ counts_with found self }
+    /// Counts one more result.
+    #[inline(always)]
+    fn add(&mut self, found: ApResult)
+        ensures { self.new ≡ counts_with found self.old }
     {
-        let mut counts = self;
         match found {
-            ApResult::Pass => counts.passed = self.passed.saturating_add(1),
-            ApResult::Fail => counts.failed = self.failed.saturating_add(1),
-            ApResult::Stale => counts.stale = self.stale.saturating_add(1),
-            ApResult::Error => counts.errors = self.errors.saturating_add(1),
+            ApResult::Pass => self.passed = self.passed.saturating_add(1),
+            ApResult::Fail => self.failed = self.failed.saturating_add(1),
+            ApResult::Stale => self.stale = self.stale.saturating_add(1),
+            ApResult::Error => self.errors = self.errors.saturating_add(1),
         }
-        counts
     }
 }
 
 impl RuleRow {
-    /// The row after a sample with this result, under tables of its text; the same if the rule was not sampled.
-    fn with(self, found: Option<ApResult>) -> RuleRow
-        ensures { result ≡ row_with (Some self.text) found self }
+    /// Counts a sample with this result, under tables of the row's text; none if the rule was not sampled.
+    #[inline(always)]
+    fn add(&mut self, found: Option<ApResult>)
+        ensures { self.new ≡ row_with (Some self.old.text) found self.old }
     {
-        match found {
-            Some(found) => RuleRow {
-                text: self.text,
-                rule: self.rule,
-                counts: self.counts.with(found),
-            },
-            None => self,
+        if let Some(found) = found {
+            self.counts.add(found);
         }
     }
 }
@@ -93,18 +88,18 @@ impl RuleRow {
 fn count_text(
     rows: &mut [RuleRow],
     results: &[Option<ApResult>],
-    requests: Requests<'_>,
+    requests: &Requests<'_>,
     engine: Option<&Engine>,
     text: usize,
 )
-    requires { AreResults (requests_of requests) (option_map (λ engine. engine.now) engine)
+    requires { AreResults (requests_of requests.now) (option_map (λ engine. engine.now) engine)
         results.now }
-    ensures { rows.new ≡ map (row_sampled (requests_of requests.entry)
+    ensures { rows.new ≡ map (row_sampled (requests_of requests.now)
         (option_map (λ engine. engine.now) engine.entry) (Some text)) rows.old }
 {
     for row in rows.iter_mut() {
         if row.text == text {
-            *row = row.with(result_at(results, requests, engine, row.rule));
+            row.add(result_at(results, requests, engine, row.rule));
         }
     }
 }
@@ -114,13 +109,13 @@ fn count_text(
 pub fn count_rows(
     rows: &mut [RuleRow],
     results: &[Option<ApResult>],
-    requests: Requests<'_>,
+    requests: &Requests<'_>,
     engine: Option<&Engine>,
     force: Option<usize>,
 )
-    requires { AreResults (requests_of requests) (option_map (λ engine. engine.now) engine)
+    requires { AreResults (requests_of requests.now) (option_map (λ engine. engine.now) engine)
         results.now }
-    ensures { rows.new ≡ map (row_sampled (requests_of requests.entry)
+    ensures { rows.new ≡ map (row_sampled (requests_of requests.now)
         (option_map (λ engine. engine.now) engine.entry) force) rows.old }
 {
     match force {

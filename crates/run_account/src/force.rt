@@ -4,8 +4,9 @@ ghost use Rattle.std.specs.Prelude.{◌≡◌};
 ghost use Rattle.app_host.specs.Delivered.{executive_in};
 ghost use Rattle.flight_profile.specs.Force.{text_in_force};
 ghost use Rattle.run_stepper.specs.Stepping.{host_in, written_by};
-ghost use Rattle.run_account.specs.Force.{force_if, is_order, may_change};
+ghost use Rattle.run_account.specs.Force.{first_text, is_asked, is_order, is_settling, may_change, text_after};
 
+use crate::clock::is_tick;
 use lc_model::mids;
 use lc_model::packet::message_id;
 use lc_model::stream::HEADER;
@@ -13,6 +14,19 @@ use run_stepper::Stepping;
 
 /// The least size of a command in bytes.
 const COMMAND_HEADERS: usize = 8;
+
+/// The size of the Limit Checker's housekeeping packet in bytes.
+const HOUSEKEEPING: usize = 192;
+
+/// The run's text in force, as it was asked for last.
+#[derive(Clone, Copy, Debug, PartialEq, Eq)]
+pub struct KnownText {
+    /// Its number, from 0. None if the tables in force are of none of the run's texts.
+    pub number: Option<usize>,
+    /// Whether a tick brings nothing else into force: since the last command, file or half of a rule text that the record brought, a tick
+    /// led to the Limit Checker's housekeeping alone, by which it takes what waits.
+    pub is_settled: bool,
+}
 
 /// Whether a packet is a command, but no request for a sample.
 fn is_order(packet: &[u8]) -> bool
@@ -37,16 +51,46 @@ pub fn may_change(bytes: &[u8], packets: &[u8]) -> bool
     }
 }
 
-/// The run's text in force after the record that was handled last; `known` is that before it.
-pub fn force_after(known: Option<usize>, stepping: &Stepping) -> Option<usize>
-    ensures { result ≡ force_if
-        (may_change (host_in stepping.now).held.last (written_by stepping.now))
-        (text_in_force (host_in stepping.now).files (executive_in (host_in stepping.now).host))
-        known }
+/// Whether a record is a tick that led to the Limit Checker's housekeeping alone.
+fn is_settling(bytes: &[u8], packets: &[u8]) -> bool
+    ensures { result ≡ is_settling bytes.now packets.now }
 {
-    if may_change(stepping.last_record(), stepping.packets()) {
-        stepping.own_text_in_force()
-    } else {
-        known
+    is_tick(bytes)
+        && (packets.len() == HOUSEKEEPING && message_id(packets) == mids::LC_HOUSEKEEPING)
+}
+
+impl KnownText {
+    /// Before the first record.
+    pub fn first() -> KnownText
+        ensures { result ≡ first_text }
+    {
+        KnownText {
+            number: None,
+            is_settled: false,
+        }
+    }
+
+    /// Whether the text in force is asked for after the record with these bytes, which led to these packets.
+    fn is_asked(self, bytes: &[u8], packets: &[u8]) -> bool
+        ensures { result ≡ is_asked self bytes.now packets.now }
+    {
+        may_change(bytes, packets) && !(self.is_settled && is_tick(bytes))
+    }
+
+    /// The text in force after the record that was handled last.
+    pub fn after(self, stepping: &Stepping) -> KnownText
+        ensures { result ≡ text_after self (host_in stepping.now).held.last (written_by stepping.now)
+            (text_in_force (host_in stepping.now).files (executive_in (host_in stepping.now).host)) }
+    {
+        let bytes = stepping.last_record();
+        let packets = stepping.packets();
+        if self.is_asked(bytes, packets) {
+            KnownText {
+                number: stepping.own_text_in_force(),
+                is_settled: is_settling(bytes, packets),
+            }
+        } else {
+            self
+        }
     }
 }

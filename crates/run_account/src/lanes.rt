@@ -1,6 +1,6 @@
 //! The time in which a rule was not sampled though the schedule asks for it.
 
-ghost use Rattle.std.specs.Prelude.{◌≡◌, ◌<◌, [], length, map, option_map, IfOk};
+ghost use Rattle.std.specs.Prelude.{◌≡◌, ◌-◌, ◌<◌, [], length, map, nat_lt, option_map, IfOk};
 ghost use Rattle.std.specs.List.{AllByRecursion};
 ghost use Rattle.lc_model.specs.Tables.Image.{numbers_below};
 ghost use Rattle.run_account.specs.Lanes.{is_scheduled, lane_after, lane_at, lane_with, new_lane, over, rules_of, two_cycles, unsampled_at};
@@ -30,7 +30,7 @@ pub struct Lane {
 }
 
 /// Two cycles of a schedule, where a tick lasts so long.
-fn two_cycles(schedule: &Schedule, tick: u64) -> u64
+pub fn two_cycles(schedule: &Schedule, tick: u64) -> u64
     ensures { result ≡ two_cycles (length schedule.now) tick }
 {
     tick.saturating_mul(2 * schedule.len() as u64)
@@ -70,30 +70,34 @@ impl Lane {
         }
     }
 
-    /// The lane after a sample at this time, after which the next one is late if it takes longer than `allowed`.
+    /// Takes a sample at this time, after which the next one is late if it takes longer than `allowed`.
     #[inline(always)]
-    fn after(self, allowed: u64, clock: RunClock) -> Lane
-        ensures { result ≡ lane_after allowed clock self }
+    fn add(&mut self, allowed: u64, clock: &RunClock)
+        ensures { self.new ≡ lane_after allowed clock.now self.old }
     {
-        Lane {
-            rule: self.rule,
-            is_scheduled: self.is_scheduled,
-            last: clock.passed,
-            allowed,
-            unsampled: self.unsampled_until(clock),
-        }
+        self.unsampled = self.unsampled_until(clock);
+        self.last = clock.passed;
+        self.allowed = allowed;
     }
 
-    /// The lane after a sample at this time.
-    pub fn at(self, schedule: &Schedule, clock: RunClock) -> Lane
-        ensures { result ≡ lane_at (length schedule.now) clock self }
+    /// Takes a sample at this time.
+    pub fn take(&mut self, schedule: &Schedule, clock: &RunClock)
+        ensures { self.new ≡ lane_at (length schedule.now) clock.now self.old }
     {
-        self.after(two_cycles(schedule, clock.tick), clock)
+        self.add(two_cycles(schedule, clock.tick), clock);
+    }
+
+    /// Whether a sample at this time is late.
+    pub fn is_late(&self, clock: &RunClock) -> bool
+        ensures { result ≡ nat_lt self.now.allowed (clock.now.passed - self.now.last) }
+    {
+        self.allowed < clock.passed.saturating_sub(self.last)
     }
 
     /// The time without a sample up to this one.
-    pub fn unsampled_until(self, clock: RunClock) -> u64
-        ensures { result ≡ unsampled_at clock self }
+    #[inline(always)]
+    pub fn unsampled_until(&self, clock: &RunClock) -> u64
+        ensures { result ≡ unsampled_at clock.now self.now }
     {
         let gap = clock.passed.saturating_sub(self.last);
         self.unsampled.saturating_add(over(self.allowed, gap))
@@ -118,20 +122,20 @@ pub fn lanes_of(alloc: Global, schedule: &Schedule, count: usize) -> Result<Vec<
 pub fn count_lanes(
     lanes: &mut [Lane],
     results: &[Option<ApResult>],
-    requests: Requests<'_>,
+    requests: &Requests<'_>,
     engine: Option<&Engine>,
     schedule: &Schedule,
-    clock: RunClock,
+    clock: &RunClock,
 )
-    requires { AreResults (requests_of requests) (option_map (λ engine. engine.now) engine)
+    requires { AreResults (requests_of requests.now) (option_map (λ engine. engine.now) engine)
         results.now }
-    ensures { lanes.new ≡ map (lane_with (length schedule.now) clock (requests_of requests.entry)
+    ensures { lanes.new ≡ map (lane_with (length schedule.now) clock.now (requests_of requests.now)
         (option_map (λ engine. engine.now) engine.entry)) lanes.old }
 {
     let allowed = two_cycles(schedule, clock.tick);
     for lane in lanes.iter_mut() {
         if result_at(results, requests, engine, lane.rule).is_some() {
-            *lane = lane.after(allowed, clock);
+            lane.add(allowed, clock);
         }
     }
 }

@@ -4,7 +4,7 @@ use crate::account::RunAccount;
 use crate::clock::SECOND;
 use crate::counts::RuleRow;
 use crate::texts::{packet_name, reads, rule_at};
-use crate::warning::{AccountWarning, is_text_never_sampled};
+use crate::warning::AccountWarning;
 use rpn_compiler::RuleText;
 use std::fmt::{self, Display, Formatter, Write};
 use std::str;
@@ -50,35 +50,46 @@ fn write_rule<W: Write>(
     }
 }
 
+/// Whether a rule was stale in each of its samples, or was never sampled.
+fn is_meant(row: RuleRow, are_stale: bool) -> bool {
+    if are_stale {
+        row.is_always_stale()
+    } else {
+        row.is_never_sampled()
+    }
+}
+
 /// Writes the names of the rules of a text that never were sampled, or that always were stale.
 fn write_rules<W: Write>(
     f: &mut Formatter<W>,
-    rows: &[RuleRow],
+    account: &RunAccount<'_>,
     texts: &[RuleText<'_>],
     text: usize,
     are_stale: bool,
 ) -> fmt::Result {
     let mut sign = "";
-    for row in rows {
-        let is_meant = if are_stale {
-            row.is_always_stale()
-        } else {
-            row.is_never_sampled()
-        };
-        if row.text == text && is_meant {
-            write!(f, "{sign}")?;
-            write_rule(f, texts, text, row.rule)?;
-            sign = ", ";
+    for number in 0..account.row_count() {
+        match account.row(number) {
+            Some(row) if row.text == text && is_meant(row, are_stale) => {
+                write!(f, "{sign}")?;
+                write_rule(f, texts, text, row.rule)?;
+                sign = ", ";
+            }
+            _ => {}
         }
     }
     Ok(())
 }
 
 /// Writes the numbers of the texts of which no rule was sampled.
-fn write_idle_texts<W: Write>(f: &mut Formatter<W>, rows: &[RuleRow], count: usize) -> fmt::Result {
+fn write_idle_texts<W: Write>(
+    f: &mut Formatter<W>,
+    account: &RunAccount<'_>,
+    count: usize,
+) -> fmt::Result {
     let mut sign = "";
     for text in 0..count {
-        if is_text_never_sampled(rows, text) {
+        if account.is_text_never_sampled(text) {
             write!(f, "{sign} {text}")?;
             sign = ",";
         }
@@ -100,7 +111,7 @@ fn write_readers<W: Write>(f: &mut Formatter<W>, text: &RuleText<'_>, mid: u16) 
 
 impl Display for WarningLine<'_, '_, '_> {
     fn fmt<W: Write>(&self, f: &mut Formatter<W>) -> fmt::Result {
-        let (rows, texts) = (self.account.rows(), self.texts);
+        let (account, texts) = (self.account, self.texts);
         match self.warning {
             AccountWarning::NothingSampled => write!(
                 f,
@@ -110,15 +121,15 @@ impl Display for WarningLine<'_, '_, '_> {
             ),
             AccountWarning::TextsNotSampled => {
                 write!(f, "warning[not-sampled]: no rule was sampled of text")?;
-                write_idle_texts(f, rows, texts.len())
+                write_idle_texts(f, account, texts.len())
             }
             AccountWarning::RulesNotSampled { text } => {
                 write!(f, "warning[not-sampled]: not sampled: ")?;
-                write_rules(f, rows, texts, text, false)
+                write_rules(f, account, texts, text, false)
             }
             AccountWarning::AlwaysStale { text } => {
                 write!(f, "warning[always-stale]: stale in each sample: ")?;
-                write_rules(f, rows, texts, text, true)
+                write_rules(f, account, texts, text, true)
             }
             AccountWarning::NoPacket { text, mid } => {
                 write!(f, "warning[no-packet]: no packet 0x{mid:04x} came")?;
@@ -163,7 +174,10 @@ impl AccountJson<'_, '_, '_> {
     /// Writes the rules.
     fn write_rows<W: Write>(&self, f: &mut Formatter<W>) -> fmt::Result {
         let mut sign = "";
-        for row in self.account.rows() {
+        for number in 0..self.account.row_count() {
+            let Some(row) = self.account.row(number) else {
+                break;
+            };
             let (text, rule, counts) = (row.text, row.rule, row.counts);
             write!(f, "{sign}{{\"text\":{text},\"rule\":{rule},\"name\":\"")?;
             write_rule(f, self.texts, text, rule)?;

@@ -96,8 +96,8 @@ pub fn requests_in<'s>(schedule: &'s Schedule, slot: Option<usize>, bytes: &[u8]
 
 impl Requests<'_> {
     /// Whether there is no request, as far as a glance shows.
-    pub fn is_nothing(self) -> bool
-        ensures { IsTrue result → requests_of self.entry ≡ [] }
+    pub fn is_nothing(&self) -> bool
+        ensures { IsTrue result → requests_of self.now ≡ [] }
     {
         match self {
             Requests::Nothing => true,
@@ -107,8 +107,8 @@ impl Requests<'_> {
     }
 
     /// Whether one of them takes the rule with this number.
-    pub fn takes(self, rule: usize) -> bool
-        ensures { result ≡ are_taking (requests_of self.entry) rule }
+    pub fn takes(&self, rule: usize) -> bool
+        ensures { result ≡ are_taking (requests_of self.now) rule }
     {
         match self {
             Requests::Nothing => false,
@@ -146,12 +146,12 @@ fn point_result(engine: &Engine, rule: usize) -> Option<ApResult>
 /// The result that these requests led to for the rule with this number, in an engine after them whose mode allows samples.
 #[inline(always)]
 pub(crate) fn sampled_result(
-    requests: Requests<'_>,
+    requests: &Requests<'_>,
     engine: &Engine,
     rule: usize,
 ) -> Option<ApResult>
     requires { is_disabled engine.now.mode ≡ false }
-    ensures { result ≡ result_of (requests_of requests.entry) (Some engine.now) rule }
+    ensures { result ≡ result_of (requests_of requests.now) (Some engine.now) rule }
 {
     if requests.takes(rule) {
         point_result(engine, rule)
@@ -173,8 +173,8 @@ fn standing_result(engine: &Engine, rule: usize) -> Option<ApResult>
 
 /// The result that these requests led to for the rule with this number, in the engine after them; none if it was not sampled. Of two
 /// samples in one record it is that of the last.
-pub fn result_of(requests: Requests<'_>, engine: Option<&Engine>, rule: usize) -> Option<ApResult>
-    ensures { result ≡ result_of (requests_of requests.entry)
+pub fn result_of(requests: &Requests<'_>, engine: Option<&Engine>, rule: usize) -> Option<ApResult>
+    ensures { result ≡ result_of (requests_of requests.now)
         (option_map (λ engine. engine.now) engine.entry) rule }
 {
     if !requests.takes(rule) {
@@ -187,8 +187,8 @@ pub fn result_of(requests: Requests<'_>, engine: Option<&Engine>, rule: usize) -
 }
 
 /// Whether these requests led to a result of some rule in this engine.
-fn has_sampled(requests: Requests<'_>, checker: &Engine) -> bool
-    ensures { result ≡ sampled_from (requests_of requests.entry) checker.now 0 checker.now.points }
+fn has_sampled(requests: &Requests<'_>, checker: &Engine) -> bool
+    ensures { result ≡ sampled_from (requests_of requests.now) checker.now 0 checker.now.points }
 {
     if !is_mode_on(checker.mode()) {
         return false;
@@ -202,8 +202,8 @@ fn has_sampled(requests: Requests<'_>, checker: &Engine) -> bool
 }
 
 /// Whether some rule was sampled: these requests led to a result of it, in the engine after them.
-pub fn is_sampled(requests: Requests<'_>, engine: Option<&Engine>) -> bool
-    ensures { result ≡ has_sample (requests_of requests.entry)
+pub fn is_sampled(requests: &Requests<'_>, engine: Option<&Engine>) -> bool
+    ensures { result ≡ has_sample (requests_of requests.now)
         (option_map (λ engine. engine.now) engine.entry) }
 {
     if requests.is_nothing() {

@@ -26,9 +26,9 @@ pub fn shown_results(results: &[Option<ApResult>], is_newest: bool) -> &[Option<
 }
 
 /// Puts the result of each rule into its place, for an engine whose mode allows samples.
-fn fill(results: &mut [Option<ApResult>], requests: Requests<'_>, engine: &Engine)
+fn fill(results: &mut [Option<ApResult>], requests: &Requests<'_>, engine: &Engine)
     requires { is_disabled engine.now.mode ≡ false }
-    ensures { results.new ≡ results_from (requests_of requests.entry) (Some engine.now) 0 results.old }
+    ensures { results.new ≡ results_from (requests_of requests.now) (Some engine.now) 0 results.old }
 {
     for (rule, found) in results.iter_mut().enumerate() {
         *found = sampled_result(requests, engine, rule);
@@ -39,10 +39,10 @@ fn fill(results: &mut [Option<ApResult>], requests: Requests<'_>, engine: &Engin
 /// where its mode allows no samples.
 pub fn take_results(
     results: &mut [Option<ApResult>],
-    requests: Requests<'_>,
+    requests: &Requests<'_>,
     engine: Option<&Engine>,
 ) -> bool
-    ensures { IsTrue result → AreResults (requests_of requests.entry)
+    ensures { IsTrue result → AreResults (requests_of requests.now)
         (option_map (λ engine. engine.now) engine.entry) results.new }
 {
     match engine {
@@ -59,13 +59,13 @@ pub fn take_results(
 #[inline(always)]
 pub fn result_at(
     results: &[Option<ApResult>],
-    requests: Requests<'_>,
+    requests: &Requests<'_>,
     engine: Option<&Engine>,
     rule: usize,
 ) -> Option<ApResult>
-    requires { AreResults (requests_of requests) (option_map (λ engine. engine.now) engine)
+    requires { AreResults (requests_of requests.now) (option_map (λ engine. engine.now) engine)
         results.now }
-    ensures { result ≡ result_of (requests_of requests.entry)
+    ensures { result ≡ result_of (requests_of requests.now)
         (option_map (λ engine. engine.now) engine.entry) rule }
 {
     match results.get(rule) {

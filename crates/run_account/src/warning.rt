@@ -38,28 +38,38 @@ impl RuleRow {
     }
 }
 
-/// Whether no rule of a text was sampled.
-pub(crate) fn is_text_never_sampled(rows: &[RuleRow], text: usize) -> bool {
-    rows.iter()
-        .all(|row| row.text != text || row.is_never_sampled())
-}
-
-/// Whether a rule with this number was sampled, of whichever text.
-fn is_sampled_somewhere(rows: &[RuleRow], rule: usize) -> bool {
-    rows.iter()
-        .any(|row| row.rule == rule && !row.is_never_sampled())
-}
-
-/// The rules of a text that have a fault, as one warning; none if no rule has it.
-fn of_rules(rows: &[RuleRow], text: usize) -> (bool, bool) {
-    let mine = |row: &RuleRow| row.text == text;
-    (
-        rows.iter().any(|row| mine(row) && row.is_never_sampled()),
-        rows.iter().any(|row| mine(row) && row.is_always_stale()),
-    )
-}
-
 impl RunAccount<'_> {
+    /// Whether no rule of a text was sampled.
+    pub(crate) fn is_text_never_sampled(&self, text: usize) -> bool {
+        (0..self.row_count()).all(|number| match self.row(number) {
+            Some(row) => row.text != text || row.is_never_sampled(),
+            None => true,
+        })
+    }
+
+    /// Whether a rule with this number was sampled, of whichever text.
+    fn is_sampled_somewhere(&self, rule: usize) -> bool {
+        (0..self.row_count()).any(|number| match self.row(number) {
+            Some(row) => row.rule == rule && !row.is_never_sampled(),
+            None => false,
+        })
+    }
+
+    /// Whether some rule of a text was never sampled, and whether some was stale in each of its samples.
+    fn rule_faults(&self, text: usize) -> (bool, bool) {
+        let mut faults = (false, false);
+        for number in 0..self.row_count() {
+            match self.row(number) {
+                Some(row) if row.text == text => {
+                    faults.0 |= row.is_never_sampled();
+                    faults.1 |= row.is_always_stale();
+                }
+                _ => {}
+            }
+        }
+        faults
+    }
+
     /// The number of the rule with the longest time without a sample that the schedule asks for, and that time; none if there is none. Rules
     /// that were never sampled have a warning of their own, and would hide the others.
     fn longest_unsampled(&self, texts: &[RuleText<'_>]) -> Option<(usize, u64)> {
@@ -67,7 +77,7 @@ impl RunAccount<'_> {
         let mut most = 0u64;
         for rule in 0..crate::texts::most_rules(texts) {
             let time = self.unsampled(rule);
-            if time > most && is_sampled_somewhere(self.rows(), rule) {
+            if time > most && self.is_sampled_somewhere(rule) {
                 most = time;
                 longest = Some((rule, time));
             }
@@ -77,7 +87,7 @@ impl RunAccount<'_> {
 
     /// Whether no rule of one of the texts was sampled.
     fn has_text_never_sampled(&self, texts: &[RuleText<'_>]) -> bool {
-        (0..texts.len()).any(|text| is_text_never_sampled(self.rows(), text))
+        (0..texts.len()).any(|text| self.is_text_never_sampled(text))
     }
 
     /// Adds the warnings about the rules of a text.
@@ -86,8 +96,8 @@ impl RunAccount<'_> {
         text: usize,
         warnings: &mut Vec<AccountWarning>,
     ) -> Result<(), AllocError> {
-        let (has_unsampled, has_stale) = of_rules(self.rows(), text);
-        if has_unsampled && !is_text_never_sampled(self.rows(), text) {
+        let (has_unsampled, has_stale) = self.rule_faults(text);
+        if has_unsampled && !self.is_text_never_sampled(text) {
             warnings.push(AccountWarning::RulesNotSampled { text })?;
         }
         if has_stale {

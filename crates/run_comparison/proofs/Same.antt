@@ -1,10 +1,12 @@
 -- Lists of meanings that are the same by the test are equal.
-use Rattle.std.proofs.Common.{◌≡◌, refl, sym, ◌∙◌, ap, ℕ, ◌==◌, ◌&&◌, Bool, true, false, List, [], ◌∷◌, bytes_eq, Some}
-use Rattle.std.proofs.lemmas.Bool.{eqb-true, false≢true}
+use Rattle.std.proofs.Common.{◌≡◌, refl, sym, ◌∙◌, ap, arith, ℕ, ◌==◌, ◌&&◌, Bool, true, false, List, [], ◌∷◌, length, bytes_eq, Some}
+use Rattle.std.proofs.lemmas.Bool.{eq-eqb, eqb-true, false≢true}
 use Rattle.std.proofs.lemmas.Slice.Eq.{bytes_eq-Decides}
 use Rattle.lc_model.specs.Codes.{event_code, event_numbered}
 use Rattle.lc_model.specs.declared.rule.EventKind.{EventKind}
 use Rattle.lc_model.specs.declared.rule.EventKind.TheVariants.{Debug, Information, Error, Critical}
+use Rattle.run_stepper.specs.Trace.{packets_within}
+use Rattle.run_comparison.specs.Asked.{sequences_in}
 use Rattle.run_comparison.specs.Meaning.{Meaning, Request, Event}
 use Rattle.run_comparison.specs.Order.{are_same, is_same}
 
@@ -44,6 +46,25 @@ same_one (Event sender id kind before after) (Event sender' id' kind' before' af
     let same_end : after ≡ after' = (bytes_eq-Decides after after').0 (and_right (numbers && kinds && senders && fronts) (bytes_eq after after') is) in
     λ i. Event (same_sender i) (same_id i) (same_type i) (same_front i) (same_end i)
 
+-- and equal lists are the same
+bytes_same : (bytes : List ℕ) → bytes_eq bytes bytes ≡ true
+bytes_same bytes = (bytes_eq-Decides bytes bytes).1 refl
+
+number_same : (n : ℕ) → (n == n) ≡ true
+number_same n = eq-eqb n n refl
+
+one_same : (one : Meaning) → is_same one one ≡ true
+one_same (Request sequence) = number_same sequence
+one_same (Event sender id kind before after) =
+    rw (number_same id, number_same (event_code kind), bytes_same sender, bytes_same before, bytes_same after) refl
+
+all_same : (these : List Meaning) → are_same these these ≡ true
+all_same [] = refl
+all_same (one ∷ these) = rw (one_same one, all_same these) refl
+
+pub equal_are_same : (these those : List Meaning) → these ≡ those → are_same these those ≡ true
+equal_are_same these those equal = ap (are_same these) (sym equal) ∙ all_same these
+
 pub same_are_equal : (these those : List Meaning) → are_same these those ≡ true → these ≡ those
 same_are_equal [] [] is = refl
 same_are_equal [] (other ∷ those) is = absurd (false≢true is)
@@ -52,3 +73,9 @@ same_are_equal (one ∷ these) (other ∷ those) is =
     let first : one ≡ other = same_one one other (and_left (is_same one other) (are_same these those) is) in
     let rest : these ≡ those = same_are_equal these those (and_right (is_same one other) (are_same these those) is) in
     λ i. first i ∷ rest i
+
+-- no packets request no sequence
+pub none_requested : (packets : List ℕ) → (length packets == 0) ≡ true → [] ≡ sequences_in packets
+unfolding packets_within
+none_requested [] none = refl
+none_requested (byte ∷ packets) none = absurd (omega (arith, eqb-true (length (byte ∷ packets)) 0 none))

@@ -73,6 +73,9 @@ fn sequences_in(alloc: Global, requests: &[Meaning<'_>]) -> Result<Vec<u16>, All
 fn sequences_of(alloc: Global, packets: &[u8]) -> Result<Vec<u16>, AllocError>
     ensures { IfOk result (λ sequences. sequences.items ≡ sequences_in packets.now) }
 {
+    if packets.is_empty() {
+        return Ok(Vec::new(alloc));
+    }
     let requests = meanings_of(alloc, packets, Sort::Requests)?;
     sequences_in(alloc, requests.as_slice())
 }

@@ -6,7 +6,7 @@ ghost use Rattle.run_comparison.specs.Comparing.{HasCompared, HasFound, with_met
 
 use crate::asked::Asked;
 use crate::beside::RunBeside;
-use crate::forces::ForcesBefore;
+use crate::forces::Forces;
 use crate::met::{MetRecord, met_record};
 use crate::texts::Sides;
 use lc_model::packet::first_packet;
@@ -32,7 +32,6 @@ pub struct Found<'s> {
     number: u64,
     pub records: Vec<MetRecord>,
     pub asked: Asked,
-    before: ForcesBefore,
     pub old_run: RunSoFar<'s>,
     pub new_run: RunSoFar<'s>,
 }
@@ -97,7 +96,6 @@ impl<'s> Found<'s> {
             number: 0,
             records: Vec::new(alloc),
             asked: Asked::nothing(alloc),
-            before: ForcesBefore::new(),
             old_run: RunSoFar {
                 events: 0,
                 account: RunAccount::new(alloc, sides.old.texts, schedule)?,
@@ -107,6 +105,14 @@ impl<'s> Found<'s> {
                 account: RunAccount::new(alloc, sides.new.texts, schedule)?,
             },
         })
+    }
+
+    /// The texts in force in both runs after the records so far.
+    fn forces(&self) -> Forces {
+        Forces {
+            old: self.old_run.account.text_in_force(),
+            new: self.new_run.account.text_in_force(),
+        }
     }
 
     /// Takes the record that both runs handled last.
@@ -120,11 +126,11 @@ impl<'s> Found<'s> {
         let Some(number) = self.number.checked_add(1) else {
             return Err(WatchError::Bound);
         };
-        let met = met_record(self.alloc, number, old, new, self.keeps_all, self.before)?;
+        let forces = self.forces();
+        let met = met_record(self.alloc, number, old, new, self.keeps_all, forces)?;
         keep_met(&mut self.records, met)?;
         self.asked.take(self.alloc, old.packets(), new.packets())?;
         self.number = number;
-        self.before = self.before.after(old, new);
         self.old_run.take(old);
         self.new_run.take(new);
         Ok(())

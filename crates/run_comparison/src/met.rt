@@ -6,7 +6,7 @@ ghost use Rattle.run_comparison.specs.Meaning.{meanings_in};
 ghost use Rattle.run_comparison.specs.Met.{kept, shown_by, shown_of};
 ghost use Rattle.run_comparison.specs.Order.{are_same};
 
-use crate::forces::{Forces, ForcesBefore};
+use crate::forces::Forces;
 use crate::meaning::{Sort, meanings_of};
 use crate::order::are_same;
 use run_stepper::Stepping;
@@ -36,6 +36,10 @@ fn do_differ(alloc: Global, old: &[u8], new: &[u8], sort: Sort) -> Result<bool, 
     ensures { IfOk result (λ is. is ≡ not (are_same (meanings_in sort old.now)
         (meanings_in sort new.now))) }
 {
+    // Most records lead to the same packets in both runs, or to none.
+    if old == new {
+        return Ok(false);
+    }
     let olds = meanings_of(alloc, old, sort)?;
     let news = meanings_of(alloc, new, sort)?;
     Ok(!are_same(olds.as_slice(), news.as_slice()))
@@ -48,14 +52,14 @@ fn is_kept(differs: bool, keeps_all: bool, old: &[u8], new: &[u8]) -> bool
     differs || keeps_all && (0 < old.len() || 0 < new.len())
 }
 
-/// The record of this number that both runs handled last, if it is kept. `before` has the texts in force before it, if they are known.
+/// The record of this number that both runs handled last, if it is kept. `forces` has the texts in force before it.
 pub fn met_record(
     alloc: Global,
     number: u64,
     old: &Stepping,
     new: &Stepping,
     keeps_all: bool,
-    before: ForcesBefore,
+    forces: Forces,
 ) -> Result<Option<MetRecord>, AllocError>
     ensures { IfOk result (λ met. option_map shown_of met ≡ kept keeps_all (shown_by (record {
       number = number;
@@ -76,6 +80,6 @@ pub fn met_record(
         new: Vec::from_slice(alloc, new.packets())?,
         do_requests_differ,
         do_events_differ,
-        forces: before.forces(old, new),
+        forces,
     }))
 }

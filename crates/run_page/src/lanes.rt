@@ -38,7 +38,7 @@ fn due_of(lane: Due) -> u64 {
 
 impl Lane {
     /// The time by which its next sample is late at a clock; 0 if it isn't, or in a gap.
-    fn late(&self, clock: RunClock) -> u64 {
+    fn late(&self, clock: &RunClock) -> u64 {
         if self.due.is_scheduled && self.open.is_none() {
             return clock.passed.saturating_sub(due_of(self.due));
         }
@@ -119,7 +119,7 @@ impl Lanes {
     }
 
     /// Begins gaps where a sample was due before this record. `before` is the place of the record before it.
-    fn begin_gaps(&mut self, clock: RunClock, before: Place, place: Place) {
+    fn begin_gaps(&mut self, clock: &RunClock, before: Place, place: Place) {
         if clock.passed <= self.next {
             return;
         }
@@ -141,7 +141,7 @@ impl Lanes {
         &mut self,
         schedule: &Schedule,
         results: &[Option<ApResult>],
-        clock: RunClock,
+        clock: &RunClock,
         before: Place,
         place: Place,
     ) -> Result<(), AllocError> {
@@ -155,7 +155,7 @@ impl Lanes {
                 is_one = true;
                 lane.end_gap(self.most, place)?;
                 lane.samples.records = lane.samples.records.saturating_add(1);
-                lane.due = lane.due.at(schedule, clock);
+                lane.due.take(schedule, clock);
                 self.next = self.next.min(due_of(lane.due));
             }
         }

@@ -10,7 +10,7 @@ use crate::lists::Lists;
 use crate::sampling::sample_count;
 use lc_model::EventKind;
 use rpn_compiler::RuleText;
-use run_account::{Requests, RunAccount, RunClock, may_change};
+use run_account::{Requests, RunAccount, may_change};
 use run_stepper::Stepping;
 use run_summary::{Account, FieldRange, Place, Seen, TypesOn};
 use schedules::Schedule;
@@ -20,7 +20,6 @@ use std::alloc::{AllocError, Global};
 #[derive(Drop)]
 pub struct Telling<'a, 's> {
     schedule: &'s Schedule,
-    passing: RunClock,
     /// The place of the last record.
     before: Place,
     /// Whether the next record is the first that is shown.
@@ -79,7 +78,6 @@ impl<'a, 's> Telling<'a, 's> {
         let lanes = Lanes::new(alloc, schedule, account.lanes)?;
         Ok(Telling {
             schedule,
-            passing: RunClock::new(),
             before: Place { record: 1, time: 0 },
             is_anew: true,
             clock: RecordClock::new(),
@@ -113,14 +111,8 @@ impl<'a, 's> Telling<'a, 's> {
     }
 
     /// Takes the results of a record. `run` is the account of the run up to it. The only error is a lack of memory.
-    fn take_samples(
-        &mut self,
-        record: &[u8],
-        place: Place,
-        run: &RunAccount<'_>,
-    ) -> Result<(), AllocError> {
+    fn take_samples(&mut self, place: Place, run: &RunAccount<'_>) -> Result<(), AllocError> {
         let schedule = self.schedule;
-        self.passing = self.passing.after(record);
         if self.is_anew {
             self.lanes.begin_anew(place);
             self.before = place;
@@ -129,7 +121,7 @@ impl<'a, 's> Telling<'a, 's> {
         let before = self.before;
         self.before = place;
         self.lanes
-            .take(schedule, run.results(), self.passing, before, place)
+            .take(schedule, run.results(), run.clock(), before, place)
     }
 
     /// Looks at the rules after a record, if they may differ from those before it. Returns whether they do, or are looked at first.
@@ -154,7 +146,7 @@ impl<'a, 's> Telling<'a, 's> {
     {
         let place = self.clock.next(run.records(), ticks_in(record));
         let samples = sample_count(requests);
-        self.take_samples(record, place, run)?;
+        self.take_samples(place, run)?;
         self.account.add_record(record, place)?;
         let came = self.account.came;
         tell_values(self.account.seen.as_slice(), came, place, &mut self.lists)?;

@@ -109,7 +109,7 @@ fn rule_shown(
     if is_switched_off(rule, engine, number) {
         return ALL;
     }
-    match result_of(requests, engine, number) {
+    match result_of(&requests, engine, number) {
         None => NOTHING,
         Some(ApResult::Stale | ApResult::Error) => RuleLook {
             is_sampled: true,
@@ -159,7 +159,7 @@ fn record_shown(
     };
     match text {
         Some(text) => text_shown(stepping, requests, text, coming),
-        None if is_sampled(requests, stepping.checker()) => ALL,
+        None if is_sampled(&requests, stepping.checker()) => ALL,
         None => NOTHING,
     }
 }

@@ -5,7 +5,7 @@ STEPS = [
     (
         "The headline",
         "The contract of `run` in `crates/flight_core/src/running.rt`, and its promises, one field each, in `Promises.antt`. The other modules have its terms: what a run is, what a host is, what an executive keeps.",
-        """crates/flight_core/specs/Promises.antt crates/flight_core/specs/Run.antt crates/app_host/specs/Hosted.antt
+        """crates/flight_core/specs/Promises.antt crates/flight_core/specs/Run.antt crates/app_host/specs/Object.antt crates/app_host/specs/Hosted.antt
         crates/app_host/specs/Whole.antt crates/host_refinement/specs/Keeping.antt Kept/Executive.antt Kept/Summary.antt
         Kept/Effort.antt""",
     ),

@@ -6,5 +6,5 @@ use Rattle.run_account.proofs.counts.count_rows.Goals as goal
 
 pub returns-in-None : goal.returns-in-None
 returns-in-None c =
-    no_text (requests_of c.args.requests) (option_map (λ engine. engine.now) c.args.engine) c.args.rows.now
-    ∙ (λ i. map (row_sampled (requests_of c.args.requests) (option_map (λ engine. engine.now) c.args.engine) (sym c.in-None.is i)) c.args.rows.now)
+    no_text (requests_of c.args.requests.now) (option_map (λ engine. engine.now) c.args.engine) c.args.rows.now
+    ∙ (λ i. map (row_sampled (requests_of c.args.requests.now) (option_map (λ engine. engine.now) c.args.engine) (sym c.in-None.is i)) c.args.rows.now)

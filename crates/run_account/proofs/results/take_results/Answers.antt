@@ -5,5 +5,5 @@ use Rattle.run_account.proofs.results.take_results.Goals as goal
 
 pub returns-in-Some : goal.returns-in-Some
 returns-in-Some c = λ is rule found there.
-    are_results (requests_of c.args.requests) (Some c.in-Some.engine.now) c.args.results.now c.fill.new.results c.fill.ensures rule found there
-    ∙ (λ i. result_of (requests_of c.args.requests) (option_map (λ engine. engine.now) (sym c.in-Some.is i)) rule)
+    are_results (requests_of c.args.requests.now) (Some c.in-Some.engine.now) c.args.results.now c.fill.new.results c.fill.ensures rule found there
+    ∙ (λ i. result_of (requests_of c.args.requests.now) (option_map (λ engine. engine.now) (sym c.in-Some.is i)) rule)

@@ -1,5 +1,0 @@
-use Rattle.std.proofs.Common.{length}
-use Rattle.run_comparison.proofs.forces.has_housekeeping.Given as goal
-
-abbrev pub decreases-loop-packet : goal.decreases-loop-packet
-decreases-loop-packet l = length l.rest
