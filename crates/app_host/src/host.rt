@@ -19,7 +19,8 @@ use packet_bus::PACKET_SIZE;
 use std::alloc::Global;
 
 /// The host: spares, eight seats, and the services that applications share. `B` is the type of an application; plain `Host` has
-/// boxed applications of any kinds. It has no `Drop`: whoever has one has to `close` it.
+/// boxed applications of any kinds.
+#[derive(Drop)]
 pub struct Host<B: App = Box<dyn App>> {
     pub(crate) stock: Vec<B>,
     pub(crate) seats: [Option<B>; Seat::COUNT],

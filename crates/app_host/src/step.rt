@@ -1,7 +1,6 @@
 //! Handles one record.
 
 ghost use Rattle.std.specs.Prelude.{◌≡◌, ◌≤◌, false, true, length, None, IfSome, IsSome};
-ghost use Rattle.lc_model.specs.Device.{NoWriteRetried};
 ghost use Rattle.lc_model.specs.Packet.{stream_fault, command_header_size};
 ghost use Rattle.lc_model.specs.Host.React.{Packet};
 ghost use Rattle.app_host.specs.Boxes.{BoxHasGone};
@@ -39,7 +38,6 @@ impl<B: App> Host<B> {
             Responds entry.now.moment (response_to entry.now.body (shown B.meaning self.old))
             (shown B.meaning self.old) (shown B.meaning self.new) (W.sink out.old).gained
             (W.sink out.new).gained result }
-        ensures not_retried { NoWriteRetried (W.sink out.old) (W.sink out.new) }
         ensures gone { (shown B.meaning self.old).is_closed ≡ false →
             IfSome (response_to entry.now.body (shown B.meaning self.old)).leaves
             (BoxHasGone B.meaning self.old.seats
@@ -77,7 +75,6 @@ impl<B: App> Host<B> {
             (W.sink out.new).gained result }
         ensures count { (shown B.meaning self.old).is_closed ≡ false →
             Counts entry.now.moment (input_by entry.now.body) (shown B.meaning self.old) result }
-        ensures not_retried { NoWriteRetried (W.sink out.old) (W.sink out.new) }
         ensures gone { (shown B.meaning self.old).is_closed ≡ false →
             IfSome (response_to entry.now.body (shown B.meaning self.old)).leaves
             (BoxHasGone B.meaning self.old.seats

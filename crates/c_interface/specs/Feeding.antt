@@ -3,7 +3,6 @@ use Rattle.std.specs.Prelude.{◌≡◌, ℕ, ◌+◌, min, Bool, true, false, L
 use Rattle.lc_model.specs.Host.Schedule.{Schedule}
 use Rattle.lc_model.specs.Host.ScheduleText.{schedule_in}
 use Rattle.app_host.specs.Hosted.{Object}
-use Rattle.app_host.specs.Left.{WasClosed}
 use Rattle.flight_core.specs.declared.error.RunError.{RunError}
 use Rattle.flight_core.specs.declared.halt.Halt.{Halt}
 use Rattle.flight_core.specs.declared.halt.Halt.TheVariants as halt
@@ -30,10 +29,6 @@ host_in fed = feeding_of lasting_meaning fed.host
 -- a host between two calls
 abbrev pub IsFed : Fed → Type 0
 IsFed fed = IsReady (host_in fed)
-
--- its host was closed
-abbrev pub FedWasClosed : Fed → Type 0
-FedWasClosed fed = WasClosed lasting_meaning (host_in fed).host
 
 -- it was made of these texts and this schedule, with this profile's stock and so much room; nothing has come, and nothing was
 -- written

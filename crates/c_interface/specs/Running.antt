@@ -13,7 +13,6 @@ use Rattle.flight_core.specs.declared.error.Report.{Report}
 use Rattle.flight_core.specs.declared.error.RunError.{RunError}
 use Rattle.flight_core.specs.Ending.{ending_of}
 use Rattle.flight_core.specs.Promises.{Promises}
-use Rattle.flight_profile.specs.Members.{OwnWasClosed}
 use Rattle.flight_profile.specs.Stock.{AreOwn, own_names, most_reads}
 use Rattle.c_interface.specs.declared.refusal.Refusal.{Refusal}
 use Rattle.c_interface.specs.declared.sentence.Sentence.{Sentence}
@@ -33,14 +32,14 @@ mission sources schedule = record {
 
 -- a stream of which nothing was read, and room in which nothing stands
 abbrev pub unread : List ℕ → Source
-unread stream = record { rest = Some stream; reads = 0; failed = false; retried = false }
+unread stream = record { rest = Some stream; reads = 0; failed = false }
 
 abbrev pub unwritten : Sink
-unwritten = record { gained = Some []; failed = false; retried = false }
+unwritten = record { gained = Some []; failed = false }
 
--- this many of the room's first bytes were written, and then it was full or not; nothing was written to the full room
+-- this many of the room's first bytes were written, and then it was full or not
 abbrev pub written_in : List ℕ → ℕ → Bool → Sink
-written_in output written full = record { gained = Some (take written output); failed = full; retried = false }
+written_in output written full = record { gained = Some (take written output); failed = full }
 
 -- the output after its first bytes, this many, is as it was
 abbrev pub IsKeptBehind : ℕ → (old new : List ℕ) → Type 0
@@ -52,7 +51,7 @@ pub record RunsInMemory (sources : List (List ℕ)) (schedule : Schedule) (strea
   pub full : Bool
   pub no_read_fails : after.failed ≡ false
   pub is_full : full ≡ true → written ≡ length output
-  pub promises : Promises ⊤ (AreOwn schedule) OwnWasClosed (mission sources schedule) (devices (unread stream) after unwritten (written_in output written full)) answer
+  pub promises : Promises ⊤ (AreOwn schedule) (mission sources schedule) (devices (unread stream) after unwritten (written_in output written full)) answer
 
 -- ---- in numbers
 

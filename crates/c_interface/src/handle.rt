@@ -15,8 +15,8 @@ use std::marker::Model;
 use std::mem::replace;
 use std::ptr::null_mut;
 
-/// What a handle holds: a host, room for what one record leads to, and how many bytes were written. It has no `Drop`, as its host has
-/// to be closed.
+/// What a handle holds: a host, room for what one record leads to, and how many bytes were written.
+#[derive(Drop)]
 pub struct Fed {
     pub(crate) host: FedHost<LastingBox>,
     pub(crate) room: Vec<u8>,

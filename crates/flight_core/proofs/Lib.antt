@@ -10,7 +10,6 @@ mod Courses
 mod Endings
 mod Exits
 mod Reasons
-mod Retries
 mod Outset
 mod Failures
 mod Fitting

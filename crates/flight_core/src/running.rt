@@ -5,12 +5,10 @@ ghost use Rattle.std.specs.Mem.{FitsInMemory};
 ghost use Rattle.lc_model.specs.Host.Outcome.{devices};
 ghost use Rattle.lc_model.specs.Host.Promise.{IsRun};
 ghost use Rattle.app_host.specs.Hosted.{objects_in};
-ghost use Rattle.app_host.specs.Left.{WasClosed};
 ghost use Rattle.app_host.specs.Whole.{AreSpares};
 ghost use Rattle.flight_core.specs.Brought.{AreWhole};
 ghost use Rattle.flight_core.specs.Compiled.{NamesTheNumber, sources_of};
 ghost use Rattle.flight_core.specs.Ending.{ending_of};
-ghost use Rattle.flight_core.specs.Failures.{TriesNoneAgain};
 ghost use Rattle.flight_core.specs.Fitting.{RefusesUnfitAlone};
 ghost use Rattle.flight_core.specs.Promises.{Promises};
 ghost use Rattle.flight_core.specs.Room.{HostFits};
@@ -44,11 +42,7 @@ fn host_fits<B: App>() -> bool
     ensures { result ≡ true → HostFits B.row }
 {
     let none: Option<Host<B>> = None;
-    let fits = fits_in_memory(&none);
-    match none {
-        None => fits,
-        Some(_host) => unreachable!(),
-    }
+    fits_in_memory(&none)
 }
 
 /// Allocates all memory, and handles all records; `pairs` are the compiled texts.
@@ -72,16 +66,13 @@ fn run_compiled<R: ByteSource, T: ByteSink, O: Outlet<T>, B: App>(
         RunsSo pairs.now (members_of (objects_in B.meaning stock.items)) (length pairs.now) reads
         (devices (R.source reader.old) (R.source reader.new) (O.device out.old)
         (O.device out.new)) result }
-    ensures reasons { RunsForItsReason (WasClosed B.meaning) pairs.now
+    ensures reasons { RunsForItsReason pairs.now
         (members_of (objects_in B.meaning stock.items)) reads
         (devices (R.source reader.old) (R.source reader.new) (O.device out.old) (O.device out.new))
         (ending_of result) }
     ensures judged { RefusesNone
         (devices (R.source reader.old) (R.source reader.new) (O.device out.old)
         (O.device out.new)) result }
-    ensures not_retried { TriesNoneAgain
-        (devices (R.source reader.old) (R.source reader.new) (O.device out.old)
-        (O.device out.new)) }
     ensures bounded { (R.source reader.new).reads ≤ reads }
 {
     // Always true, and known at compile time. It shows the proof that a host fits in memory, whatever its applications are.
@@ -131,8 +122,8 @@ pub fn run_within<R: ByteSource, W: ByteSink, B: App>(
         let mission = mission_of texts.now schedule.now objects reads in
         let before_and_after = devices (R.source reader.old) (R.source reader.new)
         (W.sink writer.old) (W.sink writer.new) in
-        Promises (IsOfProfile schedule.now objects) (AreThese objects) (WasClosed B.meaning)
-        mission before_and_after result }
+        Promises (IsOfProfile schedule.now objects) (AreThese objects) mission before_and_after
+        result }
 {
     // For the proof: each promise follows from how the run ends.
     runs_keep_their_promises();
@@ -165,13 +156,9 @@ pub(crate) fn run_texts<R: ByteSource, T: ByteSink, O: Outlet<T>, B: App>(
         (O.device out.new)) (ending_of result) }
     ensures named { IfErr result (NamesTheNumber (sources_of texts.now)) }
     ensures reasons { AnswersForItsReason (AreThese (objects_in B.meaning stock.items))
-        (WasClosed B.meaning)
         (mission_of texts.now schedule.now (objects_in B.meaning stock.items) reads)
         (devices (R.source reader.old) (R.source reader.new) (O.device out.old) (O.device out.new))
         (ending_of result) }
-    ensures not_retried { TriesNoneAgain
-        (devices (R.source reader.old) (R.source reader.new) (O.device out.old)
-        (O.device out.new)) }
     ensures bounded { (R.source reader.new).reads ≤ reads }
 {
     // For the proof: the host in numbers writes what a mission calls for.
@@ -214,8 +201,8 @@ pub fn run<R: ByteSource, W: ByteSink, B: App>(
         let mission = mission_of texts.now schedule.now objects MOST_READS in
         let before_and_after = devices (R.source reader.old) (R.source reader.new)
         (W.sink writer.old) (W.sink writer.new) in
-        Promises (IsOfProfile schedule.now objects) (AreThese objects) (WasClosed B.meaning)
-        mission before_and_after result }
+        Promises (IsOfProfile schedule.now objects) (AreThese objects) mission before_and_after
+        result }
 {
     run_within(alloc, texts, schedule, stock, reader, writer, MOST_READS)
 }

@@ -1,5 +1,4 @@
 mod Ascending
-mod Shifted
 mod Halves
 mod Places
 mod Ranges

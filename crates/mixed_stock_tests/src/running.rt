@@ -4,7 +4,6 @@ ghost use Rattle.std.specs.Prelude.{◌≡◌, ◌≤◌, false, None, IfOk, OnO
 ghost use Rattle.lc_model.specs.Host.Outcome.{devices};
 ghost use Rattle.lc_model.specs.Kept.Summary.{Other};
 ghost use Rattle.app_host.specs.Hosted.{objects_in};
-ghost use Rattle.app_host.specs.Left.{WasClosed};
 ghost use Rattle.app_host.specs.Whole.{AreSpares};
 ghost use Rattle.flight_core.specs.Compiled.{sources_of};
 ghost use Rattle.flight_core.specs.Ending.{ending_of};
@@ -46,8 +45,7 @@ fn run_mixed<R: ByteSource, W: ByteSink>(
         (devices (R.source reader.old) (R.source reader.new) (W.sink writer.old)
         (W.sink writer.new)) (ending_of answer)) }
     ensures bounded { IfOk result (λ _. (R.source reader.new).reads ≤ 4_294_967_296) }
-    ensures mixed { IfOk result (λ answer. RunsMixed (WasClosed ⟦<Box<dyn App> as App>⟧.meaning)
-        (sources_of texts.now) schedule.now
+    ensures mixed { IfOk result (λ answer. RunsMixed (sources_of texts.now) schedule.now
         (devices (R.source reader.old) (R.source reader.new) (W.sink writer.old)
         (W.sink writer.new)) (ending_of answer)) }
 {

@@ -85,8 +85,7 @@ impl Model for Files {
 
     ghost view = { λ f. f.list.items };
 
-    ghost invariant = { λ f. IsStore f.list.items f.spare.items (vec_capacity f.list)
-        (vec_capacity f.spare) };
+    ghost invariant = { λ f. IsStore f.list.items f.spare.items (vec_capacity f.list) };
 }
 
 impl Files {
@@ -98,7 +97,7 @@ impl Files {
         let list = Vec::with_capacity(alloc, MAX_FILES)?;
         let mut spare = Vec::with_capacity(alloc, MAX_FILES)?;
         for _ in 0..MAX_FILES {
-            spare.push_reserved(Buffer::new(alloc)?);
+            spare.push(Buffer::new(alloc)?)?;
         }
         Ok(Files { list, spare })
     }
@@ -119,7 +118,7 @@ impl Files {
                     return Err(TableError::StoreFull);
                 };
                 buffer.fill(bytes);
-                self.list.push_reserved(StoredFile::new(name, buffer));
+                self.list.push(StoredFile::new(name, buffer)).unwrap();
             }
         }
         Ok(())

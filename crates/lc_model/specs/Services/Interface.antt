@@ -12,7 +12,7 @@ use Rattle.lc_model.specs.Services.Events.{EventService, Sender, sender_named, s
 use Rattle.lc_model.specs.Services.Tables.{TableService, Table, tables_at}
 
 -- The services by seats: bus, event senders, files and tables, the record's moment, and the output of the call. Of the sequence
--- counts only that of event packets is here. Of the others these definitions say nothing.
+-- counts only that of event packets is here; a call may raise any other.
 pub record Held : Type 0 where
   pub bus : Bus
   pub events : EventService

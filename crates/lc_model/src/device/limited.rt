@@ -1,7 +1,7 @@
 //! A slice as a sink, with a limit.
 
 ghost use Rattle.std.specs.Prelude.{◌≡◌, ◌-◌, ◌<◌, ◌≤◌, ◌⊎◌, ◌↔◌, ℕ, min, length, take, drop, Some, None, false, IfOk, OnErr, IsErr};
-ghost use Rattle.lc_model.specs.Device.{one_call_more, retried_by_call, WritesSome, WriteFails};
+ghost use Rattle.lc_model.specs.Device.{one_call_more, WritesSome, WriteFails};
 
 use crate::device::{ByteSink, DeviceFault};
 
@@ -20,8 +20,6 @@ pub struct Limited<'a> {
     pub writes: u64,
     /// Whether a write has failed.
     pub failed: bool,
-    /// Whether a write came after a failed one.
-    pub retried: bool,
     ghost within: { taken ≤ limit },
     ghost has_room: { limit ≤ length room.now },
 }
@@ -36,7 +34,6 @@ impl<'a> Limited<'a> {
         ensures fault_at { result.fault_at ≡ None }
         ensures writes { result.writes ≡ 0 }
         ensures failed { result.failed ≡ false }
-        ensures retried { result.retried ≡ false }
     {
         Limited {
             room,
@@ -45,7 +42,6 @@ impl<'a> Limited<'a> {
             fault_at: None,
             writes: 0,
             failed: false,
-            retried: false,
         }
     }
 
@@ -58,7 +54,6 @@ impl<'a> Limited<'a> {
         ensures fault_at { result.fault_at ≡ Some write }
         ensures writes { result.writes ≡ 0 }
         ensures failed { result.failed ≡ false }
-        ensures retried { result.retried ≡ false }
     {
         Limited {
             room,
@@ -67,7 +62,6 @@ impl<'a> Limited<'a> {
             fault_at: Some(write),
             writes: 0,
             failed: false,
-            retried: false,
         }
     }
 
@@ -81,11 +75,7 @@ impl<'a> Limited<'a> {
 
 impl<'a> ByteSink for Limited<'a> {
     ghost sink = { λ limited.
-        record {
-          gained = Some (take limited.taken limited.room.now);
-          failed = limited.failed;
-          retried = limited.retried;
-        } };
+        record { gained = Some (take limited.taken limited.room.now); failed = limited.failed } };
 
     fn write(&mut self, bytes: &[u8]) -> Result<usize, DeviceFault>
         requires { 0 < length bytes.now }
@@ -95,7 +85,6 @@ impl<'a> ByteSink for Limited<'a> {
         ensures fault { OnErr result
             (WriteFails (⟦<Limited<'a> as ByteSink>⟧.sink self.old)
             (⟦<Limited<'a> as ByteSink>⟧.sink self.new)) }
-        ensures retried { self.new.retried ≡ retried_by_call self.old.failed self.old.retried }
 
         // The chosen write fails, and so does a write at the limit; any other takes all that the limit allows.
         ensures told { IsErr result ↔ ((self.old.fault_at ≡ Some self.new.writes) ⊎
@@ -109,7 +98,6 @@ impl<'a> ByteSink for Limited<'a> {
         ensures fault_at { self.new.fault_at ≡ self.old.fault_at }
     {
         self.writes = self.writes.saturating_add(1);
-        self.retried |= self.failed;
         if self.fault_at == Some(self.writes) || self.taken == self.limit {
             self.failed = true;
             return Err(DeviceFault);

@@ -6,6 +6,3 @@ use Rattle.c_interface.proofs.feeding.fed_of.Goals as goal
 
 pub returns-in-Ok-new-clause-ready : goal.returns-in-Ok-new-clause-ready
 returns-in-Ok-new-clause-ready c = subst (λ (fed : Fed). IsReady (feeding_of lasting_meaning fed.host)) (sym c.in-Ok-new.ensures.ok) c.in_ok-host.ensures.ready
-
-pub close_fed-requires : goal.close_fed-requires
-close_fed-requires c = subst (λ (fed : Fed). IsReady (feeding_of lasting_meaning fed.host)) (sym c.in-Err-new.ensures.value_returned) c.in_ok-host.ensures.ready

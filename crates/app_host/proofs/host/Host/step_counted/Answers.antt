@@ -1,5 +1,5 @@
 use Rattle.app_host.specs.Step.{input_by}
-use Rattle.app_host.proofs.Stepping.{handled_once, steps, counts_then}
+use Rattle.app_host.proofs.Stepping.{steps, counts_then}
 use Rattle.app_host.proofs.Responses.{responds_then, responds_so}
 use Rattle.app_host.proofs.Boxes.{gone_then}
 use Rattle.app_host.proofs.host.Host.step_counted.Goals as goal
@@ -20,6 +20,3 @@ returns-clause-own g c = λ is_open.
 
 pub returns-clause-gone : goal.returns-clause-gone
 returns-clause-gone g c = λ is_open. gone_then _ _ c.args.entry.now.body _ _ c.begin_step.ensures.begun _ _ c.begin_step.ensures.boxes c.handle.ensures.gone
-
-pub returns-clause-not_retried : goal.returns-clause-not_retried
-returns-clause-not_retried g c = handled_once _ _ _ _ _ _ _ _ c.handle.result c.handle.ensures.handled
