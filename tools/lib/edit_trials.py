@@ -235,7 +235,7 @@ class Trial:
         if not is_alone:
             return None
         if said.is_uncompiled:
-            return False, function, "it does not compile: " + next(it for it in said.text.split("\n") if "error[" in it)[:160]
+            return self.uncompiled_row(edit, function, next(it for it in said.text.split("\n") if "error[" in it))
         if said.is_proved:
             return False, function, "NOT REFUSED"
         if said.clauses:
@@ -247,6 +247,12 @@ class Trial:
         if said.is_uncovered:
             return False, function, "no contract was tried: the borrow checker does not cover the edited body"
         return False, function, "not judged: " + " / ".join(said.text.strip().split("\n")[-3:])[:300]
+
+    def uncompiled_row(self, edit, function, line):
+        """The row of an edit that does not compile, with the compiler's line: refused as it says only if it names that error."""
+        clause = edit.refused_by[1] if edit.refused_by else ""
+        is_right = clause.startswith("error ") and f"error[{clause.removeprefix('error ')}]" in line
+        return is_right, function, clause if is_right else f"it does not compile: {line[:160]}"
 
     def rows(self, edits, has_control=True):
         """A row of each of these edits, in their order: its name, whether it is refused as it says, the function, and by what."""
@@ -268,7 +274,7 @@ class Trial:
         said = self.check(group, group)
         broken = [(edit, it) for edit in group if len(group) > 1 for it in sorted(edit.functions(self.text_of) & said.uncompiled.keys() - {None})[:1]]
         for edit, function in broken:
-            yield edit, (False, function, f"it does not compile: {said.uncompiled[function]}")
+            yield edit, self.uncompiled_row(edit, function, said.uncompiled[function])
         rest = [it for it in group if it not in [edit for edit, _ in broken]]
         if broken:
             yield from self.judged(rest) if rest else []

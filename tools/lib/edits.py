@@ -13,6 +13,7 @@ FUNCTION is the module and the name, as `scanner::take`. CLAUSE is one of
     ensures LABEL     a labelled clause of the function (`ensures` alone where the function has no other)
     requires CALL     what a function that it calls asks for
     loop NAME         the invariant of a loop
+    error NAME        the compiler, by this error, as `error linear-value-let-go` where a value may not be let go
     GOAL              any other goal, by the checker's name for it (an overflow, an index, an invariant of a type)
 
 A crate of laws or of examples has no body to edit: its edit makes an example false, FUNCTION is then the file of proofs, as

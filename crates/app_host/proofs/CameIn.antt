@@ -70,6 +70,7 @@ module _ (next : Next) (old one two new : Hosted) (sent : ℕ) (before mid now :
     idle = idle_then two new second;
     small = let a = all.count in let b = rest.count in let c = followed.whole.fits in omega (arith, a, b, c, fits);
     fine = rest.fine ∙ all.fine;
+    not_retried = λ fine. rest.not_retried (all.fine ∙ fine) ∙ all.not_retried fine;
     known = known_new;
     exact = λ its_own none. record {
       executive = executive_then its_own none;
@@ -86,6 +87,7 @@ module _ (next : Next) (old one two new : Hosted) (sent : ℕ) (before mid now :
     is_closed = part.is_closed;
     calls = second.calls ∙ followed.whole.calls ∙ first.calls;
     failed = part.failed;
+    not_retried = λ fine. part.not_retried (all.fine ∙ fine) ∙ all.not_retried fine;
     known = known_new;
     exact = λ its_own none. let so : total ≡ part.taken = (let a = part.count in let b = nothing_sent its_own none in omega (arith, a, b)) in record {
       executive = executive_then its_own none;
@@ -184,6 +186,7 @@ nobody_came next old one before now spares flushed total part = record {
   is_closed = part.is_closed;
   calls = flushed.calls;
   failed = part.failed;
+  not_retried = part.not_retried;
   known = λ known its_own. still_known old one flushed known;
   exact = λ its_own none. absurd (omega (arith, part.fewer, ap length none));
 }

@@ -6,7 +6,7 @@ use Rattle.std.specs.List.{concat}
 use Rattle.std.proofs.lemmas.List.{append-nil}
 use Rattle.std.proofs.lemmas.List.Folds.{concat-append}
 use Rattle.lc_model.specs.declared.record.Moment.{Moment}
-use Rattle.lc_model.specs.Device.{Sink}
+use Rattle.lc_model.specs.Device.{Sink, NoWriteRetried}
 use Rattle.lc_model.specs.Packet.{sample_mid, lc_housekeeping_request_mid}
 use Rattle.lc_model.specs.Kept.Executive.{Pipe, Written, ready_seat, delivered_at, drained}
 use Rattle.lc_model.specs.Kept.Stations.{Station, delivery_stations, last_calls}
@@ -63,6 +63,7 @@ pub record Draining (first now : Hosted) (sent : ℕ) (before after : Sink) : Ty
   pub is_closed : now.is_closed ≡ first.is_closed
   pub moment : now.services.moment ≡ first.services.moment
   pub fine : after.failed ≡ before.failed
+  pub not_retried : NoWriteRetried before after
   pub own : Hearing first now sent before.gained after.gained
   pub known : AreKnown first → AreKnown now
   pub exact : IsDetermined first → SoFar first.services.moment (executive_in first) now sent before.gained after.gained
@@ -76,6 +77,7 @@ draining_first h sink whole light few none = record {
   is_closed = refl;
   moment = refl;
   fine = refl;
+  not_retried = λ fine. refl;
   own = record {
     theirs = [];
     count = refl;
@@ -211,6 +213,7 @@ module _ (first now given later : Hosted) (sent seat : ℕ) (before mid after : 
     is_closed = all.is_closed ∙ delivered.is_closed ∙ far.is_closed;
     moment = ap (λ (s : Services). s.moment) flushed.services ∙ delivered.moment ∙ far.moment;
     fine = all.fine ∙ far.fine;
+    not_retried = λ fine. all.not_retried (far.fine ∙ fine) ∙ far.not_retried fine;
     own = record {
       theirs = far.own.theirs ++ given.services.outgoing;
       count = omega (arith, all.count, far.own.count, length-append far.own.theirs given.services.outgoing);
@@ -229,6 +232,7 @@ module _ (first now given later : Hosted) (sent seat : ℕ) (before mid after : 
     is_closed = part.is_closed;
     calls = omega (arith, few_then);
     failed = part.failed;
+    not_retried = λ fine. part.not_retried (far.fine ∙ fine) ∙ far.not_retried fine;
     known = λ known determined. known_later known;
     exact = λ determined.
         subst (λ n. IsCut (delivery_stations on_board first.services.moment 0 520 (executive_in first)) (drained on_board first.services.moment 520 (executive_in first)) n later before.gained after.gained)
@@ -257,6 +261,7 @@ draining_end first now sent before after far none = record {
   is_closed = far.is_closed;
   calls = omega (arith, far.few);
   fine = far.fine;
+  not_retried = far.not_retried;
   known = λ known determined. far.known known;
   exact = λ determined. all_done first.services.moment (executive_in first) now sent before.gained after.gained (far.exact determined) none;
   count = λ determined. all_counted first.services.moment (executive_in first) now sent before.gained after.gained (far.exact determined) none;
@@ -283,6 +288,7 @@ asking_more party stations step last old new before now (Ok total) all = record 
   is_closed = all.is_closed;
   calls = all.calls;
   fine = all.fine;
+  not_retried = all.not_retried;
   known = λ known asked. all.known known (tt, tt);
   exact = λ asked. all.exact (tt, tt);
   count = λ asked. all.count (tt, tt);
@@ -293,6 +299,7 @@ asking_more party stations step last old new before now (Err fault) part = recor
   is_closed = part.is_closed;
   calls = part.calls;
   failed = part.failed;
+  not_retried = part.not_retried;
   known = λ known asked. part.known known (tt, tt);
   exact = λ asked. part.exact (tt, tt);
 }

@@ -49,6 +49,7 @@ module _ (old mid new : Hosted) (e : Executive (List ℕ)) (is : executive_in mi
     is_closed = all.is_closed ∙ closed;
     calls = all.calls;
     fine = all.fine;
+    not_retried = all.not_retried;
     known = λ k those. all.known (known k) those;
     exact = λ those. subst (λ (w : Written (List ℕ)). IsDone (written_once w) w 0 new before.gained now.gained) step_is (all.exact those);
     count = λ those. all.count those ∙ ap (λ (w : Written (List ℕ)). length (concat w.1)) step_is;
@@ -59,6 +60,7 @@ module _ (old mid new : Hosted) (e : Executive (List ℕ)) (is : executive_in mi
     is_closed = part.is_closed;
     calls = part.calls;
     failed = part.failed;
+    not_retried = part.not_retried;
     known = λ k those. part.known (known k) those;
     exact = λ those. subst (λ (w : Written (List ℕ)). IsCut (written_once w) w fault.sent new before.gained now.gained) step_is (part.exact those);
   }

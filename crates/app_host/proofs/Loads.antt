@@ -6,7 +6,7 @@ use Rattle.std.proofs.lemmas.List.{get_or-set_same, get_or-set_other, length-set
 use Rattle.std.proofs.lemmas.List.Sums.{sum_by-cons, sum_by-set, sum_by-append, length-filter, count_by-le-length}
 use Rattle.lc_model.specs.Packet.{message_id, tick_mid}
 use Rattle.lc_model.specs.Kept.Executive.{Pipe, hears}
-use Rattle.lc_model.specs.Services.Interface.{MayPublish, IsOwnPipe, waiting_in}
+use Rattle.lc_model.specs.Services.Interface.{MayPublish, IsPartOf, IsOwnPipe, waiting_in}
 use Rattle.app_host.specs.Load.{is_tick, packets_in, ticks_in, weight_of, all_ticks, load, IsLight}
 
 -- ---- sums
@@ -72,23 +72,49 @@ few_heard published none (Some pipe) =
       ticks = omega (arith, ticks_append pipe.waiting heard, no_ticks_heard (λ packet. hears packet pipe) published none);
     }
 
-few_own : (published : List (List ℕ)) (old new : Option Pipe) → IfSome new (IsOwnPipe old published) → IsFew old new (length published)
-few_own published old None own = record { packets = omega arith; ticks = omega arith }
-few_own published old (Some pipe) own = by_stayed own.old_or_new
+-- a part is no longer than the whole
+part_fits : (part all : List (List ℕ)) → IsPartOf part all → length part ≤ length all
+part_fits [] all is = omega arith
+part_fits (packet ∷ part) [] is = absurd is
+part_fits (packet ∷ part) (first ∷ all) (inl (same, is)) = omega (arith, part_fits part all is)
+part_fits (packet ∷ part) (first ∷ all) (inr is) = omega (arith, part_fits (packet ∷ part) all is)
+
+-- it has no more ticks either
+fewer_ticks : (part all : List (List ℕ)) → IsPartOf part all → count_by is_tick part ≤ count_by is_tick all
+fewer_ticks [] all is = omega arith
+fewer_ticks (packet ∷ part) [] is = absurd is
+fewer_ticks (packet ∷ part) (first ∷ all) (inl (same, is)) = rw same (omega (arith, ticks_cons first part, ticks_cons first all, fewer_ticks part all is))
+fewer_ticks (packet ∷ part) (first ∷ all) (inr is) = omega (arith, ticks_cons first all, fewer_ticks (packet ∷ part) all is)
+
+few_own : (published : List (List ℕ)) → AllByRecursion (λ (other : List ℕ). message_id other ≢ tick_mid) published → (old new : Option Pipe) →
+    IfSome new (IsOwnPipe old published) → IsFew old new (length published)
+few_own published none old None own = record { packets = omega arith; ticks = omega arith }
+few_own published none old (Some pipe) own = by_stayed own.old_or_new
   where
+    few : length own.heard ≤ length published
+    few = omega (
+      arith,
+      part_fits own.heard (filter (λ packet. hears packet pipe) published) own.heard_of,
+      length-filter (λ packet. hears packet pipe) published,
+      count_by-le-length (λ packet. hears packet pipe) published,
+    )
+
+    no_ticks : count_by is_tick own.heard ≡ 0
+    no_ticks = omega (arith, fewer_ticks own.heard (filter (λ packet. hears packet pipe) published) own.heard_of, no_ticks_heard (λ packet. hears packet pipe) published none)
+
     packets_are : length pipe.waiting ≡ length own.stayed + length own.heard
     packets_are = ap length own.waiting ∙ length-append own.stayed own.heard
 
     ticks_are : count_by is_tick pipe.waiting ≡ count_by is_tick own.stayed
-    ticks_are = omega (arith, ap (count_by is_tick) own.waiting, ticks_append own.stayed own.heard, no_ticks_in own.heard own.no_ticks)
+    ticks_are = omega (arith, ap (count_by is_tick) own.waiting, ticks_append own.stayed own.heard, no_ticks)
 
     by_stayed : (own.stayed ≡ waiting_in old) ⊎ (own.stayed ≡ []) → IsFew old (Some pipe) (length published)
     by_stayed (inl same) = record {
-      packets = omega (arith, packets_are, own.few, ap length same);
+      packets = omega (arith, packets_are, few, ap length same);
       ticks = omega (arith, ticks_are, ap (count_by is_tick) same);
     }
     by_stayed (inr none) = record {
-      packets = omega (arith, packets_are, own.few, ap length none);
+      packets = omega (arith, packets_are, few, ap length none);
       ticks = omega (arith, ticks_are, ap (count_by is_tick) none);
     }
 
@@ -166,7 +192,7 @@ module _ (pipes : List (Option Pipe)) (seat : ℕ) (light : IsLight pipes) (pipe
         by_test : (b : Bool) → (other == seat) ≡ b → IsFew (slice_index_or taken other None) (slice_index_or new other None) (length published)
         by_test true is =
             let same : other ≡ seat = grind (arith, is) in
-            rw same (few_own published (slice_index_or taken seat None) (slice_index_or new seat None) own)
+            rw same (few_own published may.no_ticks (slice_index_or taken seat None) (slice_index_or new seat None) own)
         by_test false is = rw (heard other (grind (arith, is))) (few_heard published may.no_ticks (slice_index_or taken other None))
 
     as_long : length new ≡ length taken

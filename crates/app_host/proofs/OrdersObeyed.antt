@@ -139,6 +139,7 @@ module _ (packet : List ℕ) (old ready : Hosted) (next : Next) (whole : IsWhole
     is_closed = failed.is_closed;
     calls = omega (arith, calls_then);
     failed = failed.failed;
+    not_retried = failed.not_retried;
     known = λ known asked. failed.known (prepared.known known) (prepared.exact asked).next_known;
     exact = λ asked.
         let leads : LeadsTo answer ready next = prepared.exact asked in
@@ -194,6 +195,7 @@ module _ (packet : List ℕ) (old ready : Hosted) (next : Next) (whole : IsWhole
       is_closed = all.is_closed ∙ has_told.is_closed ∙ came.whole.is_closed ∙ prepared.whole.is_closed;
       calls = omega (arith, calls_new);
       fine = all.fine ∙ came.fine;
+      not_retried = λ fine. all.not_retried (came.fine ∙ fine) ∙ came.not_retried fine;
       known = known_new;
       exact = λ s.
           done_as new before.gained now.gained (leads s)
@@ -213,6 +215,7 @@ module _ (packet : List ℕ) (old ready : Hosted) (next : Next) (whole : IsWhole
       is_closed = part.is_closed;
       calls = omega (arith, calls_new);
       failed = part.failed;
+      not_retried = λ fine. part.not_retried (came.fine ∙ fine) ∙ came.not_retried fine;
       known = known_new;
       exact = λ s.
           cut_as total new before.gained now.gained (leads s)

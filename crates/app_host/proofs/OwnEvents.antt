@@ -105,6 +105,7 @@ module _ (request : Request) (old mid new : Hosted) (before after : Sink) (whole
     is_closed = all.is_closed ∙ told.is_closed;
     calls = omega (arith, calls_then);
     fine = all.fine;
+    not_retried = all.not_retried;
     known = λ known those. known_then known;
     exact = λ those. record {
       executive = executive_then;
@@ -122,6 +123,7 @@ module _ (request : Request) (old mid new : Hosted) (before after : Sink) (whole
     is_closed = part.is_closed;
     calls = omega (arith, calls_then);
     failed = part.failed;
+    not_retried = part.not_retried;
     known = λ known those. known_then known;
     exact = λ those. record {
       station = station;

@@ -121,6 +121,7 @@ module _ (law : TablesAreFound) (old mid : Hosted) (packet : List ℕ) (whole : 
     is_closed = all.is_closed ∙ closed;
     calls = all.calls;
     fine = all.fine;
+    not_retried = all.not_retried;
     known = λ known asked. all.known (known_mid known) (determined_mid asked);
     exact = λ asked. subst (λ (p : Moment × Executive (List ℕ)). IsDone (delivery_stations on_board p.0 0 520 p.1) (drained on_board p.0 520 p.1) (last_calls on_board p.0 (delivery_stations on_board p.0 0 520 p.1)) new before.gained now.gained)
         (λ i. (moment i, executive_mid i)) (all.exact (determined_mid asked));
@@ -132,6 +133,7 @@ module _ (law : TablesAreFound) (old mid : Hosted) (packet : List ℕ) (whole : 
     is_closed = part.is_closed;
     calls = part.calls;
     failed = part.failed;
+    not_retried = part.not_retried;
     known = λ known asked. part.known (known_mid known) (determined_mid asked);
     exact = λ asked. subst (λ (p : Moment × Executive (List ℕ)). IsCut (delivery_stations on_board p.0 0 520 p.1) (drained on_board p.0 520 p.1) fault.sent new before.gained now.gained)
         (λ i. (moment i, executive_mid i)) (part.exact (determined_mid asked));

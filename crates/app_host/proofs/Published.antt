@@ -14,7 +14,7 @@ use Rattle.lc_model.specs.Laws.Bus.{IsShort}
 use Rattle.lc_model.specs.Services.Bus.{Bus, Queue, Publication, pipe_depth, seen, seen_pipe, is_blocked, publish_refusal}
 use Rattle.lc_model.specs.Services.Events.{EventService, Sender, sender_at}
 use Rattle.lc_model.specs.Services.Tables.{Table, TableService, tables_at}
-use Rattle.lc_model.specs.Services.Interface.{Held, MayBeGiven, MayPublish, IsGiven, IsOwnPipe, BelongsTo, most_published, seen_at, waiting_in, is_table_of}
+use Rattle.lc_model.specs.Services.Interface.{Held, MayBeGiven, MayPublish, IsGiven, IsPartOf, IsOwnPipe, BelongsTo, most_published, seen_at, waiting_in, is_table_of}
 use Rattle.lc_model.specs.Services.Settled.{IsSettled, own_forms, form_of}
 use Rattle.lc_model.specs.Services.Seen.{services_seen}
 use Rattle.packet_bus.specs.declared.error.BusError.{BusError}
@@ -102,21 +102,9 @@ heard_at pipes [] seat = nothing_heard (slice_index_or pipes seat None)
 heard_at pipes (packet ∷ packets) seat =
     heard_at (published_to pipes packet) packets seat ∙ ap (option_map (hearing packets)) (at_place pipes packet seat) ∙ heard_then (slice_index_or pipes seat None) packet packets
 
-fewer_heard : (test : List ℕ → Bool) (packets : List (List ℕ)) → length (filter test packets) ≤ length packets
-fewer_heard test [] = omega arith
-fewer_heard test (packet ∷ packets) = by_test (test packet) refl (fewer_heard test packets)
-  where
-    by_test : (b : Bool) → test packet ≡ b → length (filter test packets) ≤ length packets → length (filter test (packet ∷ packets)) ≤ length (packet ∷ packets)
-    by_test true e fewer = rw e (omega (arith, fewer))
-    by_test false e fewer = rw e (omega (arith, fewer))
-
-still_all : (P : List ℕ → Type 0) (test : List ℕ → Bool) (packets : List (List ℕ)) → AllByRecursion P packets → AllByRecursion P (filter test packets)
-still_all P test [] all = tt
-still_all P test (packet ∷ packets) all = by_test (test packet) refl (still_all P test packets all.1)
-  where
-    by_test : (b : Bool) → test packet ≡ b → AllByRecursion P (filter test packets) → AllByRecursion P (filter test (packet ∷ packets))
-    by_test true e rest = rw e (all.0, rest)
-    by_test false e rest = rw e rest
+whole_is_part : (packets : List (List ℕ)) → IsPartOf packets packets
+whole_is_part [] = tt
+whole_is_part (packet ∷ packets) = inl (refl, whole_is_part packets)
 
 -- ---- the rules
 
@@ -124,15 +112,14 @@ module _ (seat : ℕ) (packets : List (List ℕ)) (before after : Services) (p :
   heard_there : (other : ℕ) → seen_at other (held_by after) ≡ option_map (hearing packets) (seen_at other (held_by before))
   heard_there other = ap (λ pipes. slice_index_or pipes other None) p.pipes ∙ heard_at (seen before.bus) packets other
 
-  own_pipe : (place : Option Pipe) → AllByRecursion (λ (other : List ℕ). message_id other ≢ tick_mid) packets → IfSome (option_map (hearing packets) place) (IsOwnPipe place packets)
-  own_pipe None no_ticks = tt
-  own_pipe (Some pipe) no_ticks = record {
+  own_pipe : (place : Option Pipe) → IfSome (option_map (hearing packets) place) (IsOwnPipe place packets)
+  own_pipe None = tt
+  own_pipe (Some pipe) = record {
     stayed = pipe.waiting;
     heard = filter (λ packet. hears packet pipe) packets;
     waiting = refl;
     old_or_new = inl refl;
-    few = fewer_heard (λ packet. hears packet pipe) packets;
-    no_ticks = still_all (λ (other : List ℕ). message_id other ≢ tick_mid) (λ packet. hears packet pipe) packets no_ticks;
+    heard_of = whole_is_part (filter (λ packet. hears packet pipe) packets);
   }
 
   pub published_is_given : (name : Name) (packet : List ℕ) → MayPublish packet packets → BelongsTo seat name (held_by before) → before.outgoing ≡ [] →
@@ -151,7 +138,7 @@ module _ (seat : ℕ) (packets : List (List ℕ)) (before after : Services) (p :
       pipes = λ other two. heard_there other;
       outgoing = let none : length after.outgoing ≡ 0 = ap length (p.outgoing ∙ idle) in omega (arith, none);
     };
-    own = subst (λ place. IfSome place (IsOwnPipe (seen_at seat (held_by before)) packets)) (sym (heard_there seat)) (own_pipe (seen_at seat (held_by before)) may.no_ticks);
+    own = subst (λ place. IfSome place (IsOwnPipe (seen_at seat (held_by before)) packets)) (sym (heard_there seat)) (own_pipe (seen_at seat (held_by before)));
     belongs = record {
       sender = subst (λ (e : EventService). IfSome (sender_at (Some seat) e) (λ (sender : Sender). sender.name ≡ name)) (sym p.events) belongs.sender;
       tables = subst (λ (t : TableService). AllByRecursion (λ (table : Table). IsTrue (is_table_of name table.name)) (tables_at seat t.places)) (sym p.tables) belongs.tables;

@@ -18,7 +18,7 @@ use Rattle.app_host.specs.Roster.{roster_of, succession_by}
 use Rattle.app_host.specs.Heard.{host_at, IsOffered, HasHeard}
 use Rattle.app_host.specs.Turn.{Turn, HasTurned}
 use Rattle.app_host.specs.Response.{Response, passing_on, only_telling, obeying_events, obeying_tables, obeying_orders, routed_to, response_to_packet, response_to, Responds, RespondsCounted}
-use Rattle.app_host.specs.Step.{StepHasBegun}
+use Rattle.app_host.specs.Step.{StepHasBegun, without_count}
 use Rattle.app_host.proofs.Responding.{responds_from}
 
 -- ---- a packet
@@ -138,6 +138,6 @@ module _ (moment : Moment) (body : Body) (old begun new : Hosted) (began : StepH
 
 -- without the number of bytes
 pub responds_so : (moment : Moment) (response : Response) (old new : Hosted) (before now : Option (List ℕ)) (result : Result ℕ WriteFault) → RespondsCounted moment response old new before now result →
-    Responds moment response old new before now result
+    Responds moment response old new before now (without_count result)
 responds_so moment response old new before now (Ok total) all = all.responds
 responds_so moment response old new before now (Err fault) part = part

@@ -139,7 +139,7 @@ module _ (seat : ℕ) (name : Name) (mids : List ℕ) (before after : Services) 
 
 own_pipe_stays : (place : Option Pipe) → IfSome place (IsOwnPipe place [])
 own_pipe_stays None = tt
-own_pipe_stays (Some pipe) = record { stayed = pipe.waiting; heard = []; waiting = sym (append-nil pipe.waiting); old_or_new = inl refl; few = lit≤ tt; no_ticks = tt }
+own_pipe_stays (Some pipe) = record { stayed = pipe.waiting; heard = []; waiting = sym (append-nil pipe.waiting); old_or_new = inl refl; heard_of = tt }
 
 pub nothing_published : (packet : List ℕ) → MayPublish packet []
 nothing_published packet = record { few = lit≤ tt; for_ticks = λ some. absurd (some refl); no_ticks = tt }

@@ -5,7 +5,7 @@ use Rattle.std.specs.Option.{option_map_or}
 use Rattle.std.specs.List.{AllByRecursion, concat}
 use Rattle.lc_model.proofs.Facts.{test_unequal}
 use Rattle.lc_model.specs.declared.record.Moment.{Moment}
-use Rattle.lc_model.specs.Device.{Sink}
+use Rattle.lc_model.specs.Device.{Sink, NoWriteRetried}
 use Rattle.lc_model.specs.Name.{Name}
 use Rattle.lc_model.specs.Services.Seen.{meaning_of}
 use Rattle.lc_model.specs.Packet.{stream_fault, message_id, event_services_mid, table_services_mid, executive_services_mid, by_service}
@@ -42,6 +42,12 @@ whole_begun law moment old begun sound whole stock seats services = record {
 }
 
 -- ---- it is done
+
+-- no write came after a failed one
+pub handled_once : (party : Party) (stations : List (Station (List ℕ))) (step : Written (List ℕ)) (last : ℕ) (old new : Hosted) (before now : Sink) (result : Result ℕ WriteFault) →
+    Handles party stations step last old new before now result → NoWriteRetried before now
+handled_once party stations step last old new before now (Ok total) all = all.not_retried
+handled_once party stations step last old new before now (Err fault) part = part.not_retried
 
 -- a step of an is_open host, by the write that fails, if any
 open_step : (moment : Moment) (room : ℕ) (host : Host (List ℕ)) (input : Input (List ℕ)) (stop : Option (Station (List ℕ))) → host.is_closed ≡ false → stop_at room (stations_of on_board moment host.executive input) ≡ stop →

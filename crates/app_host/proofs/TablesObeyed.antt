@@ -80,6 +80,7 @@ exactly old new this that same before now (Ok total) all = record {
   is_closed = all.is_closed;
   calls = all.calls;
   fine = all.fine;
+  not_retried = all.not_retried;
   known = λ known holders. all.known known (tt, tt);
   exact = λ known. subst (λ (w : Written (List ℕ)). IsDone (written_once w) w 0 new before.gained now.gained) (same known) (all.exact (tt, tt));
   count = λ known. all.count (tt, tt) ∙ ap (λ (w : Written (List ℕ)). length (concat w.1)) (same known);
@@ -90,6 +91,7 @@ exactly old new this that same before now (Err fault) part = record {
   is_closed = part.is_closed;
   calls = part.calls;
   failed = part.failed;
+  not_retried = part.not_retried;
   known = λ known holders. part.known known (tt, tt);
   exact = λ known. subst (λ (w : Written (List ℕ)). IsCut (written_once w) w fault.sent new before.gained now.gained) (same known) (part.exact (tt, tt));
 }

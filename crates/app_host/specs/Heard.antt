@@ -1,5 +1,5 @@
--- What follows from a packet for applications of any kind: it is published, and each delivery is one call of `on_packet`, until
--- no packet waits or a write fails.
+-- What follows from a packet for applications of any kind: it is published, and each delivery is one call of `on_packet`.
+-- (That none waits afterwards unless a write failed is `IsBetween`.)
 use Rattle.std.specs.Prelude.{◌≡◌, ℕ, ◌<◌, List, [], ◌∷◌, length, Some, None, slice_index_or}
 use Rattle.std.specs.List.{concat}
 use Rattle.lc_model.specs.declared.record.Moment.{Moment}

@@ -1,5 +1,5 @@
 -- The host after an object has left its seat.
-use Rattle.std.specs.Prelude.{◌≡◌, ◌≢◌, ℕ, zero, suc, ◌≤◌, List, [], length, Option, Some, None, IfSome, IsSomeAnd, slice_set}
+use Rattle.std.specs.Prelude.{◌≡◌, ◌≢◌, ℕ, zero, suc, ◌≤◌, List, [], length, map, Option, Some, None, IfSome, IsSomeAnd, slice_set}
 use Rattle.lc_model.specs.Kept.Summary.{Other}
 use Rattle.lc_model.specs.Kept.Call.{next_retire}
 use Rattle.lc_model.specs.Kept.Executive.{left_from, seat_count}
@@ -7,7 +7,7 @@ use Rattle.lc_model.specs.Services.Interface.{IsFreeSeat, IsRetired, outgoing_ro
 use Rattle.app_host.specs.declared.services.Services.{Services}
 use Rattle.app_host.specs.Shared.{held_by, shared}
 use Rattle.app_host.specs.Calls.{LeavesEmpty}
-use Rattle.app_host.specs.Hosted.{Object, Hosted, object_at}
+use Rattle.app_host.specs.Hosted.{Object, Hosted, object_at, object_in}
 use Rattle.app_host.specs.Objects.{HasRetired}
 use Rattle.app_host.specs.Whole.{AreSeated}
 use Rattle.app_host.specs.Writing.{written_off}
@@ -67,6 +67,13 @@ pub record HasClosed (old new : Hosted) (handed : List (Option Object)) : Type 0
   pub gone : (seat : ℕ) → object_at seat new.seats ≡ None
   pub free : (seat : ℕ) → IsFreeSeat seat (held_by new.services)
   pub retired : GiveBack seat_count old.seats handed old.services new.services
+
+-- The host was closed: `HasClosed` holds for values `handed` in the place of the applications that ran. A body that is proved for
+-- every type `B` has such values, without a seat, by calls of `retire` only.
+pub record WasClosed {B : Type 0} (meaning : B → Object) (h : Hosted) : Type 0 where
+  pub now : Hosted
+  pub handed : List (Option B)
+  pub closed : HasClosed h now (map (object_in meaning) handed)
 
 -- The object on the seat was retired and holds no seat any more.
 pub record HasGone (seat : ℕ) (seats : List (Option Object)) (before : Services) : Type 0 where

@@ -28,3 +28,4 @@ pub mod Sending
 pub mod Resubscribing
 pub mod Ordered
 pub mod Step
+pub mod Stepped

@@ -3,7 +3,7 @@ use Rattle.std.specs.Prelude.{◌≡◌, ◌⊎◌, ℕ, ◌*◌, ◌<◌, ◌�
 use Rattle.std.specs.List.{concat}
 use Rattle.std.specs.Io.KnownBytes.{Appends}
 use Rattle.lc_model.specs.declared.record.Moment.{Moment}
-use Rattle.lc_model.specs.Device.{Sink}
+use Rattle.lc_model.specs.Device.{Sink, NoWriteRetried}
 use Rattle.lc_model.specs.Packet.{payload}
 use Rattle.lc_model.specs.Name.{Name, is_named}
 use Rattle.lc_model.specs.Refusal.{Refusal}
@@ -236,6 +236,7 @@ pub record HasComeIn (next : Next) (sent : ℕ) (old new : Hosted) (before now :
   pub idle : new.services.outgoing ≡ []
   pub small : sent ≤ 2 * outgoing_room
   pub fine : now.failed ≡ before.failed
+  pub not_retried : NoWriteRetried before now
   pub known : AreKnown old → IsKnownNext old.stock next → AreKnown new
   pub exact : IfExact old next (IsWritten (followed_by old.services.moment next (executive_in old)) sent new before.gained now.gained)
 
@@ -245,6 +246,7 @@ pub record HasFailed (next : Next) (sent : ℕ) (old new : Hosted) (before now :
   pub is_closed : new.is_closed ≡ true
   pub calls : new.calls ≡ old.calls
   pub failed : now.failed ≡ true
+  pub not_retried : NoWriteRetried before now
   pub known : AreKnown old → IsKnownNext old.stock next → AreKnown new
   pub exact : IfExact old next (IsBroken (followed_by old.services.moment next (executive_in old)) sent new before.gained now.gained)
 

@@ -2,7 +2,7 @@
 use Rattle.std.specs.Prelude.{◌≡◌, ℕ, ◌+◌, ◌<◌, ◌≤◌, true, List, [], length, take, All, Contains, Option, Some, None, Result, Ok, Err}
 use Rattle.std.specs.List.{concat}
 use Rattle.std.specs.Io.KnownBytes.{Appends}
-use Rattle.lc_model.specs.Device.{Sink}
+use Rattle.lc_model.specs.Device.{Sink, NoWriteRetried}
 use Rattle.lc_model.specs.Kept.Executive.{Written, most_deliveries, drained, passed_on}
 use Rattle.lc_model.specs.Kept.Stations.{Station, stop_at, delivery_stations, passing_stations, last_calls}
 use Rattle.app_host.specs.declared.services.Services.{Services}
@@ -36,6 +36,7 @@ pub record IsAllSent (sent : ℕ) (old new : Hosted) (before now : Sink) (total 
   pub count : total ≡ sent + length old.services.outgoing
   pub gains : Appends before.gained now.gained old.services.outgoing
   pub fine : now.failed ≡ before.failed
+  pub not_retried : NoWriteRetried before now
   pub is_closed : new.is_closed ≡ old.is_closed
 
 -- A write failed: only the first `taken` bytes of the output were written, and the host is closed.
@@ -45,6 +46,7 @@ pub record IsPartSent (sent : ℕ) (old new : Hosted) (before now : Sink) (total
   pub fewer : taken < length old.services.outgoing
   pub gains : Appends before.gained now.gained (take taken old.services.outgoing)
   pub failed : now.failed ≡ true
+  pub not_retried : NoWriteRetried before now
   pub is_closed : new.is_closed ≡ true
 
 -- `IsAllSent` if no write failed, else `IsPartSent`.
@@ -81,6 +83,7 @@ pub record HandlesAll (party : Party) (stations : List (Station (List ℕ))) (st
   pub is_closed : new.is_closed ≡ old.is_closed
   pub calls : new.calls ≤ most_deliveries
   pub fine : now.failed ≡ before.failed
+  pub not_retried : NoWriteRetried before now
   pub known : AreKnown old → AreKnownIn party old → AreKnown new
   pub exact : AreKnownIn party old → IsDone stations step last new before.gained now.gained
   pub count : AreKnownIn party old → total ≡ length (concat step.1)
@@ -92,6 +95,7 @@ pub record HandlesPart (party : Party) (stations : List (Station (List ℕ))) (s
   pub is_closed : new.is_closed ≡ true
   pub calls : new.calls ≤ most_deliveries
   pub failed : now.failed ≡ true
+  pub not_retried : NoWriteRetried before now
   pub known : AreKnown old → AreKnownIn party old → AreKnown new
   pub exact : AreKnownIn party old → IsCut stations step sent new before.gained now.gained
 

@@ -3,7 +3,7 @@
 ghost use Rattle.std.specs.Prelude.{◌≡◌, [], map};
 ghost use Rattle.app_host.specs.Hosted.{object_at, object_in, shown};
 ghost use Rattle.app_host.specs.Whole.{AreSeated, IsWhole};
-ghost use Rattle.app_host.specs.Left.{GoesFrom, HasClosed, HasVacated};
+ghost use Rattle.app_host.specs.Left.{GoesFrom, HasClosed, HasVacated, WasClosed};
 ghost use Rattle.app_host.specs.Writing.{written_off};
 
 use crate::app::App;
@@ -51,8 +51,17 @@ impl<B: App> Host<B> {
     /// Retires all applications that run, as `retire_all` does, and then drops all applications.
     pub fn close(mut self)
         requires whole { IsWhole (shown B.meaning self) }
+        ensures closed { WasClosed B.meaning (shown B.meaning self) }
     {
         let _retired = self.retire_all();
+        let Host {
+            stock: _,
+            seats: _,
+            services: _,
+            packet: _,
+            closed: _,
+            calls: _,
+        } = self;
     }
 
     /// Discards the waiting output.

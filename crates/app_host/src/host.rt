@@ -19,8 +19,7 @@ use packet_bus::PACKET_SIZE;
 use std::alloc::Global;
 
 /// The host: spares, eight seats, and the services that applications share. `B` is the type of an application; plain `Host` has
-/// boxed applications of any kinds.
-#[derive(Drop)]
+/// boxed applications of any kinds. It has no `Drop`: whoever has one has to `close` it.
 pub struct Host<B: App = Box<dyn App>> {
     pub(crate) stock: Vec<B>,
     pub(crate) seats: [Option<B>; Seat::COUNT],
@@ -46,6 +45,7 @@ impl<B: App> Host<B> {
         ensures first { IfOk result
             (λ host. in_numbers (shown B.meaning host) ≡
             first_host (map member_of (objects_in B.meaning stock.items))) }
+        ensures boxes { IfOk result (λ host. host.stock ≡ stock) }
         ensures stock_back { IfErr result (λ refused. refused.1 ≡ stock) }
         ensures memory { IfErr result (λ refused. refused.0 ≡ Memory) }
     {

@@ -7,29 +7,31 @@ ghost use Rattle.lc_model.specs.Services.Interface.{outgoing_room};
 ghost use Rattle.event_service.specs.Packet.{with_packet};
 
 use event_service::Events;
-use lc_model::{EventKind, Moment, Seat};
+use lc_model::{EventKind, Moment, Seat, write_at};
 use std::alloc::{AllocError, Global};
 use std::marker::Model;
 
 /// The most bytes that one call of an application appends.
 pub const OUTGOING_ROOM: usize = 65_536;
 
-/// The packets that calls have sent and that are not yet written, one after the other, with room for 65,536 bytes. Contracts
-/// see the bytes.
+/// The packets that calls have sent and that are not yet written, one after the other, in a list with room for 65,536 bytes,
+/// which never grows. Contracts see the bytes.
 #[derive(Debug, Drop)]
 pub struct Outgoing {
     bytes: Vec<u8>,
+    size: usize,
 }
 
 impl Model for Outgoing {
-    ghost use Rattle.std.specs.Prelude.{List, ℕ, ◌≤◌, vec_capacity};
+    ghost use Rattle.std.specs.Prelude.{List, ℕ, ◌≡◌, ◌≤◌, length, take, vec_capacity};
     ghost use Rattle.lc_model.specs.Services.Interface.{outgoing_room};
 
     ghost Value = { List ℕ };
 
-    ghost view = { λ o. o.bytes.items };
+    ghost view = { λ o. take o.size o.bytes.items };
 
-    ghost invariant = { λ o. outgoing_room ≤ vec_capacity o.bytes };
+    ghost invariant = { λ o. (vec_capacity o.bytes ≡ outgoing_room) ×
+        (o.size ≤ length o.bytes.items) };
 }
 
 impl Outgoing {
@@ -39,6 +41,7 @@ impl Outgoing {
     {
         Ok(Outgoing {
             bytes: Vec::with_capacity(alloc, OUTGOING_ROOM)?,
+            size: 0,
         })
     }
 
@@ -46,7 +49,7 @@ impl Outgoing {
     pub fn as_slice(&self) -> &[u8]
         ensures { result.now ≡ self.now }
     {
-        self.bytes.as_slice()
+        &self.bytes[..self.size]
     }
 
     /// Whether nothing waits.
@@ -54,7 +57,7 @@ impl Outgoing {
         ensures none { result ≡ true → self.now ≡ [] }
         ensures some { result ≡ false → 0 < length self.now }
     {
-        self.bytes.is_empty()
+        self.size == 0
     }
 
     /// Appends bytes. Condition: there is room for them.
@@ -63,7 +66,8 @@ impl Outgoing {
         requires { length self.old + length bytes.now ≤ outgoing_room }
         ensures { self.new ≡ self.old ++ bytes.now }
     {
-        self.bytes.extend_from_slice(bytes).unwrap();
+        write_at(&mut self.bytes, self.size, bytes);
+        self.size += bytes.len();
     }
 
     /// Requests an event and appends its packet, if it is sent. Condition: there is room for it.
@@ -84,13 +88,13 @@ impl Outgoing {
             (event_asked from moment id kind text.now events.old).1 }
         ensures size { length self.new ≤ length self.old + event_packet_size }
     {
-        events.send_into(from, moment, id, kind, text, &mut self.bytes);
+        self.size = events.send_into(from, moment, id, kind, text, &mut self.bytes, self.size);
     }
 
     /// Removes all bytes.
     pub fn clear(&mut self)
         ensures { self.new ≡ [] }
     {
-        self.bytes.clear();
+        self.size = 0;
     }
 }

@@ -4,11 +4,11 @@ ghost use Rattle.std.specs.Prelude.{◌≡◌, ◌≤◌, false, true, length, N
 ghost use Rattle.lc_model.specs.Packet.{stream_fault, command_header_size};
 ghost use Rattle.lc_model.specs.Host.React.{Packet};
 ghost use Rattle.app_host.specs.Boxes.{BoxHasGone};
-ghost use Rattle.app_host.specs.Shared.{at_moment};
 ghost use Rattle.app_host.specs.Hosted.{shown};
 ghost use Rattle.app_host.specs.Whole.{IsWhole, IsQuiet};
-ghost use Rattle.app_host.specs.Response.{response_to, response_to_packet, routed_to, Responds, RespondsCounted};
-ghost use Rattle.app_host.specs.Step.{input_by, IsNamed, StepHasBegun, HandlesInput, IsBetween, IsTurnedAway, Steps, Counts, without_count};
+ghost use Rattle.app_host.specs.Response.{response_to, response_to_packet, routed_to, RespondsCounted};
+ghost use Rattle.app_host.specs.Step.{input_by, IsNamed, StepHasBegun, HandlesInput, IsBetween, Counts, without_count};
+ghost use Rattle.app_host.specs.Stepped.{HasStepped};
 
 use crate::app::App;
 use crate::error::WriteFault;
@@ -28,20 +28,8 @@ impl<B: App> Host<B> {
         requires between { IsBetween (shown B.meaning self.old) }
         requires named { IsNamed entry.now.body }
         ensures between { IsBetween (shown B.meaning self.new) }
-        ensures closed { (shown B.meaning self.old).is_closed ≡ true →
-            IsTurnedAway (shown B.meaning self.old) (shown B.meaning self.new) (W.sink out.old)
+        ensures stepped { HasStepped B.meaning entry.now self.old self.new (W.sink out.old)
             (W.sink out.new) result }
-        ensures open { (shown B.meaning self.old).is_closed ≡ false →
-            Steps entry.now.moment (input_by entry.now.body) (shown B.meaning self.old)
-            (shown B.meaning self.new) (W.sink out.old) (W.sink out.new) result }
-        ensures own { (shown B.meaning self.old).is_closed ≡ false →
-            Responds entry.now.moment (response_to entry.now.body (shown B.meaning self.old))
-            (shown B.meaning self.old) (shown B.meaning self.new) (W.sink out.old).gained
-            (W.sink out.new).gained result }
-        ensures gone { (shown B.meaning self.old).is_closed ≡ false →
-            IfSome (response_to entry.now.body (shown B.meaning self.old)).leaves
-            (BoxHasGone B.meaning self.old.seats
-            (at_moment entry.now.moment self.old.services)) }
     {
         match self.step_counted(entry, out) {
             Ok(_total) => Ok(()),
@@ -59,26 +47,14 @@ impl<B: App> Host<B> {
         requires between { IsBetween (shown B.meaning self.old) }
         requires named { IsNamed entry.now.body }
         ensures between { IsBetween (shown B.meaning self.new) }
-        ensures closed { (shown B.meaning self.old).is_closed ≡ true →
-            IsTurnedAway (shown B.meaning self.old) (shown B.meaning self.new) (W.sink out.old)
+        ensures stepped { HasStepped B.meaning entry.now self.old self.new (W.sink out.old)
             (W.sink out.new) (without_count result) }
-        ensures open { (shown B.meaning self.old).is_closed ≡ false →
-            Steps entry.now.moment (input_by entry.now.body) (shown B.meaning self.old)
-            (shown B.meaning self.new) (W.sink out.old) (W.sink out.new) (without_count result) }
-        ensures own { (shown B.meaning self.old).is_closed ≡ false →
-            Responds entry.now.moment (response_to entry.now.body (shown B.meaning self.old))
-            (shown B.meaning self.old) (shown B.meaning self.new) (W.sink out.old).gained
-            (W.sink out.new).gained result }
         ensures counted { (shown B.meaning self.old).is_closed ≡ false →
             RespondsCounted entry.now.moment (response_to entry.now.body (shown B.meaning self.old))
             (shown B.meaning self.old) (shown B.meaning self.new) (W.sink out.old).gained
             (W.sink out.new).gained result }
         ensures count { (shown B.meaning self.old).is_closed ≡ false →
             Counts entry.now.moment (input_by entry.now.body) (shown B.meaning self.old) result }
-        ensures gone { (shown B.meaning self.old).is_closed ≡ false →
-            IfSome (response_to entry.now.body (shown B.meaning self.old)).leaves
-            (BoxHasGone B.meaning self.old.seats
-            (at_moment entry.now.moment self.old.services)) }
     {
         if self.closed {
             return Err(WriteFault { sent: 0 });

@@ -10,18 +10,19 @@ use Rattle.flight_core.specs.declared.error.Report.{Report}
 use Rattle.flight_core.specs.declared.error.RunError.{RunError}
 use Rattle.flight_core.specs.Ending.{ending_of}
 use Rattle.flight_core.specs.Promises.{Promises}
+use Rattle.flight_profile.specs.Members.{OwnWasClosed}
 use Rattle.flight_profile.specs.Stock.{AreOwn}
 use Rattle.c_interface.specs.declared.refusal.Refusal.{Refusal}
 use Rattle.c_interface.specs.Running.{mission, unread, unwritten, written_in, numbers_of_ending, RunsInMemory}
 
 -- what was copied to the front of the room, and the sink that took it
-pub copied : (taken copy rest : List ℕ) (full : Bool) → copy ≡ taken → record { gained = Some taken; failed = full } ≡ written_in (copy ++ rest) (length taken) full
-copied taken copy rest full same i = record { gained = Some (sym (take_at copy rest (length taken) (ap (λ (bytes : List ℕ). length bytes) same) ∙ same) i); failed = full }
+pub copied : (taken copy rest : List ℕ) (full : Bool) → copy ≡ taken → record { gained = Some taken; failed = full; retried = false } ≡ written_in (copy ++ rest) (length taken) full
+copied taken copy rest full same i = record { gained = Some (sym (take_at copy rest (length taken) (ap (λ (bytes : List ℕ). length bytes) same) ∙ same) i); failed = full; retried = false }
 
 pub in_memory : (sources : List (List ℕ)) (schedule : Schedule) (stream output : List ℕ) (written : ℕ) (answer : Result Report RunError)
     (before after : Source) (sink sink_after : Sink) (full : Bool)
     → before ≡ unread stream → after.failed ≡ false → (full ≡ true → written ≡ length output) → sink ≡ unwritten → sink_after ≡ written_in output written full
-    → Promises ⊤ (AreOwn schedule) (mission sources schedule) (devices before after sink sink_after) answer
+    → Promises ⊤ (AreOwn schedule) OwnWasClosed (mission sources schedule) (devices before after sink sink_after) answer
     → RunsInMemory sources schedule stream output written answer
 in_memory sources schedule stream output written answer before after sink sink_after full is_before fails fills is_sink is_after promises =
     let same : devices before after sink sink_after ≡ devices (unread stream) after unwritten (written_in output written full) =
@@ -31,7 +32,7 @@ in_memory sources schedule stream output written answer before after sink sink_a
       full = full;
       no_read_fails = fails;
       is_full = fills;
-      promises = subst (λ (d : Devices). Promises ⊤ (AreOwn schedule) (mission sources schedule) d answer) same promises;
+      promises = subst (λ (d : Devices). Promises ⊤ (AreOwn schedule) OwnWasClosed (mission sources schedule) d answer) same promises;
     }
 
 -- 144 of records is a failed write

@@ -1,8 +1,10 @@
 -- A host that is fed from C. This project's own.
+use Rattle.core.specs.Mem.{manually_drop_value}
 use Rattle.std.specs.Prelude.{◌≡◌, ℕ, ◌+◌, min, Bool, true, false, List, length, Option, Some, None, Result, Ok, Err}
 use Rattle.lc_model.specs.Host.Schedule.{Schedule}
 use Rattle.lc_model.specs.Host.ScheduleText.{schedule_in}
 use Rattle.app_host.specs.Hosted.{Object}
+use Rattle.app_host.specs.Left.{WasClosed}
 use Rattle.flight_core.specs.declared.error.RunError.{RunError}
 use Rattle.flight_core.specs.declared.halt.Halt.{Halt}
 use Rattle.flight_core.specs.declared.halt.Halt.TheVariants as halt
@@ -24,11 +26,15 @@ use Rattle.c_interface.specs.Running.{unwritten, written_in, numbers_of_ending}
 
 -- the host in a handle
 abbrev pub host_in : Fed → Feeding
-host_in fed = feeding_of lasting_meaning fed.host
+host_in fed = feeding_of lasting_meaning (manually_drop_value fed.host)
 
 -- a host between two calls
 abbrev pub IsFed : Fed → Type 0
 IsFed fed = IsReady (host_in fed)
+
+-- its host was closed
+abbrev pub FedWasClosed : Fed → Type 0
+FedWasClosed fed = WasClosed lasting_meaning (host_in fed).host
 
 -- it was made of these texts and this schedule, with this profile's stock and so much room; nothing has come, and nothing was
 -- written
@@ -88,7 +94,7 @@ pub record Feeds (bytes output : List ℕ) (old new : Fed) (told : Handled) : Ty
   pub ready : IsFed new
   pub room : length new.room.items ≡ length old.room.items
   pub counted : new.written ≡ min (old.written + told.written) most_counted
-  pub gone : (host_in old).host.is_closed ≡ false → LeavesForFront lasting_meaning (boxes_on old.host) (host_in old).host (front_of (fed_with bytes (host_in old)).held)
+  pub gone : (host_in old).host.is_closed ≡ false → LeavesForFront lasting_meaning (boxes_on (manually_drop_value old.host)) (host_in old).host (front_of (fed_with bytes (host_in old)).held)
 
 -- what two handles hold, one after the other
 abbrev pub AreFed : List ℕ → List ℕ → Handled → Option Fed → Option Fed → Type 0

@@ -13,6 +13,7 @@ use Rattle.flight_core.specs.declared.error.Report.{Report}
 use Rattle.flight_core.specs.declared.error.RunError.{RunError}
 use Rattle.flight_core.specs.Ending.{ending_of}
 use Rattle.flight_core.specs.Promises.{Promises}
+use Rattle.flight_profile.specs.Members.{OwnWasClosed}
 use Rattle.flight_profile.specs.Stock.{AreOwn, own_names, most_reads}
 use Rattle.c_interface.specs.declared.refusal.Refusal.{Refusal}
 use Rattle.c_interface.specs.declared.sentence.Sentence.{Sentence}
@@ -32,14 +33,14 @@ mission sources schedule = record {
 
 -- a stream of which nothing was read, and room in which nothing stands
 abbrev pub unread : List ℕ → Source
-unread stream = record { rest = Some stream; reads = 0; failed = false }
+unread stream = record { rest = Some stream; reads = 0; failed = false; retried = false }
 
 abbrev pub unwritten : Sink
-unwritten = record { gained = Some []; failed = false }
+unwritten = record { gained = Some []; failed = false; retried = false }
 
--- this many of the room's first bytes were written, and then it was full or not
+-- this many of the room's first bytes were written, and then it was full or not; nothing was written to the full room
 abbrev pub written_in : List ℕ → ℕ → Bool → Sink
-written_in output written full = record { gained = Some (take written output); failed = full }
+written_in output written full = record { gained = Some (take written output); failed = full; retried = false }
 
 -- the output after its first bytes, this many, is as it was
 abbrev pub IsKeptBehind : ℕ → (old new : List ℕ) → Type 0
@@ -51,7 +52,7 @@ pub record RunsInMemory (sources : List (List ℕ)) (schedule : Schedule) (strea
   pub full : Bool
   pub no_read_fails : after.failed ≡ false
   pub is_full : full ≡ true → written ≡ length output
-  pub promises : Promises ⊤ (AreOwn schedule) (mission sources schedule) (devices (unread stream) after unwritten (written_in output written full)) answer
+  pub promises : Promises ⊤ (AreOwn schedule) OwnWasClosed (mission sources schedule) (devices (unread stream) after unwritten (written_in output written full)) answer
 
 -- ---- in numbers
 

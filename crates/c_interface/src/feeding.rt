@@ -1,12 +1,12 @@
 //! A host that a program in C feeds, record by record.
 
-ghost use Rattle.std.specs.Prelude.{◌≡◌, ◌≢◌, ◌<◌, ◌≤◌, ◌⊎◌, false, length, None, IfErr, IfOk, IsSomeAnd, MatchResult};
+ghost use Rattle.std.specs.Prelude.{◌≡◌, ◌≢◌, ◌<◌, ◌≤◌, ◌⊎◌, false, length, None, IfErr, IfOk, IfSome, IsSomeAnd, MatchResult};
 ghost use Rattle.flight_core.specs.Compiled.{IsNotCompiled, sources_of};
 ghost use Rattle.flight_core.specs.Feeding.{IsReady, boxes_on, feeding_of};
 ghost use Rattle.flight_core.specs.Leaving.{LeavesForFront};
 ghost use Rattle.flight_core.specs.Records.{front_of};
 ghost use Rattle.c_interface.specs.Lasting.{lasting_meaning};
-ghost use Rattle.c_interface.specs.Feeding.{AreFed, Feeds, HandlesInto, IsFed, IsMade, IsStocked, IsUnmade, code_of, too_small};
+ghost use Rattle.c_interface.specs.Feeding.{AreFed, FedWasClosed, Feeds, HandlesInto, IsFed, IsMade, IsStocked, IsUnmade, code_of, too_small};
 ghost use Rattle.c_interface.specs.Refusing.{unfit};
 ghost use Rattle.c_interface.specs.Running.{IsNotRun, IsUnfit, IsUnscheduled};
 ghost use Rattle.c_interface.specs.Said.{no_sentence};
@@ -25,6 +25,7 @@ use flight_core::{FedHost, Halt, RunError};
 use schedules::{Schedule, parse_schedule};
 use std::alloc::Global;
 use std::marker::Brand;
+use std::mem::ManuallyDrop;
 
 /// The code if no whole record is held.
 pub const NONE_HELD: u32 = 250;
@@ -70,19 +71,22 @@ fn fed_of(
     ensures refused { IfErr result (IsNotCompiled (sources_of texts.now)) }
 {
     let (stock, places) = own_lasting_stock(alloc, schedule)?;
-    let host = FedHost::new(alloc, texts, stock)?;
     let Ok(room) = Vec::from_elem(alloc, 0u8, size) else {
         return Err(RunError::Memory);
     };
+    let host = FedHost::new(alloc, texts, stock)?;
     let fed = Fed {
-        host,
+        host: unsafe { ManuallyDrop::new_unchecked(host) },
         room,
         places,
         written: 0,
     };
     match Box::new(alloc, fed) {
         Ok(fed) => Ok(fed),
-        Err(_) => Err(RunError::Memory),
+        Err(refused) => {
+            close_fed(refused.value);
+            Err(RunError::Memory)
+        }
     }
 }
 
@@ -280,7 +284,8 @@ pub fn feed_host(handle: &mut Handle, bytes: &[u8], output: &mut [u8], told: &mu
 /// afterwards.
 pub fn close_host(alloc: Global, handle: &mut Handle)
     requires { IsSomeAnd handle.old.value IsFed }
-    ensures { handle.new.value ≡ None }
+    ensures empty { handle.new.value ≡ None }
+    ensures closed { IfSome handle.old.value FedWasClosed }
 {
     let fed = take_fed(handle, alloc);
     close_all(fed);
@@ -288,12 +293,20 @@ pub fn close_host(alloc: Global, handle: &mut Handle)
 
 fn close_all(fed: Box<Fed>)
     requires { IsFed fed.value }
+    ensures { FedWasClosed fed.value }
+{
+    close_fed(Box::into_inner(fed));
+}
+
+fn close_fed(fed: Fed)
+    requires { IsFed fed }
+    ensures { FedWasClosed fed }
 {
     let Fed {
         host,
         room: _,
         places: _,
         written: _,
-    } = Box::into_inner(fed);
-    host.close();
+    } = fed;
+    ManuallyDrop::into_inner(host).close();
 }

@@ -12,13 +12,15 @@ use crate::loose::Loose;
 use flight_core::FedHost;
 use std::alloc::Global;
 use std::marker::Model;
-use std::mem::replace;
+use std::mem::{ManuallyDrop, replace};
 use std::ptr::null_mut;
 
-/// What a handle holds: a host, room for what one record leads to, and how many bytes were written.
+/// What a handle holds: a host, room for what one record leads to, and how many bytes were written. A program in C may lose its
+/// handle, and with it a host that nobody closed. So the host is held as a value that may be lost; what takes it out has to close
+/// it.
 #[derive(Drop)]
 pub struct Fed {
-    pub(crate) host: FedHost<LastingBox>,
+    pub(crate) host: ManuallyDrop<FedHost<LastingBox>>,
     pub(crate) room: Vec<u8>,
     /// The boxes of the applications that the host has dropped.
     pub(crate) places: Vec<BoxPlace>,

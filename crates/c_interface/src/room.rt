@@ -22,6 +22,7 @@ pub(crate) struct Room<'a, S: Size> {
     room: &'a mut [u8],
     taken: usize,
     failed: bool,
+    retried: bool,
     of: PhantomData<S>,
     ghost size: { length room.now ≡ S.size },
     ghost within: { taken ≤ length room.now },
@@ -35,11 +36,13 @@ impl<'a, S: Size> Room<'a, S> {
         ensures room { result.room.now ≡ room.old }
         ensures taken { result.taken ≡ 0 }
         ensures failed { result.failed ≡ false }
+        ensures retried { result.retried ≡ false }
     {
         Room {
             room,
             taken: 0,
             failed: false,
+            retried: false,
             of: PhantomData,
         }
     }
@@ -55,9 +58,11 @@ impl<'a, S: Size> Room<'a, S> {
 }
 
 impl<'a, S: Size> ByteSink for Room<'a, S> {
-    ghost sink = { λ it. record { gained = Some (take it.taken it.room.now); failed = it.failed } };
+    ghost sink = { λ it.
+        record { gained = Some (take it.taken it.room.now); failed = it.failed; retried = it.retried } };
 
     fn write(&mut self, bytes: &[u8]) -> Result<usize, DeviceFault> {
+        self.retried |= self.failed;
         let left = self.room.len() - self.taken;
         if left == 0 {
             self.failed = true;

@@ -26,7 +26,12 @@ impl<'a> Stream<'a> {
 
 impl<'a> ByteSource for Stream<'a> {
     ghost source = { λ stream.
-        record { rest = Some stream.left.now; reads = stream.reads; failed = false } };
+        record {
+          rest = Some stream.left.now;
+          reads = stream.reads;
+          failed = false;
+          retried = false;
+        } };
 
     fn read(&mut self, buffer: &mut [u8]) -> Result<usize, DeviceFault> {
         self.reads = self.reads.saturating_add(1);

@@ -1,7 +1,7 @@
 //! The packets of events (CCSDS 133.0-B, primary header; cFE user's guide, event services; the layout is this project's
 //! own).
 
-ghost use Rattle.std.specs.Prelude.{◌≡◌, ◌+◌, ◌++◌, ◌<◌, ◌≤◌, length, replicate, vec_capacity};
+ghost use Rattle.std.specs.Prelude.{◌≡◌, ◌+◌, ◌++◌, ◌<◌, ◌≤◌, length, take, replicate, vec_capacity};
 ghost use Rattle.lc_model.specs.Bytes as model;
 ghost use Rattle.lc_model.specs.Events.Outgoing.{event_packet, event_packet_size, longest_event_text};
 ghost use Rattle.lc_model.specs.Packet.{count_end};
@@ -10,7 +10,7 @@ ghost use Rattle.event_service.specs.Packet.{laid};
 use crate::name::SenderName;
 use byteorder::{BigEndian, ByteOrder};
 use lc_model::packet::UNSEGMENTED;
-use lc_model::{EventKind, Moment, PROCESSOR, SPACECRAFT, mids};
+use lc_model::{EventKind, Moment, PROCESSOR, SPACECRAFT, make_place, mids};
 use std::marker::Model;
 
 /// The length of an event packet in bytes.
@@ -66,10 +66,12 @@ impl EventPacket {
     }
 }
 
-/// Appends the packet of an event, with this sequence count, to `out`. Condition: room for its 168 bytes.
+/// Appends the packet of an event, with this sequence count, to the first `at` bytes of `out`. Condition: room for its 168
+/// bytes.
 #[inline(always)]
 pub(crate) fn append_packet(
     out: &mut Vec<u8>,
+    at: usize,
     count: u16,
     moment: Moment,
     sender: &SenderName,
@@ -77,25 +79,19 @@ pub(crate) fn append_packet(
     kind: EventKind,
     text: &[u8],
 )
-    requires room { length out.old.items + event_packet_size ≤ vec_capacity out.old }
+    requires within { at ≤ length out.old.items }
+    requires room { at + event_packet_size ≤ vec_capacity out.old }
     requires count { count < count_end }
     requires text { length text.now ≤ longest_event_text }
-    ensures packet { out.new.items ≡ out.old.items ++
+    ensures packet { take (at + event_packet_size) out.new.items ≡ take at out.old.items ++
         event_packet count moment sender.now id kind text.now }
-    ensures size { length out.new.items ≡ length out.old.items + event_packet_size }
-    ensures room { vec_capacity out.old ≤ vec_capacity out.new }
+    ensures there { at + event_packet_size ≤ length out.new.items }
+    ensures capacity { vec_capacity out.new ≡ vec_capacity out.old }
 {
-    let at = out.len();
-    out.extend_from_slice(&[0; PACKET_SIZE]).unwrap();
-    lay(
-        &mut out.as_mut_slice()[at..],
-        count,
-        moment,
-        sender,
-        id,
-        kind,
-        text,
-    );
+    make_place(out, at, PACKET_SIZE);
+    let place = &mut out[at..at + PACKET_SIZE];
+    place.fill(0);
+    lay(place, count, moment, sender, id, kind, text);
 }
 
 /// The fields of an event packet, with this sequence count, over zeros.

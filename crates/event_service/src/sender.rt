@@ -1,6 +1,6 @@
 //! A sender of events: its name, its types and its filters (cFE user's guide, event services).
 
-ghost use Rattle.std.specs.Prelude.{◌≡◌, ◌+◌, ◌%◌, ◌<◌, ◌≤◌, [], length, vec_capacity, OnErr};
+ghost use Rattle.std.specs.Prelude.{◌≡◌, ◌+◌, ◌%◌, ◌<◌, ◌≤◌, [], length, take, vec_capacity, OnErr};
 ghost use Rattle.lc_model.specs.Events.Outgoing.{event_packet_size, longest_event_text};
 ghost use Rattle.lc_model.specs.Name.{is_named, app_name_size};
 ghost use Rattle.lc_model.specs.Events.Log.{Requested, has_kind};
@@ -16,7 +16,7 @@ ghost use Rattle.event_service.specs.Packet.{with_packet};
 use crate::error::EventError;
 use crate::filter::Filters;
 use crate::name::SenderName;
-use crate::packet::{EventPacket, append_packet};
+use crate::packet::{EventPacket, PACKET_SIZE, append_packet};
 use crate::types::EventTypes;
 use lc_model::{EventKind, Moment};
 use std::marker::Model;
@@ -119,7 +119,8 @@ impl Sender {
         Some(EventPacket::new(count, moment, &self.name, id, kind, text))
     }
 
-    /// Sends an event after `sent` event packets: its packet, if it is sent, is appended to `out`, which has room for it.
+    /// Sends an event after `sent` event packets: its packet, if it is sent, is appended to the first `at` bytes of `out`, which
+    /// has room for it. Returns where these bytes end then.
     #[inline(always)]
     pub(crate) fn ask_into(
         &mut self,
@@ -129,14 +130,17 @@ impl Sender {
         kind: EventKind,
         text: &[u8],
         out: &mut Vec<u8>,
-    )
+        at: usize,
+    ) -> usize
         requires count { sent.old < count_end }
         requires text { length text.now ≤ longest_event_text }
-        requires room { length out.old.items + event_packet_size ≤ vec_capacity out.old }
-        ensures packet { out.new.items ≡ with_packet out.old.items
+        requires within { at ≤ length out.old.items }
+        requires room { at + event_packet_size ≤ vec_capacity out.old }
+        ensures packet { take result out.new.items ≡ with_packet (take at out.old.items)
             (asked_by self.old moment id kind text.now sent.old).packet }
-        ensures size { length out.new.items ≤ length out.old.items + event_packet_size }
-        ensures room { vec_capacity out.old ≤ vec_capacity out.new }
+        ensures size { result ≤ at + event_packet_size }
+        ensures there { result ≤ length out.new.items }
+        ensures capacity { vec_capacity out.new ≡ vec_capacity out.old }
         ensures events { self.new ≡
             record {
               name = self.old.name;
@@ -146,10 +150,11 @@ impl Sender {
         ensures count { sent.new < count_end }
     {
         if !self.admits(id, kind) {
-            return;
+            return at;
         }
         let count = next_count(sent);
-        append_packet(out, count, moment, &self.name, id, kind, text);
+        append_packet(out, at, count, moment, &self.name, id, kind, text);
+        at + PACKET_SIZE
     }
 
     /// Changes its types or filters.

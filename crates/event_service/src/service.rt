@@ -1,6 +1,6 @@
 //! The event services: the senders of events by seat, and the events that are sent (cFE user's guide, event services).
 
-ghost use Rattle.std.specs.Prelude.{◌≡◌, ◌+◌, ◌<◌, ◌≤◌, length, vec_capacity, IfErr, IfOk, IfSome, OnErr};
+ghost use Rattle.std.specs.Prelude.{◌≡◌, ◌+◌, ◌<◌, ◌≤◌, length, take, vec_capacity, IfErr, IfOk, IfSome, OnErr};
 ghost use Rattle.std.specs.List.{position_from};
 ghost use Rattle.lc_model.specs.Events.Log.{FilterSet, FiltersReset, TypesSet};
 ghost use Rattle.lc_model.specs.Events.Outgoing.{event_packet_size, longest_event_text};
@@ -131,7 +131,8 @@ impl Events {
         }
     }
 
-    /// Sends an event as `send` does, and appends its packet, if it is sent, to `out`. Condition: room for its 168 bytes.
+    /// Sends an event as `send` does, and appends its packet, if it is sent, to the first `at` bytes of `out`. Returns where these
+    /// bytes end then. `out` stays at its capacity. Conditions: `out` has `at` bytes, and room for the packet's 168 after them.
     #[inline(always)]
     pub fn send_into(
         &mut self,
@@ -141,22 +142,25 @@ impl Events {
         kind: EventKind,
         text: &[u8],
         out: &mut Vec<u8>,
-    )
+        at: usize,
+    ) -> usize
         requires text { length text.now ≤ longest_event_text }
-        requires room { length out.old.items + event_packet_size ≤ vec_capacity out.old }
+        requires within { at ≤ length out.old.items }
+        requires room { at + event_packet_size ≤ vec_capacity out.old }
         ensures after { self.new ≡ (event_asked from moment id kind text.now self.old).0 }
-        ensures packet { out.new.items ≡ with_packet out.old.items
+        ensures packet { take result out.new.items ≡ with_packet (take at out.old.items)
             (event_asked from moment id kind text.now self.old).1 }
-        ensures size { length out.new.items ≤ length out.old.items + event_packet_size }
-        ensures room { vec_capacity out.old ≤ vec_capacity out.new }
+        ensures size { result ≤ at + event_packet_size }
+        ensures there { result ≤ length out.new.items }
+        ensures capacity { vec_capacity out.new ≡ vec_capacity out.old }
     {
         match from {
             None => self
                 .host
-                .ask_into(&mut self.sent, moment, id, kind, text, out),
+                .ask_into(&mut self.sent, moment, id, kind, text, out, at),
             Some(seat) => match &mut self.places[seat.index()] {
-                None => {}
-                Some(sender) => sender.ask_into(&mut self.sent, moment, id, kind, text, out),
+                None => at,
+                Some(sender) => sender.ask_into(&mut self.sent, moment, id, kind, text, out, at),
             },
         }
     }

@@ -6,7 +6,7 @@ use Rattle.std.proofs.KnownBytes.{Appends-nil, Appends-trans, Consumes-nil, Cons
 use Rattle.std.proofs.lemmas.List.{take-append-le}
 use Rattle.std.proofs.lemmas.List.Folds.{concat-append}
 use Rattle.std.proofs.Math.Seq.{take-append-add}
-use Rattle.lc_model.specs.Device.{Source, Sink}
+use Rattle.lc_model.specs.Device.{Source, Sink, NoReadRetried, NoWriteRetried}
 use Rattle.lc_model.specs.Tables.HalvesAndBytes.{as_bytes}
 use Rattle.lc_model.specs.Tables.InForce.{layouts}
 use Rattle.lc_model.specs.Tables.Interpretation.{FileMeanings}
@@ -99,6 +99,8 @@ module _ (n : ℕ) (meanings : FileMeanings (List ℕ)) (first : Hosted) where
     pub is_open : now.is_closed ≡ false
     pub readable : source_now.failed ≡ false
     pub writable : sink_now.failed ≡ false
+    pub not_reread : source_now.retried ≡ source.retried
+    pub not_rewritten : sink_now.retried ≡ sink.retried
     pub of_texts : held.texts ≡ n
     pub good : held.is_bad ≡ false
     pub come : List ℕ
@@ -124,6 +126,8 @@ module _ (n : ℕ) (meanings : FileMeanings (List ℕ)) (first : Hosted) where
     is_open = is_open;
     readable = readable;
     writable = writable;
+    not_reread = refl;
+    not_rewritten = refl;
     of_texts = ap (λ (h : Held). h.texts) nothing;
     good = ap (λ (h : Held). h.is_bad) nothing;
     come = [];
@@ -176,14 +180,16 @@ module _ (n : ℕ) (meanings : FileMeanings (List ℕ)) (first : Hosted) where
   in_front {held = held} far = ap (λ k. front all_kinds k held.bytes) (sym far.of_texts)
 
   pub one_more : RunsGoOn on_board → Goes → (source : Source) (sink : Sink) (now : Hosted) (source_now : Source) (sink_now : Sink) (held : Held) (count bytes : ℕ) → SoFar source sink now source_now sink_now held count bytes →
-      (after : Held) (new : Hosted) (sink_after : Sink) (total : ℕ) → total < 18446744073709551616 → IsHandled meanings held after now new sink_now sink_after total →
+      (after : Held) (new : Hosted) (sink_after : Sink) (total : ℕ) → total < 18446744073709551616 → IsHandled meanings held after now new sink_now sink_after total → NoWriteRetried sink_now sink_after →
       SoFar source sink new source_now sink_after after (count + 1) (bytes + total)
-  one_more goes_on goes source sink now source_now sink_now held count bytes far after new sink_after total fits done =
+  one_more goes_on goes source sink now source_now sink_now held count bytes far after new sink_after total fits done not_retried =
       let next = done.next in record {
         between = done.between;
         is_open = done.steps.is_open;
         readable = far.readable;
         writable = done.steps.fine ∙ far.writable;
+        not_reread = far.not_reread;
+        not_rewritten = not_retried far.writable ∙ far.not_rewritten;
         of_texts = ap (λ (h : Held). h.texts) next.goes ∙ far.of_texts;
         good = ap (λ (h : Held). h.is_bad) next.goes ∙ far.good;
         come = far.come;
@@ -212,14 +218,16 @@ module _ (n : ℕ) (meanings : FileMeanings (List ℕ)) (first : Hosted) where
   -- ---- the same where the output is told of another sink
 
   unfoldable pub told_of : (source : Source) (sink : Sink) (now : Hosted) (source_now : Source) (sink_now : Sink) (held : Held) (count bytes : ℕ) → SoFar source sink now source_now sink_now held count bytes →
-      (other : Sink) → other.failed ≡ sink_now.failed →
+      (other : Sink) → other.failed ≡ sink_now.failed → other.retried ≡ sink_now.retried →
       ((written : List ℕ) → bytes ≡ length written → Appends sink.gained sink_now.gained written → Appends sink.gained other.gained written) →
       SoFar source sink now source_now other held count bytes
-  told_of source sink now source_now sink_now held count bytes far other fine tells = record {
+  told_of source sink now source_now sink_now held count bytes far other fine not_retried tells = record {
     between = far.between;
     is_open = far.is_open;
     readable = far.readable;
     writable = fine ∙ far.writable;
+    not_reread = far.not_reread;
+    not_rewritten = not_retried ∙ far.not_rewritten;
     of_texts = far.of_texts;
     good = far.good;
     come = far.come;
@@ -251,6 +259,8 @@ module _ (n : ℕ) (meanings : FileMeanings (List ℕ)) (first : Hosted) where
         is_open = ap (λ (h : Hosted). h.is_closed) none.host ∙ far.is_open;
         readable = far.readable;
         writable = ap (λ (x : Sink). x.failed) none.idle ∙ far.writable;
+        not_reread = far.not_reread;
+        not_rewritten = ap (λ (x : Sink). x.retried) none.idle ∙ far.not_rewritten;
         of_texts = ap (λ (h : Held). h.texts) none.same ∙ far.of_texts;
         good = ap (λ (h : Held). h.is_bad) none.same ∙ far.good;
         come = far.come;
@@ -271,12 +281,15 @@ module _ (n : ℕ) (meanings : FileMeanings (List ℕ)) (first : Hosted) where
       }
 
   pub comes_more : Comes → (most : ℕ) (source : Source) (sink : Sink) (now : Hosted) (source_now : Source) (sink_now : Sink) (held : Held) (count bytes : ℕ) → SoFar source sink now source_now sink_now held count bytes →
-      (after : Held) (source_after : Source) → going.Comes most held after source_now source_after → SoFar source sink now source_after sink_now after count bytes
-  comes_more comes most source sink now source_now sink_now held count bytes far after source_after piece = record {
+      (after : Held) (source_after : Source) → going.Comes most held after source_now source_after → NoReadRetried source_now source_after →
+      SoFar source sink now source_after sink_now after count bytes
+  comes_more comes most source sink now source_now sink_now held count bytes far after source_after piece not_retried = record {
     between = far.between;
     is_open = far.is_open;
     readable = piece.fine ∙ far.readable;
     writable = far.writable;
+    not_reread = not_retried far.readable ∙ far.not_reread;
+    not_rewritten = far.not_rewritten;
     of_texts = ap (λ (h : Held). h.texts) piece.goes ∙ far.of_texts;
     good = ap (λ (h : Held). h.is_bad) piece.goes ∙ far.good;
     come = far.come ++ piece.piece;

@@ -44,17 +44,21 @@ module _ (n : ℕ) (meanings : FileMeanings (List ℕ)) (first : Hosted) (source
   pub fine : device.failed ≡ sink_now.failed
   fine = settled.fine ∙ ap (λ (s : Sink). s.failed) (sym shown)
 
+  pub not_retried : device.retried ≡ sink_now.retried
+  not_retried = settled.not_retried (ap (λ (s : Sink). s.failed) (sym shown) ∙ far.writable) ∙ ap (λ (s : Sink). s.retried) (sym shown)
+
   pub keeps : Keeps sink_now.gained (append_known device.gained left)
   keeps = subst (λ (s : Sink). Keeps s.gained (append_known device.gained left)) (sym shown) settled.keeps
 
   -- as the sink shows it then
   pub goes_on_behind : (sink_after : Sink) → sink_after ≡ with_held device left → SoFar n meanings first source sink now source_now sink_after held count bytes
   goes_on_behind sink_after is = told_of n meanings first source sink now source_now sink_now held count bytes far sink_after (ap (λ (s : Sink). s.failed) is ∙ fine)
+      (ap (λ (s : Sink). s.retried) is ∙ not_retried)
       (λ written long gains. subst (λ (s : Sink). Appends sink.gained s.gained written) (sym is) (kept_behind sink.gained sink_now.gained (append_known device.gained left) written gains keeps))
 
   -- and as the device has it
   unfoldable pub is_with_device : MayHold sink.gained device.gained left → SoFar n meanings first source sink now source_now device held count bytes
-  is_with_device may = told_of n meanings first source sink now source_now sink_now held count bytes far device fine
+  is_with_device may = told_of n meanings first source sink now source_now sink_now held count bytes far device fine not_retried
       (λ written long gains. reached_all sink.gained device.gained left written may (λ some. settled.none_left (subst (λ k. 0 < k) (sym long) some))
       (kept_behind sink.gained sink_now.gained (append_known device.gained left) written gains keeps))
 

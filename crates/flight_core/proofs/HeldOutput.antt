@@ -1,9 +1,11 @@
 -- Bytes that are held behind those of a device, and what a device has been given.
-use Rattle.std.proofs.Common.{◌≡◌, refl, sym, ◌∙◌, ap, subst, ℕ, zero, suc, ◌-◌, ◌<◌, false, inl, inr, List, [], ◌∷◌, ◌++◌, length, take, drop, Option, Some, None, arith, append_assoc, append-nil, length-append, length-drop}
+use Rattle.std.proofs.Common.{◌≡◌, refl, sym, ◌∙◌, ap, subst, ℕ, zero, suc, ◌-◌, ◌<◌, false, inl, inr, List, [], ◌∷◌, ◌++◌, length, take, drop, Option, Some, None, Result, Ok, Err, IfOk, arith, append_assoc, append-nil, length-append, length-drop}
 use Rattle.std.proofs.lemmas.List.{take-append-drop}
 use Rattle.std.proofs.Math.Seq.{drop-append_seam, take-append_seam, take-length}
 use Rattle.std.specs.Io.KnownBytes.{Appends, Keeps, append_known}
-use Rattle.lc_model.specs.Device.{Sink, IsCutShort}
+use Rattle.std.specs.Prelude.{OnErr}
+use Rattle.lc_model.specs.Device.{Sink, IsCutShort, NoWriteRetried, WriteFails, WritesSome}
+use Rattle.lc_model.specs.declared.device.DeviceFault.{DeviceFault}
 use Rattle.flight_core.specs.Gathered.{none_held, behind, HasGrown, MayHold, IsGiven, IsStuck}
 
 -- ---- known bytes
@@ -31,6 +33,17 @@ has_grown had now same xs is =
     let none : behind xs now ≡ [] = ap (behind xs) here ∙ ap (drop (length xs)) (sym (append-nil xs)) ∙ drop-append_seam xs [] in
     here ∙ ap Some (sym (append-nil xs)) ∙ ap (λ bytes. Some (xs ++ bytes)) (sym none)
 
+-- and so it does after one more write
+pub grows_by_write : (had : Option (List ℕ)) (before now : Sink) (offered : List ℕ) (result : Result ℕ DeviceFault) → IfOk result (λ count. WritesSome before now count offered) →
+    OnErr result (WriteFails before now) → HasGrown had before.gained → HasGrown had now.gained
+grows_by_write had before now offered (Ok count) written fault grown = grows had before.gained now.gained (take count offered) grown written.gains
+grows_by_write had before now offered (Err e) written fault grown = grows had before.gained now.gained [] grown (same_appends before.gained now.gained fault.unmoved)
+  where
+    same_appends : (known now : Option (List ℕ)) → Keeps known now → Appends known now []
+    same_appends None now keeps = tt
+    same_appends (Some xs) None keeps = absurd keeps
+    same_appends (Some xs) (Some ys) keeps = keeps ∙ sym (append-nil xs)
+
 -- ---- what is given
 
 -- the first of what is held goes to the device, and the rest is still held
@@ -39,19 +52,21 @@ keeps_split None after first rest gains = tt
 keeps_split (Some xs) None first rest gains = absurd gains
 keeps_split (Some xs) (Some ys) first rest gains = ap (λ bytes. bytes ++ rest) gains ∙ append_assoc xs first rest
 
-pub all_given : (before after : Sink) (held left : List ℕ) → Appends before.gained after.gained held → after.failed ≡ before.failed → left ≡ [] → IsGiven before after held left
-all_given before after held left gains fine none = record {
+pub all_given : (before after : Sink) (held left : List ℕ) → Appends before.gained after.gained held → after.failed ≡ before.failed → NoWriteRetried before after → left ≡ [] → IsGiven before after held left
+all_given before after held left gains fine not_retried none = record {
   keeps = subst (λ (x : List ℕ × List ℕ). Keeps (append_known before.gained x.0) (append_known after.gained x.1)) (λ i. (append-nil held i, sym none i)) (keeps_split before.gained after.gained held [] gains);
   none_left = none;
   fine = fine;
+  not_retried = not_retried;
 }
 
-pub part_given : (before after : Sink) (held left : List ℕ) (sent : ℕ) → IsCutShort before after held sent → left ≡ drop sent held → IsStuck before after held left
-part_given before after held left sent cut is = record {
+pub part_given : (before after : Sink) (held left : List ℕ) (sent : ℕ) → IsCutShort before after held sent → NoWriteRetried before after → left ≡ drop sent held → IsStuck before after held left
+part_given before after held left sent cut not_retried is = record {
   keeps = subst (λ (x : List ℕ × List ℕ). Keeps (append_known before.gained x.0) (append_known after.gained x.1)) (λ i. (take-append-drop sent held i, sym is i))
       (keeps_split before.gained after.gained (take sent held) (drop sent held) cut.gains);
   some_left = omega (arith, cut.fewer, length-drop sent held, ap length is);
   failed = cut.remembered;
+  not_retried = not_retried;
 }
 
 -- and what is written is held behind the rest
@@ -99,7 +114,7 @@ pub reached_part : (had now : Option (List ℕ)) (held written : List ℕ) → M
 reached_part had now held written (inr grown) gains = part_of_known had now held written grown gains
 reached_part had now held written (inl none) gains =
     subst (Appends had now) (sym (all_but_none written held none))
-    (subst (λ (k : Option (List ℕ)). Appends had k written) (ap (λ bytes. append_known now bytes) none ∙ ap (λ (s : Sink). s.gained) (none_held (record { gained = now; failed = false }))) gains)
+    (subst (λ (k : Option (List ℕ)). Appends had k written) (ap (λ bytes. append_known now bytes) none ∙ ap (λ (s : Sink). s.gained) (none_held (record { gained = now; failed = false; retried = false }))) gains)
 
 -- where nothing is held, or nothing was written, it has all
 pub reached_all : (had now : Option (List ℕ)) (held written : List ℕ) → MayHold had now held → (0 < length written → held ≡ []) → Appends had (append_known now held) written →

@@ -10,6 +10,7 @@ mod Courses
 mod Endings
 mod Exits
 mod Reasons
+mod Retries
 mod Outset
 mod Failures
 mod Fitting

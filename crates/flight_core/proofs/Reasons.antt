@@ -44,8 +44,8 @@ none_left NoMemory = refl
 reason_of_all : (n : ℕ) (meanings : FileMeanings (List ℕ)) (first : Hosted) (most : ℕ) (source : Source) (sink : Sink) (now : Hosted) (source_now : Source) (sink_now : Sink) (held : Held) (count bytes : ℕ)
     (far : SoFar n meanings first source sink now source_now sink_now held count bytes) (source_after : Source) (device : Sink) → Consumes source.rest source_after.rest far.come →
     (records_of n far.come).0 ≡ far.entries → (ending : Ending) → IsOutcome (records_of n) (λ all. concat far.parts ++ []) most (devices source source_after sink device) ending →
-    IsForItsReason n meanings first most (devices source source_after sink device) ending
-reason_of_all n meanings first most source sink now source_now sink_now held count bytes far source_after device took all ending outcome = record {
+    (end : Hosted) → end ≡ now → IsForItsReason n meanings first end most (devices source source_after sink device) ending
+reason_of_all n meanings first most source sink now source_now sink_now held count bytes far source_after device took all ending outcome end same = record {
   come = far.come;
   took = took;
   entries = far.entries;
@@ -56,7 +56,7 @@ reason_of_all n meanings first most source sink now source_now sink_now held cou
   now = now;
   steps = far.steps;
   part = [];
-  last = inl refl;
+  last = inl (refl, same);
   outcome = outcome;
 }
 
@@ -111,7 +111,7 @@ module _ (laws : Laws) (n : ℕ) (meanings : FileMeanings (List ℕ)) (first : H
     }
 
     reason_of_cut : (last : Halt) → EndsFor bytes before device gathered left (halt.Unsent sent) last → (answer : RunError) → answer ≡ stopped_by last count bytes (length left) →
-        IsForItsReason n meanings first most (devices source source_now sink device) (ending_of (Err answer))
+        IsForItsReason n meanings first new most (devices source source_now sink device) (ending_of (Err answer))
     reason_of_cut last ended answer is = record {
       come = far.come;
       took = far.took;
@@ -123,7 +123,7 @@ module _ (laws : Laws) (n : ℕ) (meanings : FileMeanings (List ℕ)) (first : H
       now = now;
       steps = far.steps;
       part = cut.part;
-      last = inr (record { entry = cut.next.entry; rest = others; next = refl; sent = sent; new = new; step = cut.step });
+      last = inr (record { entry = cut.next.entry; rest = others; next = refl; sent = sent; step = cut.step });
       outcome = stops_by laws n meanings first most source sink output_cut now source_now sink_now held count bytes far after new sink_after before device gathered left shown may tell_cut
           (halt.Unsent sent) last cut cut_so ended answer is;
     }
@@ -134,12 +134,13 @@ module _ (laws : Laws) (n : ℕ) (meanings : FileMeanings (List ℕ)) (first : H
   w = tell now source_now sink_now held far refl refl refl
 
   pub reason_to_stop : (halt last : Halt) → HandlesNext meanings held after now new sink_now sink_after (Err halt) → EndsFor bytes before device gathered left halt last →
-      (answer : RunError) → answer ≡ stopped_by last count bytes (length left) → IsForItsReason n meanings first most (devices source source_now sink device) (ending_of (Err answer))
+      (answer : RunError) → answer ≡ stopped_by last count bytes (length left) → IsForItsReason n meanings first new most (devices source source_now sink device) (ending_of (Err answer))
   reason_to_stop (halt.Unsent sent) last cut ended answer is = reason_of_cut sent cut last ended answer is
   reason_to_stop halt.NoRecord last none ended answer is =
       reason_of_all n meanings first most source sink now source_now sink_now held count bytes far source_now device far.took
       (handed_out_before laws n meanings first most source sink output now source_now sink_now held count bytes far w none.front) (ending_of (Err answer))
       (stops_by laws n meanings first most source sink output now source_now sink_now held count bytes far after new sink_after before device gathered left shown may tell halt.NoRecord last none tt ended answer is)
+      new none.host
   reason_to_stop halt.Fault last handles ended answer is = absurd handles
   reason_to_stop halt.Bound last handles ended answer is = absurd handles
 
@@ -162,36 +163,38 @@ module _ (laws : Laws) (n : ℕ) (meanings : FileMeanings (List ℕ)) (first : H
     taken_then later source_after halt.Bound behind = subst (λ (s : Source). Consumes source.rest s.rest far.come) (sym behind.piece.same) far.took
 
     pub reason_to_read_no_more : (later : Held) (source_after : Source) (halt : Halt) → Refills bytes most after later source_now source_after before device gathered left (Err halt) →
-        (answer : RunError) → answer ≡ stopped_by halt count bytes (length left) → IsForItsReason n meanings first most (devices source source_after sink device) (ending_of (Err answer))
+        (answer : RunError) → answer ≡ stopped_by halt count bytes (length left) → IsForItsReason n meanings first new most (devices source source_after sink device) (ending_of (Err answer))
     unfolding idle
     reason_to_read_no_more later source_after halt refills answer is =
         reason_of_all n meanings first most source sink new source_now sink_after after count bytes still source_after device (taken_then later source_after halt refills) all_handled (ending_of (Err answer))
         (reads_by laws n meanings first most source sink output now source_now sink_now held count bytes far after new sink_after before device gathered left shown may tell none later source_after halt refills answer is)
+        new refl
 
     pub reason_to_end : (later : Held) (source_after : Source) → IsReadBehind bytes most after later source_now source_after before device gathered left (Ok false) → (report : Report) →
         report.records ≡ count → report.bytes ≡ bytes → (answer : Result Report RunError) → answer ≡ ended_by later.bytes report →
-        IsForItsReason n meanings first most (devices source source_after sink device) (ending_of answer)
+        IsForItsReason n meanings first new most (devices source source_after sink device) (ending_of answer)
     unfolding idle
     reason_to_end later source_after behind report many long answer is =
         reason_of_all n meanings first most source sink new source_now sink_after after count bytes still source_after device (taken_more source_after behind.piece.took) all_handled (ending_of answer)
         (ends_by laws n meanings first most source sink output now source_now sink_now held count bytes far after new sink_after before device gathered left shown may tell none later source_after behind report many long answer is)
+        new refl
 
 -- ---- a whole run
 
-pub runs_for : (pairs : List TablePair) (members : List Member) (most : ℕ) (d : Devices) (h : Hosted) → in_numbers h ≡ first_host members → (ending : Ending) →
-    IsForItsReason (length pairs) (meanings_of pairs) h most d ending → RunsForItsReason pairs members most d ending
-runs_for pairs members most d h is (Complete entries count) reason = record { first = h; begins = is; reason = reason }
-runs_for pairs members most d h is (Uncompiled text refusal) reason = tt
-runs_for pairs members most d h is (MetNoRecord number) reason = record { first = h; begins = is; reason = reason }
-runs_for pairs members most d h is (MetTheEnd number) reason = record { first = h; begins = is; reason = reason }
-runs_for pairs members most d h is FailedToRead reason = record { first = h; begins = is; reason = reason }
-runs_for pairs members most d h is (FailedToWrite sent) reason = record { first = h; begins = is; reason = reason }
-runs_for pairs members most d h is ReachedTheBound reason = record { first = h; begins = is; reason = reason }
-runs_for pairs members most d h is NoMemory reason = tt
+pub runs_for : (IsClosed : Hosted → Type 0) (pairs : List TablePair) (members : List Member) (most : ℕ) (d : Devices) (h : Hosted) → in_numbers h ≡ first_host members → (end : Hosted) → IsClosed end → (ending : Ending) →
+    IsForItsReason (length pairs) (meanings_of pairs) h end most d ending → RunsForItsReason IsClosed pairs members most d ending
+runs_for IsClosed pairs members most d h is end closed (Complete entries count) reason = record { first = h; begins = is; end = end; reason = reason; closed = closed }
+runs_for IsClosed pairs members most d h is end closed (Uncompiled text refusal) reason = tt
+runs_for IsClosed pairs members most d h is end closed (MetNoRecord number) reason = record { first = h; begins = is; end = end; reason = reason; closed = closed }
+runs_for IsClosed pairs members most d h is end closed (MetTheEnd number) reason = record { first = h; begins = is; end = end; reason = reason; closed = closed }
+runs_for IsClosed pairs members most d h is end closed FailedToRead reason = record { first = h; begins = is; end = end; reason = reason; closed = closed }
+runs_for IsClosed pairs members most d h is end closed (FailedToWrite sent) reason = record { first = h; begins = is; end = end; reason = reason; closed = closed }
+runs_for IsClosed pairs members most d h is end closed ReachedTheBound reason = record { first = h; begins = is; end = end; reason = reason; closed = closed }
+runs_for IsClosed pairs members most d h is end closed NoMemory reason = tt
 
-module _ (AreInStock : List Member → Type 0) (m : Mission) (d : Devices) where
+module _ (AreInStock : List Member → Type 0) (IsClosed : Hosted → Type 0) (m : Mission) (d : Devices) where
   pub answers_for : (pairs : List TablePair) → AreAllCompiled m.sources pairs → (members : List Member) → AreInStock members → (ending : Ending) →
-      RunsForItsReason pairs members m.most_reads d ending → AnswersForItsReason AreInStock m d ending
+      RunsForItsReason IsClosed pairs members m.most_reads d ending → AnswersForItsReason AreInStock IsClosed m d ending
   answers_for pairs compiled members stock (Complete entries count) run = record { pairs = pairs; compiled = compiled; members = members; stock = stock; run = run }
   answers_for pairs compiled members stock (Uncompiled text refusal) run = tt
   answers_for pairs compiled members stock (MetNoRecord number) run = record { pairs = pairs; compiled = compiled; members = members; stock = stock; run = run }
@@ -202,7 +205,7 @@ module _ (AreInStock : List Member → Type 0) (m : Mission) (d : Devices) where
   answers_for pairs compiled members stock NoMemory run = tt
 
   -- where a text does not compile, or memory is lacking before the run begins
-  pub none_answered : (sources : List (List ℕ)) (e : RunError) → IsNotCompiled sources e → AnswersForItsReason AreInStock m d (ending_of (Err e))
+  pub none_answered : (sources : List (List ℕ)) (e : RunError) → IsNotCompiled sources e → AnswersForItsReason AreInStock IsClosed m d (ending_of (Err e))
   none_answered sources (error.Compile number fault) first = tt
   none_answered sources error.Memory not = tt
   none_answered sources (error.BadRecord n) not = absurd not

@@ -1,7 +1,7 @@
 -- The steps of a run: a record is handled, a piece is read, output is given to the device, or the run stops.
 use Rattle.std.specs.Prelude.{◌≡◌, ℕ, ◌+◌, ◌<◌, ◌≤◌, Bool, true, false, List, [], ◌++◌, length, take, Option, Some, None, Result, Ok, Err}
 use Rattle.std.specs.Io.KnownBytes.{Appends, Consumes, IsAtEnd, Keeps}
-use Rattle.lc_model.specs.Device.{Source, Sink}
+use Rattle.lc_model.specs.Device.{Source, Sink, NoWriteRetried}
 use Rattle.lc_model.specs.Host.Run.{input_of}
 use Rattle.lc_model.specs.Host.Stream.{StreamEntry, Record, NoRecord}
 use Rattle.lc_model.specs.Tables.Interpretation.{FileMeanings}
@@ -79,6 +79,7 @@ module _ (written : ℕ) (before after : Sink) (held left : List ℕ) where
     pub keeps : Keeps (with_held before held).gained (with_held after left).gained
     pub none_left : 0 < written → left ≡ []
     pub fine : after.failed ≡ before.failed
+    pub not_retried : NoWriteRetried before after
 
   -- The device failed after a part of the collected output; the rest stays collected, and nothing of the next record's output
   -- was taken.

@@ -31,8 +31,8 @@ pub record IsOneStep (meanings : FileMeanings (List ℕ)) (entry : StreamEntry) 
   pub between : IsBetween new
   pub exact : AreKnownIn (party_of (input_by given.body)) old → in_numbers new ≡ host_after on_board given.moment (in_numbers old) (input_by given.body)
 
--- One step in which a write fails: only the first `sent` bytes of `part` are written, and the host is closed. If the
--- applications that may take part are of this profile, the host is the model's at that write.
+-- One step in which a write fails: only the first `sent` bytes of `part` are written. If the applications that may take part are of
+-- this profile, the host is the model's at that write, which is closed.
 pub record IsCutStep (meanings : FileMeanings (List ℕ)) (entry : StreamEntry) (sent : ℕ) (old new : Hosted) (part : List ℕ) : Type 0 where
   pub given : Given
   pub moment : given.moment ≡ entry.moment
@@ -51,13 +51,13 @@ AreSteps meanings (entry ∷ entries) (part ∷ parts) first now = (mid : Hosted
 AreSteps meanings [] (part ∷ parts) first now = ⊥
 AreSteps meanings (entry ∷ entries) [] first now = ⊥
 
--- A write fails while the host handles the next record; `part` is what that record would have written.
-pub record IsCutBehind (meanings : FileMeanings (List ℕ)) (now : Hosted) (others : List StreamEntry) (part : List ℕ) : Type 0 where
+-- A write fails while the host `now` handles the next record, and the host is `new` then; `part` is what that record would have
+-- written.
+pub record IsCutBehind (meanings : FileMeanings (List ℕ)) (now new : Hosted) (others : List StreamEntry) (part : List ℕ) : Type 0 where
   pub entry : StreamEntry
   pub rest : List StreamEntry
   pub next : others ≡ entry ∷ rest
   pub sent : ℕ
-  pub new : Hosted
   pub step : IsCutStep meanings entry sent now new part
 
 -- ---- a run
@@ -69,8 +69,8 @@ AreNoneLeft other others = others ≡ []
 
 -- The run's ending has its cause. Of the bytes `come` that were read, the host handled the records `entries` one by one; these
 -- are all records, unless a write failed. The output is `parts`, then `part` of the record in which a write failed; `IsOutcome`
--- holds for it.
-pub record IsForItsReason (texts : ℕ) (meanings : FileMeanings (List ℕ)) (first : Hosted) (most : ℕ) (d : Devices) (ending : Ending) : Type 0 where
+-- holds for it. The last record leaves the host as `end`.
+pub record IsForItsReason (texts : ℕ) (meanings : FileMeanings (List ℕ)) (first end : Hosted) (most : ℕ) (d : Devices) (ending : Ending) : Type 0 where
   pub come : List ℕ
   pub took : Consumes d.source.rest d.source_after.rest come
   pub entries : List StreamEntry
@@ -81,31 +81,35 @@ pub record IsForItsReason (texts : ℕ) (meanings : FileMeanings (List ℕ)) (fi
   pub now : Hosted
   pub steps : AreSteps meanings entries parts first now
   pub part : List ℕ
-  pub last : (part ≡ []) ⊎ IsCutBehind meanings now others part
+  pub last : ((part ≡ []) × (end ≡ now)) ⊎ IsCutBehind meanings now end others part
   pub outcome : IsOutcome (records_of texts) (λ all. concat parts ++ part) most d ending
 
--- The run's ending has its cause, for a host that began with these members in stock and nothing running.
-pub record IsRunForItsReason (pairs : List TablePair) (members : List Member) (most : ℕ) (d : Devices) (ending : Ending) : Type 0 where
+-- The run's ending has its cause, for a host that began with these members in stock and nothing running. `IsClosed` holds of the
+-- host that the last record left.
+pub record IsRunForItsReason (IsClosed : Hosted → Type 0) (pairs : List TablePair) (members : List Member) (most : ℕ) (d : Devices) (ending : Ending) : Type 0 where
   pub first : Hosted
   pub begins : in_numbers first ≡ first_host members
-  pub reason : IsForItsReason (length pairs) (meanings_of pairs) first most d ending
+  pub end : Hosted
+  pub reason : IsForItsReason (length pairs) (meanings_of pairs) first end most d ending
+  pub closed : IsClosed end
 
 -- `IsRunForItsReason`, unless a text was refused or there was no memory; those endings claim nothing here.
-abbrev pub RunsForItsReason : List TablePair → List Member → ℕ → Devices → Ending → Type 0
-RunsForItsReason pairs members most d (Uncompiled text refusal) = ⊤
-RunsForItsReason pairs members most d NoMemory = ⊤
-RunsForItsReason pairs members most d ending = IsRunForItsReason pairs members most d ending
+abbrev pub RunsForItsReason : (Hosted → Type 0) → List TablePair → List Member → ℕ → Devices → Ending → Type 0
+RunsForItsReason IsClosed pairs members most d (Uncompiled text refusal) = ⊤
+RunsForItsReason IsClosed pairs members most d NoMemory = ⊤
+RunsForItsReason IsClosed pairs members most d ending = IsRunForItsReason IsClosed pairs members most d ending
 
--- The run's ending has its cause, for the compiled texts of the mission and a stock of which `AreInStock` holds.
-pub record IsAnsweredForItsReason (AreInStock : List Member → Type 0) (m : Mission) (d : Devices) (ending : Ending) : Type 0 where
+-- The run's ending has its cause, for the compiled texts of the mission and a stock of which `AreInStock` holds. `IsClosed` holds
+-- of the host that the last record left.
+pub record IsAnsweredForItsReason (AreInStock : List Member → Type 0) (IsClosed : Hosted → Type 0) (m : Mission) (d : Devices) (ending : Ending) : Type 0 where
   pub pairs : List TablePair
   pub compiled : AreAllCompiled m.sources pairs
   pub members : List Member
   pub stock : AreInStock members
-  pub run : IsRunForItsReason pairs members m.most_reads d ending
+  pub run : IsRunForItsReason IsClosed pairs members m.most_reads d ending
 
 -- `IsAnsweredForItsReason`, unless a text was refused or there was no memory; those endings claim nothing here.
-abbrev pub AnswersForItsReason : (List Member → Type 0) → Mission → Devices → Ending → Type 0
-AnswersForItsReason AreInStock m d (Uncompiled text refusal) = ⊤
-AnswersForItsReason AreInStock m d NoMemory = ⊤
-AnswersForItsReason AreInStock m d ending = IsAnsweredForItsReason AreInStock m d ending
+abbrev pub AnswersForItsReason : (List Member → Type 0) → (Hosted → Type 0) → Mission → Devices → Ending → Type 0
+AnswersForItsReason AreInStock IsClosed m d (Uncompiled text refusal) = ⊤
+AnswersForItsReason AreInStock IsClosed m d NoMemory = ⊤
+AnswersForItsReason AreInStock IsClosed m d ending = IsAnsweredForItsReason AreInStock IsClosed m d ending

@@ -1,5 +1,5 @@
 -- The buffer of unread bytes. This project's own.
-use Rattle.std.specs.Prelude.{ℕ, ◌+◌, ◌≤◌, List, []}
+use Rattle.std.specs.Prelude.{◌≡◌, ℕ, ◌+◌, ◌≤◌, List, []}
 use Rattle.flight_core.specs.Records.{most_held}
 
 -- The unread bytes, and the bytes taken last, which stand before them.
@@ -11,10 +11,11 @@ pub record Shown : Type 0 where
 abbrev pub empty_window : Shown
 empty_window = record { last = []; held = [] }
 
--- The bytes taken last begin at `last`, the unread bytes at `start`; the buffer uses `size` bytes of `capacity`, which is at
--- least 73,739 unread bytes and 16,384 that were taken.
-pub record IsWindow (last start size capacity : ℕ) : Type 0 where
+-- The bytes taken last begin at `last`, the unread bytes at `start`, and they end at `end`; the buffer has `size` bytes and the
+-- capacity that it was made with, for 73,739 unread bytes and 16,384 that were taken.
+pub record IsWindow (last start end size capacity : ℕ) : Type 0 where
   pub ordered : last ≤ start
-  pub inside : start ≤ size
-  pub few : size ≤ start + most_held
-  pub room : 90123 ≤ capacity
+  pub inside : start ≤ end
+  pub few : end ≤ start + most_held
+  pub there : end ≤ size
+  pub room : capacity ≡ 90123

@@ -1,7 +1,9 @@
 //! A host whose stream the caller feeds in pieces, and which handles one record a call.
 
 ghost use Rattle.std.specs.Prelude.{◌≡◌, ◌≤◌, false, true, length, IfErr, IfOk};
+ghost use Rattle.lc_model.specs.Device.{NoWriteRetried};
 ghost use Rattle.app_host.specs.Hosted.{objects_in, shown};
+ghost use Rattle.app_host.specs.Left.{WasClosed};
 ghost use Rattle.app_host.specs.Whole.{AreSpares};
 ghost use Rattle.flight_core.specs.Compiled.{IsNotCompiled, sources_of};
 ghost use Rattle.flight_core.specs.Feeding.{HandlesOne, HasBegun, IsReady, boxes_on, fed_by, fed_with, feeding_of};
@@ -18,8 +20,8 @@ use lc_model::ByteSink;
 use rpn_compiler::TablePair;
 use std::alloc::Global;
 
-/// A host, the unread bytes of its stream, and the table files of its rule texts. Contracts see it as `Feeding`.
-#[derive(Drop)]
+/// A host, the unread bytes of its stream, and the table files of its rule texts. Contracts see it as `Feeding`. It has no `Drop`:
+/// whoever has one has to `close` it.
 pub struct FedHost<B: App = Box<dyn App>> {
     host: Host<B>,
     records: Records,
@@ -38,6 +40,7 @@ impl<B: App> FedHost<B> {
         ensures begun { IfOk result (λ fed. HasBegun (sources_of texts.now)
             (objects_in B.meaning stock.items) (feeding_of B.meaning fed)) }
         ensures ready { IfOk result (λ fed. IsReady (feeding_of B.meaning fed)) }
+        ensures boxes { IfOk result (λ fed. fed.host.stock ≡ stock) }
         ensures refused { IfErr result (IsNotCompiled (sources_of texts.now)) }
     {
         let pairs = compile_all(alloc, texts)?;
@@ -75,6 +78,7 @@ impl<B: App> FedHost<B> {
         ensures ready { IsReady (feeding_of B.meaning self.new) }
         ensures one { HandlesOne (feeding_of B.meaning self.old) (feeding_of B.meaning self.new)
             (W.sink writer.old) (W.sink writer.new) result }
+        ensures not_retried { NoWriteRetried (W.sink writer.old) (W.sink writer.new) }
         ensures gone { (feeding_of B.meaning self.old).host.is_closed ≡ false →
             LeavesForFront B.meaning (boxes_on self.old) (feeding_of B.meaning self.old).host
             (front_of (feeding_of B.meaning self.old).held) }
@@ -126,6 +130,7 @@ impl<B: App> FedHost<B> {
     /// Retires all applications that run, and drops all applications.
     pub fn close(self)
         requires { IsReady (feeding_of B.meaning self) }
+        ensures closed { WasClosed B.meaning (feeding_of B.meaning self).host }
     {
         let FedHost {
             host,
@@ -148,6 +153,7 @@ fn handle_one<W: ByteSink, B: App>(
     ensures one { HandlesOne (fed_by (shown B.meaning host.old) records.old pairs.now)
         (fed_by (shown B.meaning host.new) records.new pairs.now) (W.sink writer.old)
         (W.sink writer.new) result }
+    ensures not_retried { NoWriteRetried (W.sink writer.old) (W.sink writer.new) }
     ensures gone { (shown B.meaning host.old).is_closed ≡ false → LeavesForFront B.meaning
         host.old.seats (shown B.meaning host.old) (front_of records.old) }
 {

@@ -5,6 +5,7 @@ ghost use Rattle.lc_model.specs.Host.Outcome.{devices};
 ghost use Rattle.app_host.specs.Hosted.{shown};
 ghost use Rattle.flight_core.specs.Brought.{AreWhole, meanings_of};
 ghost use Rattle.flight_core.specs.Ending.{ending_of};
+ghost use Rattle.flight_core.specs.Failures.{TriesNoneAgain};
 ghost use Rattle.flight_core.specs.Flight.{FliesSo, RunHasBegun, ended_by, stopped_by};
 ghost use Rattle.flight_core.specs.Records.{nothing_held};
 ghost use Rattle.flight_core.specs.Steps.{IsForItsReason};
@@ -66,9 +67,11 @@ pub(crate) fn handle_all<R: ByteSource, T: ByteSink, O: Outlet<T>, B: App>(
         (devices (R.source reader.old) (R.source reader.new) (O.device out.old)
         (O.device out.new)) result }
     ensures reasons { IsForItsReason (length pairs.now) (meanings_of pairs.now)
-        (shown B.meaning host.old) most
+        (shown B.meaning host.old) (shown B.meaning host.new) most
         (devices (R.source reader.old) (R.source reader.new) (O.device out.old) (O.device out.new))
         (ending_of result) }
+    ensures not_retried { TriesNoneAgain
+        (devices (R.source reader.old) (R.source reader.new) (O.device out.old) (O.device out.new)) }
     ensures between { IsBetween (shown B.meaning host.new) }
     ensures begun { RunHasBegun result }
     ensures bounded { (R.source reader.new).reads ≤ most }

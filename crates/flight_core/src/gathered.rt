@@ -1,11 +1,12 @@
 //! Output is collected, and given to its device in few writes.
 
-ghost use Rattle.std.specs.Prelude.{◌≡◌, ◌≤◌, ℕ, List, [], length, Option, vec_capacity};
+ghost use Rattle.std.specs.Prelude.{◌≡◌, ◌+◌, ◌++◌, ◌<◌, ◌≤◌, ℕ, true, List, [], length, take, Option, IfOk, OnErr, vec_capacity};
+ghost use Rattle.lc_model.specs.Device.{WriteFails, WritesSome, retried_by_call};
 ghost use Rattle.flight_core.specs.Gathered.{Gives, HasGrown, most_gathered, with_held};
 
 use crate::outlet::Outlet;
-use crate::window::drop_front;
-use lc_model::{ByteSink, DeviceFault, write_all};
+use crate::window::move_to_front;
+use lc_model::{ByteSink, DeviceFault, write_all, write_at};
 use std::marker::{Brand, PhantomData};
 
 /// The most bytes collected.
@@ -23,29 +24,31 @@ impl Outset for Brand {
 }
 
 /// A device with a buffer for its output: the device is written to only when 65,536 bytes have been collected, or by `settle`.
-/// Each byte is written once.
+/// Each byte is written once. The buffer never grows.
 #[derive(Drop)]
 pub(crate) struct Gathered<W: ByteSink, S: Outset> {
     device: W,
     held: Vec<u8>,
+    size: usize,
     outset: PhantomData<S>,
-    ghost few: { length held.items ≤ most_gathered },
-    ghost room: { most_gathered ≤ vec_capacity held },
+    ghost few: { size ≤ most_gathered },
+    ghost there: { size ≤ length held.items },
+    ghost room: { vec_capacity held ≡ most_gathered },
     ghost grown: { HasGrown S.had (W.sink device).gained },
 }
 
 impl<W: ByteSink, S: Outset> Gathered<W, S> {
-    /// Creates it with an empty buffer. Condition: `held` is empty and has room for 65,536 bytes.
+    /// Creates it with this list for its buffer, and nothing collected. Condition: its capacity is 65,536 bytes.
     pub fn new(device: W, held: Vec<u8>) -> Gathered<W, S>
-        requires empty { held.items ≡ [] }
-        requires room { MOST_GATHERED ≤ vec_capacity held }
+        requires room { vec_capacity held ≡ MOST_GATHERED }
         requires had { S.had ≡ (W.sink device).gained }
-        ensures held { result.held.items ≡ [] }
+        ensures held { result.size ≡ 0 }
         ensures device { result.device ≡ device }
     {
         Gathered {
             device,
             held,
+            size: 0,
             outset: PhantomData,
         }
     }
@@ -57,39 +60,85 @@ impl<W: ByteSink, S: Outset> Gathered<W, S> {
         let Gathered {
             device,
             held: _,
+            size: _,
             outset: _,
         } = self;
         device
     }
 
+    /// Collects these bytes. Condition: there is room for them.
+    #[inline(always)]
+    fn hold(&mut self, part: &[u8])
+        requires { self.old.size + length part.now ≤ most_gathered }
+        ensures held { take self.new.size self.new.held.items ≡
+            take self.old.size self.old.held.items ++ part.now }
+        ensures device { self.new.device ≡ self.old.device }
+    {
+        write_at(&mut self.held, self.size, part);
+        self.size += part.len();
+    }
+
     /// Writes all collected bytes to the device.
     fn give(&mut self) -> Result<(), DeviceFault>
-        ensures { Gives (W.sink self.old.device) (W.sink self.new.device) self.old.held.items
-            self.new.held.items result }
+        ensures gives { Gives (W.sink self.old.device) (W.sink self.new.device)
+            (take self.old.size self.old.held.items) (take self.new.size self.new.held.items)
+            result }
+        ensures retried { OnErr result ((W.sink self.new.device).retried ≡
+            retried_by_call (W.sink self.old.device).failed (W.sink self.old.device).retried) }
     {
-        match write_all(&mut self.device, self.held.as_slice()) {
+        match write_all(&mut self.device, &self.held[..self.size]) {
             Ok(()) => {
-                self.held.clear();
+                self.size = 0;
                 Ok(())
             }
             Err(sent) => {
-                drop_front(&mut self.held, sent);
+                move_to_front(&mut self.held, sent, self.size);
+                self.size -= sent;
                 Err(DeviceFault)
             }
+        }
+    }
+
+    /// Writes to a device that has failed, for which nothing more is collected: so it records each further write.
+    #[cold]
+    fn write_again(&mut self, bytes: &[u8]) -> Result<usize, DeviceFault>
+        requires some { 0 < length bytes.now }
+        requires failed { (W.sink self.old.device).failed ≡ true }
+        ensures written { IfOk result
+            (λ count. WritesSome
+            (with_held (W.sink self.old.device) (take self.old.size self.old.held.items))
+            (with_held (W.sink self.new.device) (take self.new.size self.new.held.items))
+            count bytes.now) }
+        ensures fault { OnErr result (WriteFails
+            (with_held (W.sink self.old.device) (take self.old.size self.old.held.items))
+            (with_held (W.sink self.new.device) (take self.new.size self.new.held.items))) }
+        ensures retried { (W.sink self.new.device).retried ≡
+            retried_by_call (W.sink self.old.device).failed (W.sink self.old.device).retried }
+    {
+        self.give()?;
+        match self.device.write(bytes) {
+            Ok(taken) => Ok(taken),
+            Err(DeviceFault) => Err(DeviceFault),
         }
     }
 }
 
 impl<W: ByteSink, S: Outset> ByteSink for Gathered<W, S> {
-    ghost sink = { λ gathered. with_held (W.sink gathered.device) gathered.held.items };
+    ghost use Rattle.std.specs.Prelude.{take};
+
+    ghost sink = { λ gathered.
+        with_held (W.sink gathered.device) (take gathered.size gathered.held.items) };
 
     #[inline(always)]
     fn write(&mut self, bytes: &[u8]) -> Result<usize, DeviceFault> {
-        if self.held.len() == MOST_GATHERED {
+        if self.device.failed() {
+            return self.write_again(bytes);
+        }
+        if self.size == MOST_GATHERED {
             self.give()?;
         }
-        let count = bytes.len().min(MOST_GATHERED - self.held.len());
-        self.held.extend_from_slice(&bytes[..count]).unwrap();
+        let count = bytes.len().min(MOST_GATHERED - self.size);
+        self.hold(&bytes[..count]);
         Ok(count)
     }
 
@@ -102,12 +151,12 @@ impl<W: ByteSink, S: Outset> ByteSink for Gathered<W, S> {
 pub(crate) struct Gathering;
 
 impl<W: ByteSink, S: Outset> Outlet<Gathered<W, S>> for Gathering {
-    ghost use Rattle.std.specs.Prelude.{refl};
+    ghost use Rattle.std.specs.Prelude.{refl, take};
     ghost use Rattle.std.proofs.Common.{inr, subst};
 
     ghost device = { λ out. W.sink out.device };
 
-    ghost held = { λ out. out.held.items };
+    ghost held = { λ out. take out.size out.held.items };
 
     ghost Had = { λ had. S.had ≡ had };
 
@@ -121,6 +170,6 @@ impl<W: ByteSink, S: Outset> Outlet<Gathered<W, S>> for Gathering {
     }
 
     fn held_in(out: &Gathered<W, S>) -> usize {
-        out.held.len()
+        out.size
     }
 }

@@ -4,8 +4,7 @@ ghost use Rattle.std.specs.Prelude.{◌≡◌, ◌≤◌, false, [], vec_capacit
 ghost use Rattle.lc_model.specs.Host.Outcome.{devices};
 ghost use Rattle.app_host.specs.Hosted.{objects_in};
 ghost use Rattle.app_host.specs.Whole.{AreSpares};
-ghost use Rattle.flight_core.specs.Promises.{Promises};
-ghost use Rattle.flight_core.specs.Run.{AreThese, IsOfProfile, mission_of};
+ghost use Rattle.flight_core.specs.Promises.{RunsAsPromised};
 
 use crate::error::{Report, RunError};
 use crate::gathered::{Gathered, Gathering, MOST_GATHERED, Outset};
@@ -18,7 +17,7 @@ use schedules::Schedule;
 use std::alloc::Global;
 use std::marker::Brand;
 
-/// Runs with this buffer, which is empty and has room for 65,536 bytes.
+/// Runs with this buffer, whose capacity is 65,536 bytes.
 fn run_with_buffer<R: ByteSource, W: ByteSink, S: Outset, B: App>(
     alloc: Global,
     texts: &[&[u8]],
@@ -32,14 +31,10 @@ fn run_with_buffer<R: ByteSource, W: ByteSink, S: Outset, B: App>(
     requires unread { (R.source reader.old).reads ≡ 0 }
     requires readable { (R.source reader.old).failed ≡ false }
     requires writable { (W.sink device).failed ≡ false }
-    requires empty { held.items ≡ [] }
-    requires room { MOST_GATHERED ≤ vec_capacity held }
+    requires room { vec_capacity held ≡ MOST_GATHERED }
     requires had { S.had ≡ (W.sink device).gained }
-    ensures promises { let objects = objects_in B.meaning stock.items in
-        let mission = mission_of texts.now schedule.now objects MOST_READS in
-        let before_and_after = devices (R.source reader.old) (R.source reader.new) (W.sink device)
-        (W.sink result.1) in
-        Promises (IsOfProfile schedule.now objects) (AreThese objects) mission before_and_after
+    ensures promises { RunsAsPromised B.meaning texts.now schedule.now stock.items MOST_READS
+        (devices (R.source reader.old) (R.source reader.new) (W.sink device) (W.sink result.1))
         result.0 }
 {
     // For the proof: each promise follows from how the run ends.
@@ -72,11 +67,8 @@ pub fn run_gathered<R: ByteSource, W: ByteSink, B: App>(
     requires writable { (W.sink device).failed ≡ false }
 
     // All promises of a run, for the device itself: the fields of `Promises` and of `PromisesOfProfile`.
-    ensures promises { let objects = objects_in B.meaning stock.items in
-        let mission = mission_of texts.now schedule.now objects MOST_READS in
-        let before_and_after = devices (R.source reader.old) (R.source reader.new) (W.sink device)
-        (W.sink result.1) in
-        Promises (IsOfProfile schedule.now objects) (AreThese objects) mission before_and_after
+    ensures promises { RunsAsPromised B.meaning texts.now schedule.now stock.items MOST_READS
+        (devices (R.source reader.old) (R.source reader.new) (W.sink device) (W.sink result.1))
         result.0 }
 {
     // For the proof: each promise follows from how the run ends.

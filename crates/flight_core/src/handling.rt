@@ -1,6 +1,7 @@
 //! Handles the next record.
 
 ghost use Rattle.std.specs.Prelude.{◌≡◌, false, length};
+ghost use Rattle.lc_model.specs.Device.{NoWriteRetried};
 ghost use Rattle.app_host.specs.Hosted.{shown};
 ghost use Rattle.app_host.specs.Step.{IsBetween};
 ghost use Rattle.flight_core.specs.Brought.{AreWhole, meanings_of};
@@ -30,6 +31,7 @@ pub(crate) fn handle_next<W: ByteSink, B: App>(
     ensures next { HandlesNext (meanings_of pairs.now) records.old records.new
         (shown B.meaning host.old)
         (shown B.meaning host.new) (W.sink writer.old) (W.sink writer.new) result }
+    ensures not_retried { NoWriteRetried (W.sink writer.old) (W.sink writer.new) }
     ensures between { IsBetween (shown B.meaning host.new) }
     ensures gone { LeavesForFront B.meaning host.old.seats (shown B.meaning host.old)
         (front_of records.old) }

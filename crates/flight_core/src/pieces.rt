@@ -1,6 +1,7 @@
 //! Reads a stream in pieces.
 
 ghost use Rattle.std.specs.Prelude.{◌≡◌, ◌+◌, ◌<◌, ◌≤◌, false, length};
+ghost use Rattle.lc_model.specs.Device.{NoReadRetried};
 ghost use Rattle.lc_model.specs.Host.Stream.{header_size, max_body};
 ghost use Rattle.host_refinement.specs.Statements.{AreBytes};
 ghost use Rattle.flight_core.specs.Going.{Refills, TakesPiece};
@@ -43,6 +44,7 @@ pub(crate) fn take_piece<R: ByteSource>(
     ensures room { length room.new ≡ PIECE }
     ensures piece { TakesPiece most records.old records.new (R.source reader.old)
         (R.source reader.new) result }
+    ensures not_retried { NoReadRetried (R.source reader.old) (R.source reader.new) }
     ensures bounded { (R.source reader.new).reads ≤ most }
 {
     if reader.reads() == most {
@@ -81,6 +83,7 @@ pub(crate) fn refill<R: ByteSource, T: ByteSink, O: Outlet<T>>(
     ensures refilled { Refills written most records.old records.new (R.source reader.old)
         (R.source reader.new) (O.device out.old) (O.device out.new) (O.held out.old)
         (O.held out.new) result }
+    ensures not_retried { NoReadRetried (R.source reader.old) (R.source reader.new) }
     ensures bounded { (R.source reader.new).reads ≤ most }
 {
     match settle::<T, O>(out, written) {

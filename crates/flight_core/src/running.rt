@@ -5,12 +5,14 @@ ghost use Rattle.std.specs.Mem.{FitsInMemory};
 ghost use Rattle.lc_model.specs.Host.Outcome.{devices};
 ghost use Rattle.lc_model.specs.Host.Promise.{IsRun};
 ghost use Rattle.app_host.specs.Hosted.{objects_in};
+ghost use Rattle.app_host.specs.Left.{WasClosed};
 ghost use Rattle.app_host.specs.Whole.{AreSpares};
 ghost use Rattle.flight_core.specs.Brought.{AreWhole};
 ghost use Rattle.flight_core.specs.Compiled.{NamesTheNumber, sources_of};
 ghost use Rattle.flight_core.specs.Ending.{ending_of};
+ghost use Rattle.flight_core.specs.Failures.{TriesNoneAgain};
 ghost use Rattle.flight_core.specs.Fitting.{RefusesUnfitAlone};
-ghost use Rattle.flight_core.specs.Promises.{Promises};
+ghost use Rattle.flight_core.specs.Promises.{RunsAsPromised};
 ghost use Rattle.flight_core.specs.Room.{HostFits};
 ghost use Rattle.flight_core.specs.Steps.{AnswersForItsReason, RunsForItsReason};
 ghost use Rattle.flight_core.specs.Run.{AreOfProfile, AreThese, IsOfProfile, RefusesNone, RunsSo, members_of, mission_of};
@@ -42,7 +44,11 @@ fn host_fits<B: App>() -> bool
     ensures { result ≡ true → HostFits B.row }
 {
     let none: Option<Host<B>> = None;
-    fits_in_memory(&none)
+    let fits = fits_in_memory(&none);
+    match none {
+        None => fits,
+        Some(_host) => unreachable!(),
+    }
 }
 
 /// Allocates all memory, and handles all records; `pairs` are the compiled texts.
@@ -66,13 +72,16 @@ fn run_compiled<R: ByteSource, T: ByteSink, O: Outlet<T>, B: App>(
         RunsSo pairs.now (members_of (objects_in B.meaning stock.items)) (length pairs.now) reads
         (devices (R.source reader.old) (R.source reader.new) (O.device out.old)
         (O.device out.new)) result }
-    ensures reasons { RunsForItsReason pairs.now
+    ensures reasons { RunsForItsReason (WasClosed B.meaning) pairs.now
         (members_of (objects_in B.meaning stock.items)) reads
         (devices (R.source reader.old) (R.source reader.new) (O.device out.old) (O.device out.new))
         (ending_of result) }
     ensures judged { RefusesNone
         (devices (R.source reader.old) (R.source reader.new) (O.device out.old)
         (O.device out.new)) result }
+    ensures not_retried { TriesNoneAgain
+        (devices (R.source reader.old) (R.source reader.new) (O.device out.old)
+        (O.device out.new)) }
     ensures bounded { (R.source reader.new).reads ≤ reads }
 {
     // Always true, and known at compile time. It shows the proof that a host fits in memory, whatever its applications are.
@@ -118,12 +127,9 @@ pub fn run_within<R: ByteSource, W: ByteSink, B: App>(
     requires most { reads ≤ MOST_READS }
 
     // All promises of a run: the fields of `Promises` and of `PromisesOfProfile`, which have comments.
-    ensures promises { let objects = objects_in B.meaning stock.items in
-        let mission = mission_of texts.now schedule.now objects reads in
-        let before_and_after = devices (R.source reader.old) (R.source reader.new)
-        (W.sink writer.old) (W.sink writer.new) in
-        Promises (IsOfProfile schedule.now objects) (AreThese objects) mission before_and_after
-        result }
+    ensures promises { RunsAsPromised B.meaning texts.now schedule.now stock.items reads
+        (devices (R.source reader.old) (R.source reader.new) (W.sink writer.old)
+        (W.sink writer.new)) result }
 {
     // For the proof: each promise follows from how the run ends.
     runs_keep_their_promises();
@@ -156,9 +162,13 @@ pub(crate) fn run_texts<R: ByteSource, T: ByteSink, O: Outlet<T>, B: App>(
         (O.device out.new)) (ending_of result) }
     ensures named { IfErr result (NamesTheNumber (sources_of texts.now)) }
     ensures reasons { AnswersForItsReason (AreThese (objects_in B.meaning stock.items))
+        (WasClosed B.meaning)
         (mission_of texts.now schedule.now (objects_in B.meaning stock.items) reads)
         (devices (R.source reader.old) (R.source reader.new) (O.device out.old) (O.device out.new))
         (ending_of result) }
+    ensures not_retried { TriesNoneAgain
+        (devices (R.source reader.old) (R.source reader.new) (O.device out.old)
+        (O.device out.new)) }
     ensures bounded { (R.source reader.new).reads ≤ reads }
 {
     // For the proof: the host in numbers writes what a mission calls for.
@@ -197,12 +207,9 @@ pub fn run<R: ByteSource, W: ByteSink, B: App>(
     requires writable { (W.sink writer.old).failed ≡ false }
 
     // All promises of a run: the fields of `Promises` and of `PromisesOfProfile`, which have comments.
-    ensures promises { let objects = objects_in B.meaning stock.items in
-        let mission = mission_of texts.now schedule.now objects MOST_READS in
-        let before_and_after = devices (R.source reader.old) (R.source reader.new)
-        (W.sink writer.old) (W.sink writer.new) in
-        Promises (IsOfProfile schedule.now objects) (AreThese objects) mission before_and_after
-        result }
+    ensures promises { RunsAsPromised B.meaning texts.now schedule.now stock.items MOST_READS
+        (devices (R.source reader.old) (R.source reader.new) (W.sink writer.old)
+        (W.sink writer.new)) result }
 {
     run_within(alloc, texts, schedule, stock, reader, writer, MOST_READS)
 }

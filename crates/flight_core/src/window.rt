@@ -1,8 +1,9 @@
 //! A buffer of unread bytes: pieces are appended at its end, records are taken off its start.
 
-ghost use Rattle.std.specs.Prelude.{◌≡◌, ◌≤◌, ◌+◌, ◌++◌, [], length, take, drop, IfOk, vec_len, vec_capacity};
+ghost use Rattle.std.specs.Prelude.{◌≡◌, ◌≤◌, ◌+◌, ◌-◌, ◌++◌, [], length, take, drop, IfOk, vec_capacity};
 ghost use Rattle.flight_core.specs.Window.{empty_window};
 
+use lc_model::write_at;
 use std::alloc::{AllocError, Global};
 use std::marker::Model;
 
@@ -13,18 +14,19 @@ pub(crate) const MOST_HELD: usize = 73_739;
 /// since the last move, so that moving costs a constant for each byte.
 const ROOM: usize = MOST_HELD + 16_384;
 
-/// The unread bytes, and the record taken last. Contracts see both as lists.
+/// The unread bytes, and the record taken last, in a list that never grows. Contracts see both as lists.
 #[derive(Drop)]
 pub(crate) struct Window {
     room: Vec<u8>,
     /// Where the record taken last begins.
     last: usize,
-    /// Where the unread bytes begin.
+    /// Where the unread bytes begin, and where they end.
     start: usize,
+    end: usize,
 }
 
 impl Model for Window {
-    ghost use Rattle.std.specs.Prelude.{take, drop, vec_capacity, vec_len};
+    ghost use Rattle.std.specs.Prelude.{take, drop, length, vec_capacity};
     ghost use Rattle.flight_core.specs.Window.{Shown, IsWindow};
 
     ghost Value = { Shown };
@@ -32,24 +34,24 @@ impl Model for Window {
     ghost view = { λ w.
         record {
           last = drop w.last (take w.start w.room.items);
-          held = drop w.start
-              w.room.items;
+          held = drop w.start (take w.end w.room.items);
         } };
 
-    ghost invariant = { λ w. IsWindow w.last w.start (vec_len w.room) (vec_capacity w.room) };
+    ghost invariant = { λ w. IsWindow w.last w.start w.end (length w.room.items)
+        (vec_capacity w.room) };
 }
 
-/// Removes the first `count` bytes, and moves the rest to the start.
+/// Moves the bytes from `start` to before `end` to the front.
 #[cold]
 #[inline(never)]
-pub(crate) fn drop_front(bytes: &mut Vec<u8>, count: usize)
-    requires { count ≤ vec_len bytes.old }
-    ensures items { bytes.new.items ≡ drop count bytes.old.items }
-    ensures room { vec_capacity bytes.new ≡ vec_capacity bytes.old }
+pub(crate) fn move_to_front(bytes: &mut Vec<u8>, start: usize, end: usize)
+    requires ordered { start ≤ end }
+    requires inside { end ≤ length bytes.old.items }
+    ensures items { take (end - start) bytes.new.items ≡ drop start (take end bytes.old.items) }
+    ensures size { length bytes.new.items ≡ length bytes.old.items }
+    ensures capacity { vec_capacity bytes.new ≡ vec_capacity bytes.old }
 {
-    let left = bytes.len() - count;
-    bytes.copy_within(count.., 0);
-    bytes.truncate(left);
+    bytes.copy_within(start..end, 0);
 }
 
 impl Window {
@@ -61,6 +63,7 @@ impl Window {
             room: Vec::with_capacity(alloc, ROOM)?,
             last: 0,
             start: 0,
+            end: 0,
         })
     }
 
@@ -70,7 +73,7 @@ impl Window {
         ensures held { result.now ≡ self.now.held }
         ensures few { length self.now.held ≤ MOST_HELD }
     {
-        &self.room[self.start..]
+        &self.room[self.start..self.end]
     }
 
     /// The bytes taken last.
@@ -97,11 +100,13 @@ impl Window {
         requires { length self.old.held + length bytes.now ≤ MOST_HELD }
         ensures { self.new ≡ record { last = []; held = self.old.held ++ bytes.now } }
     {
-        if self.room.len() + bytes.len() > ROOM {
-            drop_front(&mut self.room, self.start);
+        if self.end + bytes.len() > ROOM {
+            move_to_front(&mut self.room, self.start, self.end);
+            self.end -= self.start;
             self.start = 0;
         }
         self.last = self.start;
-        self.room.extend_from_slice(bytes).unwrap();
+        write_at(&mut self.room, self.end, bytes);
+        self.end += bytes.len();
     }
 }

@@ -8,7 +8,7 @@ use Rattle.lc_model.specs.Host.Promise.{Mission}
 use Rattle.lc_model.specs.Host.Schedule.{Schedule}
 use Rattle.lc_model.specs.Kept.Executive.{Member}
 use Rattle.lc_model.specs.Tables.InForce.{edition}
-use Rattle.app_host.specs.Hosted.{Object}
+use Rattle.app_host.specs.Hosted.{Object, Hosted}
 use Rattle.flight_core.specs.declared.error.Report.{Report}
 use Rattle.flight_core.specs.declared.error.RunError.{RunError}
 use Rattle.flight_core.specs.Compiled.{sources_of}
@@ -38,26 +38,28 @@ abbrev mission_with : List (Bor (List ℕ)) → Schedule → List Name → Missi
 mission_with texts schedule stock = record { edition = edition; sources = sources_of texts; schedule = schedule; stock = stock; most_reads = most_reads }
 
 -- what is known of a stock may be said of it in other words
-in_other_words : {P Q : List Member → Type 0} → ((members : List Member) → P members → Q members) → (m : Mission) (d : Devices) (ending : Ending) → AnswersForItsReason P m d ending → AnswersForItsReason Q m d ending
-in_other_words so m d (Complete entries count) answers = record { pairs = answers.pairs; compiled = answers.compiled; members = answers.members; stock = so _ answers.stock; run = answers.run }
-in_other_words so m d (Uncompiled text refusal) answers = tt
-in_other_words so m d (MetNoRecord number) answers = record { pairs = answers.pairs; compiled = answers.compiled; members = answers.members; stock = so _ answers.stock; run = answers.run }
-in_other_words so m d (MetTheEnd number) answers = record { pairs = answers.pairs; compiled = answers.compiled; members = answers.members; stock = so _ answers.stock; run = answers.run }
-in_other_words so m d FailedToRead answers = record { pairs = answers.pairs; compiled = answers.compiled; members = answers.members; stock = so _ answers.stock; run = answers.run }
-in_other_words so m d (FailedToWrite sent) answers = record { pairs = answers.pairs; compiled = answers.compiled; members = answers.members; stock = so _ answers.stock; run = answers.run }
-in_other_words so m d ReachedTheBound answers = record { pairs = answers.pairs; compiled = answers.compiled; members = answers.members; stock = so _ answers.stock; run = answers.run }
-in_other_words so m d NoMemory answers = tt
+in_other_words : {P Q : List Member → Type 0} (IsClosed : Hosted → Type 0) → ((members : List Member) → P members → Q members) → (m : Mission) (d : Devices) (ending : Ending) → AnswersForItsReason P IsClosed m d ending →
+    AnswersForItsReason Q IsClosed m d ending
+in_other_words IsClosed so m d (Complete entries count) answers = record { pairs = answers.pairs; compiled = answers.compiled; members = answers.members; stock = so _ answers.stock; run = answers.run }
+in_other_words IsClosed so m d (Uncompiled text refusal) answers = tt
+in_other_words IsClosed so m d (MetNoRecord number) answers = record { pairs = answers.pairs; compiled = answers.compiled; members = answers.members; stock = so _ answers.stock; run = answers.run }
+in_other_words IsClosed so m d (MetTheEnd number) answers = record { pairs = answers.pairs; compiled = answers.compiled; members = answers.members; stock = so _ answers.stock; run = answers.run }
+in_other_words IsClosed so m d FailedToRead answers = record { pairs = answers.pairs; compiled = answers.compiled; members = answers.members; stock = so _ answers.stock; run = answers.run }
+in_other_words IsClosed so m d (FailedToWrite sent) answers = record { pairs = answers.pairs; compiled = answers.compiled; members = answers.members; stock = so _ answers.stock; run = answers.run }
+in_other_words IsClosed so m d ReachedTheBound answers = record { pairs = answers.pairs; compiled = answers.compiled; members = answers.members; stock = so _ answers.stock; run = answers.run }
+in_other_words IsClosed so m d NoMemory answers = tt
 
 -- a run of this profile's stock with these names promises all that one of its own does
-pub keeps : (texts : List (Bor (List ℕ))) (schedule : Schedule) (stock : List Object) → IsOfProfile schedule stock → (d : Devices) (result : Result Report RunError) → names_of stock ≡ own_names →
-    Promises (IsOfProfile schedule stock) (AreThese stock) (mission_with texts schedule (map (λ (member : Member). member.called) (members_of stock))) d result →
-    Promises ⊤ (AreOwn schedule) (own_mission texts schedule) d result
-keeps texts schedule stock is d result same promises =
-    let own = subst (λ names. Promises (IsOfProfile schedule stock) (AreThese stock) (mission_with texts schedule names) d result) (called_so stock ∙ same) promises in
+pub keeps : (IsClosed : Hosted → Type 0) (texts : List (Bor (List ℕ))) (schedule : Schedule) (stock : List Object) → IsOfProfile schedule stock → (d : Devices) (result : Result Report RunError) → names_of stock ≡ own_names →
+    Promises (IsOfProfile schedule stock) (AreThese stock) IsClosed (mission_with texts schedule (map (λ (member : Member). member.called) (members_of stock))) d result →
+    Promises ⊤ (AreOwn schedule) IsClosed (own_mission texts schedule) d result
+keeps IsClosed texts schedule stock is d result same promises =
+    let own = subst (λ names. Promises (IsOfProfile schedule stock) (AreThese stock) IsClosed (mission_with texts schedule names) d result) (called_so stock ∙ same) promises in
     record {
       profile = λ nothing. own.profile is;
       refuses = own.refuses;
       named = own.named;
-      reasons = in_other_words (λ members these. subst (AreOwn schedule) (sym these) (is, called_so stock ∙ same)) _ d (ending_of result) own.reasons;
+      reasons = in_other_words IsClosed (λ members these. subst (AreOwn schedule) (sym these) (is, called_so stock ∙ same)) _ d (ending_of result) own.reasons;
+      not_retried = own.not_retried;
       bounded = own.bounded;
     }

@@ -3,6 +3,8 @@ use Rattle.std.specs.Global.{Global}
 use Rattle.std.specs.declared.boxed.Box.{Box}
 use Rattle.lc_model.specs.Name.{lc_name, sch_name, counter_name}
 use Rattle.lc_model.specs.Kept.Summary.{LcState, SchState, CounterState}
+use Rattle.app_host.specs.Hosted.{Hosted}
+use Rattle.app_host.specs.Left.{WasClosed}
 use Rattle.app_host.specs.Object.{Object}
 use Rattle.flight_profile.specs.declared.members.Member.{Member}
 use Rattle.flight_profile.specs.declared.members.Member.TheVariants as member
@@ -16,3 +18,7 @@ member_meaning (member.Counter it) = record { called = counter_name; state = Cou
 -- The meaning of an application in a box.
 abbrev pub meaning_of : Box Member Global → Object
 meaning_of b = member_meaning b.value
+
+-- A host of such boxes was closed.
+abbrev pub OwnWasClosed : Hosted → Type 0
+OwnWasClosed = WasClosed meaning_of

@@ -3,6 +3,7 @@
 ghost use Rattle.std.specs.Prelude.{◌≡◌, false, ⊤};
 ghost use Rattle.lc_model.specs.Host.Outcome.{devices};
 ghost use Rattle.flight_core.specs.Promises.{Promises};
+ghost use Rattle.flight_profile.specs.Members.{OwnWasClosed};
 ghost use Rattle.flight_profile.specs.Stock.{AreOwn, own_mission};
 
 use crate::stock::own_stock;
@@ -33,8 +34,8 @@ pub fn launch<R: ByteSource, W: ByteSink + Drop>(
     // All that a run of this stock promises, of the device itself: the fields of `Promises` and of `PromisesOfProfile`.
     ensures promises { let before_and_after = devices (R.source reader.old) (R.source reader.new)
         (W.sink device) (W.sink result.1) in
-        Promises ⊤ (AreOwn schedule.now) (own_mission texts.now schedule.now) before_and_after
-        result.0 }
+        Promises ⊤ (AreOwn schedule.now) OwnWasClosed
+        (own_mission texts.now schedule.now) before_and_after result.0 }
 {
     runs_keep_their_promises();
     match own_stock(alloc, schedule) {

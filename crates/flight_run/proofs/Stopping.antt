@@ -1,5 +1,5 @@
 -- Where a command stops.
-use Rattle.std.proofs.Common.{◌≡◌, ◌∙◌, refl, sym, ap, ℕ, ◌+◌, ◌<◌, List, [], ◌∷◌, ◌++◌, map, take, drop, get_or, length, Option, Some, None, false, Bor, Vec, Global, arith}
+use Rattle.std.proofs.Common.{◌≡◌, refl, ℕ, List, [], ◌∷◌, ◌++◌, map, Option, Some, None, false}
 use Rattle.flight_run.specs.declared.fault.Fault.{Fault}
 use Rattle.flight_run.specs.declared.fault.Fault.TheVariants.{Text, Schedule, Words, File, Run, Memory}
 use Rattle.rpn_compiler.specs.declared.error.CompileError.{CompileError}
@@ -8,10 +8,9 @@ use Rattle.schedules.specs.declared.error.ScheduleError.{ScheduleError}
 use Rattle.schedules.specs.declared.error.ScheduleError.TheVariants as schedule
 use Rattle.program_io.specs.declared.error.FileError.{FileError}
 use Rattle.program_io.specs.declared.error.FileError.TheVariants as file
-use Rattle.program_io.specs.FileCall.{FileCall, Reads, Writes, all_read, asked, followed_by}
+use Rattle.program_io.specs.FileCall.{FileCall, Reads, Writes, asked, followed_by}
 use Rattle.program_io.specs.Stops.{IsErrorOf, IsOfFile}
 use Rattle.program_io.specs.Stops as files
-use Rattle.program_io.proofs.Calls.{as_many, asked_read, calls_around}
 use Rattle.program_io.proofs.Stopping.{ends_later, faults_later, last_of}
 use Rattle.program_io.proofs.Stopping as io
 use Rattle.flight_run.specs.Cause.{fault_of_file, fault_of_schedule, fault_of_text}
@@ -71,15 +70,3 @@ schedule_stops name text before now schedule.Memory e refused = one (Reads name 
 schedule_stops name text before now (schedule.BadLine line) e refused = one (Reads name (Some text)) before now (Schedule (schedule.BadLine line)) e (last_of _ _ refused)
 schedule_stops name text before now (schedule.TooManySlots line) e refused = one (Reads name (Some text)) before now (Schedule (schedule.TooManySlots line)) e (last_of _ _ refused)
 schedule_stops name text before now (schedule.TooManyEntries line) e refused = one (Reads name (Some text)) before now (Schedule (schedule.TooManyEntries line)) e (last_of _ _ refused)
-
--- one of these texts can't be read, or is refused
-pub text_of_these_stops : (names : List (Bor (List ℕ))) (i : ℕ) (none name : Bor (List ℕ)) (texts : List (Vec ℕ Global)) (before mid now : Option (List FileCall)) (fault : Fault) →
-    i < length names → get_or names i none ≡ name → length texts ≡ i →
-    mid ≡ followed_by before (all_read (map (λ (x : Bor (List ℕ)). x.now) (take i names)) (map (λ (x : Vec ℕ Global). x.items) texts)) →
-    StopsIn (Reads name.now None ∷ []) mid now fault → StopsIn (map (λ name. Reads name None) (map (λ (x : Bor (List ℕ)). x.now) names)) before now fault
-text_of_these_stops names i none name texts before mid now fault less at many e stops =
-    let so_far = map (λ (x : Bor (List ℕ)). x.now) (take i names) in
-    let bytes = map (λ (x : Vec ℕ Global). x.items) texts in
-    let rest = map (λ name. Reads name None) (map (λ (x : Bor (List ℕ)). x.now) (drop (i + 1) names)) in
-    stops_later (map (λ name. Reads name None) (map (λ (x : Bor (List ℕ)). x.now) names)) (Reads name.now None ∷ []) rest (all_read so_far bytes) before mid now fault
-    (calls_around (λ name. Reads name None) names i none name less at ∙ ap (λ x. x ++ (Reads name.now None ∷ [] ++ rest)) (sym (asked_read so_far bytes (as_many names i texts (omega arith) many)))) e stops

@@ -5,6 +5,7 @@ use Rattle.lc_model.specs.Host.Promise.{Mission}
 use Rattle.flight_core.specs.declared.error.Report.{Report}
 use Rattle.flight_core.specs.declared.error.RunError.{RunError}
 use Rattle.flight_core.specs.Promises.{Promises}
+use Rattle.flight_profile.specs.Members.{OwnWasClosed}
 use Rattle.flight_profile.specs.Stock.{AreOwn}
 use Rattle.flight_run.specs.declared.done.Done.{Done}
 use Rattle.flight_run.specs.declared.done.Done.TheVariants.{Flown}
@@ -19,5 +20,5 @@ outcome_of (Err error) = Err (fault_of_run error)
 -- a run of this mission over these devices keeps all promises of `run`, and this is what the program makes of its result
 pub record Flies (m : Mission) (d : Devices) (outcome : Result Done Fault) : Type 0 where
   pub answer : Result Report RunError
-  pub promises : Promises ⊤ (AreOwn m.schedule) m d answer
+  pub promises : Promises ⊤ (AreOwn m.schedule) OwnWasClosed m d answer
   pub comes_to : outcome ≡ outcome_of answer

@@ -3,21 +3,18 @@
 ghost use Rattle.std.specs.Prelude.{◌≡◌, [], ◌∷◌, List, ℕ, Ok, Some, None, false, length, map, IfErr, IfOk};
 ghost use Rattle.lc_model.specs.Host.Outcome.{devices};
 ghost use Rattle.lc_model.specs.Host.ScheduleText.{schedule_in};
-ghost use Rattle.rpn_compiler.specs.declared.files.TablePair.{TablePair};
-ghost use Rattle.flight_core.specs.Compiled.{IsCompiled};
 ghost use Rattle.flight_profile.specs.Stock.{own_mission};
 ghost use Rattle.flight_run.specs.Commands.{IsRunDone};
 ghost use Rattle.flight_run.specs.Dispatch.{IsFlown, IsRunStopped};
 ghost use Rattle.flight_run.specs.Flown.{Flies};
 ghost use Rattle.flight_run.specs.Stops.{StopsIn};
-ghost use Rattle.program_io.specs.FileCall.{Reads, all_read, followed_by};
+ghost use Rattle.program_io.specs.FileCall.{Closes, Reads, followed_by};
 
 use crate::done::Done;
 use crate::fault::Fault;
 use flight_profile::launch;
 use lc_model::{ByteSink, ByteSource};
-use program_io::{Disk, check_apart, read_text, read_whole_text};
-use rpn_compiler::compile;
+use program_io::{Disk, check_apart, read_texts, read_whole_text};
 use schedules::{Schedule, parse_schedule};
 use std::alloc::{AllocError, Global};
 
@@ -37,40 +34,6 @@ fn schedule_in<'a, D: Disk>(
     let text = read_whole_text(disk, name)?;
     let schedule = parse_schedule(alloc, text.as_slice())?;
     Ok(schedule)
-}
-
-/// The rule text in a file, which compiles.
-fn valid_text<'a, D: Disk>(alloc: Global, disk: &mut D, name: &'a str) -> Result<Vec<u8>, Fault<'a>>
-    ensures read { IfOk result (λ text. D.calls disk.new ≡ followed_by (D.calls disk.old)
-        (Reads name.entry.now (Some text.items) ∷ [])) }
-    ensures valid { IfOk result (λ text. (pair : TablePair) × IsCompiled text.items pair) }
-    ensures stops { IfErr result
-        (StopsIn (Reads name.entry.now None ∷ []) (D.calls disk.old) (D.calls disk.new)) }
-{
-    let text = read_text(disk, name)?;
-    let _pair = compile(alloc, text.as_slice())?;
-    Ok(text)
-}
-
-/// The rule texts in these files, of which each compiles: the output stays as it is where one is refused. The host compiles them
-/// again.
-fn valid_texts<'a, D: Disk>(
-    alloc: Global,
-    disk: &mut D,
-    names: &[&'a str],
-) -> Result<Vec<Vec<u8>>, Fault<'a>>
-    ensures each { IfOk result (λ texts. length texts.items ≡ length names.now) }
-    ensures read { IfOk result (λ texts. D.calls disk.new ≡ followed_by (D.calls disk.old)
-        (all_read (map (λ name. name.now) names.now) (map (λ text. text.items) texts.items))) }
-    ensures stops { IfErr result (StopsIn
-        (map (λ name. Reads name None) (map (λ name. name.now) names.now))
-        (D.calls disk.old) (D.calls disk.new)) }
-{
-    let mut texts = Vec::new(alloc);
-    for name in names {
-        texts.push(valid_text(alloc, disk, name)?)?;
-    }
-    Ok(texts)
 }
 
 /// Lends the texts as slices.
@@ -110,9 +73,26 @@ pub fn run_devices<'a, R: ByteSource, W: ByteSink + Drop>(
     }
 }
 
-/// Opens the files in this order: the schedule, the rule texts, the stream, and the output, which must be none of the others. A
-/// schedule or a rule text that is refused is a fault before the output is opened.
-/// Then the host runs from the stream's file to the output's; each byte of the output is given to the device once.
+/// Whether nothing was run: a text was refused, or there was no memory.
+fn is_unrun(outcome: &Result<Done, Fault<'_>>) -> bool {
+    matches!(outcome, Err(Fault::Text(_) | Fault::Memory))
+}
+
+/// Closes the output. If nothing was run, it stays as it was.
+fn end_output<D: Disk>(disk: &mut D, device: D::Device, is_unrun: bool)
+    ensures { D.calls disk.new ≡ followed_by (D.calls disk.old)
+        (Closes (D.Device.sink device) ∷ []) }
+{
+    if is_unrun {
+        disk.leave(device);
+    } else {
+        disk.close(device);
+    }
+}
+
+/// Opens the files in this order: the schedule, the rule texts, the stream, and the output, which must be none of the others. Then
+/// the texts are compiled, and the host runs from the stream's file to the output's; each byte of the output is given to the device
+/// once. If a text is refused, the output stays as it was.
 pub fn run_files<'a, D: Disk>(
     alloc: Global,
     disk: &mut D,
@@ -128,7 +108,7 @@ pub fn run_files<'a, D: Disk>(
         (map (λ name. name.now) rules.now) (D.calls disk.old) (D.calls disk.new)) }
 {
     let plan = schedule_in(alloc, disk, schedule)?;
-    let texts = valid_texts(alloc, disk, rules)?;
+    let texts = read_texts(alloc, disk, rules)?;
     let slices = slices_of(alloc, texts.as_slice())?;
     let Ok(mut reader) = disk.open(stream) else {
         return Err(Fault::File(stream));
@@ -139,6 +119,6 @@ pub fn run_files<'a, D: Disk>(
         return Err(Fault::File(out));
     };
     let (outcome, device) = run_devices(alloc, slices.as_slice(), &plan, &mut reader, device);
-    disk.close(device);
+    end_output(disk, device, is_unrun(&outcome));
     outcome
 }

@@ -4,18 +4,16 @@ use Rattle.std.specs.List.{AllZip}
 use Rattle.lc_model.specs.declared.record.Moment.{Moment}
 use Rattle.lc_model.specs.declared.kind.Kind.{Kind}
 use Rattle.lc_model.specs.declared.kind.Kind.TheVariants.{Wdt, Adt}
-use Rattle.lc_model.specs.Condition.{Condition, Watch, Not, Join}
-use Rattle.lc_model.specs.Rule.{Actionpoint}
-use Rattle.lc_model.specs.Tables.Equation.{IsRearranged, mention, negation, in_order}
 use Rattle.lc_model.specs.Tables.Interpretation.{Interpretation, Pair}
-use Rattle.lc_model.specs.LimitChecker.Steps.{by_lists, paired, lc_packet}
+use Rattle.lc_model.specs.LimitChecker.Steps.{by_lists, is_short, paired, lc_packet}
 use Rattle.lc_model.specs.Host.Schedule.{Schedule}
 use Rattle.lc_model.specs.Host.World.{World, Running, Lc}
 use Rattle.lc_model.specs.Laws.LimitChecker.{IsSettled}
-use Rattle.lc_model.specs.Laws.Tables.{IsSameRule}
+use Rattle.lc_model.specs.Laws.Tables.{IsReworded}
 use Rattle.lc_model.specs.Laws.Correspondence.{BothOrNone, SoundAlike, Agrees, LcAlike}
 use Rattle.lc_model.proofs.LimitChecker.StepLaws.{stays_settled}
 use Rattle.lc_model.proofs.LimitChecker.LimitCheckerOfTwo.{States, packet_alike}
+use Rattle.lc_model.proofs.LimitChecker.Reordered.{as_worded}
 use Rattle.host_refinement.specs.Statements.{IsOne, PairsAreSensible, IsWhole}
 use Rattle.host_refinement.proofs.PacketRecords.{LcFits, Fits}
 
@@ -91,23 +89,14 @@ module _ {Image : Type 0} (images : Interpretation Image) (IsFine : Image → Ty
       by_running (Some r) h = fits_of schedule moment r.state h
 
 -- an interpretation agrees with itself
-as_it_stands : (c : Condition) → IsRearranged c c
-as_it_stands (Watch t) = mention
-as_it_stands (Not c) = negation (as_it_stands c)
-as_it_stands (Join o a b) = in_order (as_it_stands a) (as_it_stands b)
-
-same_rules : (rules : List Actionpoint) → AllZip IsSameRule rules rules
-same_rules [] = tt
-same_rules (rule ∷ rules) = ((rule.condition, refl, as_it_stands rule.condition), same_rules rules)
-
 module _ {Image : Type 0} (images : Interpretation Image) (IsFine : Image → Type 0) where
   pub agrees : Agrees (IsOne images IsFine) images images
   agrees = record {
     sizes = λ kind size. refl;
     faults = λ kind a b h. ap (images.fault_of kind) h.0;
     matches = λ p q h. ap images.matches (one p q h);
-    terms = λ p q h match. ap images.terms (one p q h);
-    rules = λ p q h match. subst (λ (q : Pair Image). AllZip IsSameRule (images.rules p) (images.rules q)) (one p q h) (same_rules (images.rules p));
+    short = λ p q h match packet. ap (λ (p : Pair Image). is_short (images.terms p) packet) (one p q h);
+    rules = λ p q h match. subst (λ (q : Pair Image). AllZip IsReworded (images.rules p) (images.rules q)) (one p q h) (as_worded (images.rules p));
   }
     where
       one : (p q : Pair Image) → SoundAlike (IsOne images IsFine) images images p q → p ≡ q

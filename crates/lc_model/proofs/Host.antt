@@ -8,6 +8,7 @@ pub mod AsideLaws
 pub mod TwoReadings
 pub mod CorrespondenceLaws
 pub mod SentOfTwo
+pub mod RewordedTexts
 pub mod StreamsGoOn
 pub mod WholeRuns
 pub mod RunsKept

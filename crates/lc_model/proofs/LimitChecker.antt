@@ -7,3 +7,5 @@ pub mod StepLaws
 pub mod Slots
 pub mod Reordered
 pub mod LimitCheckerOfTwo
+pub mod LaggingLaws
+pub mod LiftedLaws

@@ -1,19 +1,21 @@
 -- Byte sources and sinks: what a read takes and what a write adds. This project's own, after the readers and writers of Rust's
 -- standard library. If the bytes before a call are known, so are those after it.
-use Rattle.std.specs.Prelude.{◌≡◌, ℕ, ◌+◌, ◌-◌, ◌^◌, ◌<◌, ◌≤◌, Bool, true, min, List, length, take, Option}
+use Rattle.std.specs.Prelude.{◌≡◌, ℕ, ◌+◌, ◌-◌, ◌^◌, ◌<◌, ◌≤◌, ◌||◌, Bool, true, false, min, List, length, take, Option}
 use Rattle.std.specs.Io.KnownBytes.{Appends, Consumes, IsAtEnd, Keeps}
 
--- A source: its unread bytes (or unknown), the number of reads so far including failed ones (capped at 2 ^ 64 - 1), and whether a
--- read has failed.
+-- A source: its unread bytes (or unknown), the number of reads so far including failed ones (capped at 2 ^ 64 - 1), whether a read
+-- has failed, and whether a read came after a failed one.
 pub record Source : Type 0 where
   pub rest : Option (List ℕ)
   pub reads : ℕ
   pub failed : Bool
+  pub retried : Bool
 
--- A sink: the bytes that it has taken (or unknown), and whether a write has failed.
+-- A sink: the bytes that it has taken (or unknown), whether a write has failed, and whether a write came after a failed one.
 pub record Sink : Type 0 where
   pub gained : Option (List ℕ)
   pub failed : Bool
+  pub retried : Bool
 
 -- ---- one call
 
@@ -44,6 +46,20 @@ pub record ReadFails (before now : Source) : Type 0 where
 pub record WriteFails (before now : Sink) : Type 0 where
   pub unmoved : Keeps before.gained now.gained
   pub remembered : now.failed ≡ true
+
+-- ---- calls after a failed one
+
+-- `retried` after one more call of a device.
+abbrev pub retried_by_call : (failed retried : Bool) → Bool
+retried_by_call failed retried = failed || retried
+
+-- If no read had failed before, none came after a failed one.
+abbrev pub NoReadRetried : Source → Source → Type 0
+NoReadRetried before now = before.failed ≡ false → now.retried ≡ before.retried
+
+-- If no write had failed before, none came after a failed one.
+abbrev pub NoWriteRetried : Sink → Sink → Type 0
+NoWriteRetried before now = before.failed ≡ false → now.retried ≡ before.retried
 
 -- ---- output cut short
 

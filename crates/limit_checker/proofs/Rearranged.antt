@@ -114,7 +114,7 @@ module _ (seat : ℕ) (own new : LcOwn) (packet : List ℕ) (now : LcNow (List �
 
   own_pipe_new : IfSome (seen_at seat (held_by after)) (IsOwnPipe (seen_at seat (held_by before)) [])
   own_pipe_new =
-      let changed : IsOwnPipe (seen_at seat (held_by before)) [] new_pipe = record { stayed = waits; heard = []; waiting = sym (append-nil waits); old_or_new = inl refl; few = lit≤ tt; no_ticks = tt } in
+      let changed : IsOwnPipe (seen_at seat (held_by before)) [] new_pipe = record { stayed = waits; heard = []; waiting = sym (append-nil waits); old_or_new = inl refl; heard_of = tt } in
       subst (λ (place : Option Pipe). IfSome place (IsOwnPipe (seen_at seat (held_by before)) [])) (sym own_pipe) changed
 
   is_given : IsGiven seat lc_name packet (held_by before) (held_by after)

@@ -16,7 +16,7 @@ pub(crate) struct AskedList {
 }
 
 impl Model for AskedList {
-    ghost use Rattle.std.specs.Prelude.{List, ◌≤◌, vec_capacity};
+    ghost use Rattle.std.specs.Prelude.{◌≡◌, List, vec_capacity};
     ghost use Rattle.lc_model.specs.Codes.{table_entries};
     ghost use Rattle.limit_engine.specs.declared.reaction.Asked.{Asked};
 
@@ -24,7 +24,7 @@ impl Model for AskedList {
 
     ghost view = { λ a. a.items.items };
 
-    ghost invariant = { λ a. table_entries ≤ vec_capacity a.items };
+    ghost invariant = { λ a. vec_capacity a.items ≡ table_entries };
 }
 
 impl AskedList {

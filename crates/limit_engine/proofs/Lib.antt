@@ -1,4 +1,5 @@
 mod Ascending
+mod Shifted
 mod Halves
 mod Places
 mod Ranges

@@ -53,9 +53,9 @@ pub record IsFewEffort (steps probes : ℕ) : Type 0 where
   pub few_steps : steps ≤ most_steps
   pub few_probes : probes ≤ most_probes
 
--- The lists have room for the largest tables.
+-- The lists have the room for the largest tables that they were made with.
 pub record HasRoom (watch entries points words : ℕ) : Type 0 where
-  pub for_watch : table_entries ≤ watch
-  pub for_entries : table_entries ≤ entries
-  pub for_points : table_entries ≤ points
-  pub for_words : words_in WideActionpoints * table_entries ≤ words
+  pub for_watch : watch ≡ table_entries
+  pub for_entries : entries ≡ table_entries
+  pub for_points : points ≡ table_entries
+  pub for_words : words ≡ words_in WideActionpoints * table_entries

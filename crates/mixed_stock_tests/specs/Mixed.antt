@@ -5,7 +5,7 @@ use Rattle.lc_model.specs.Host.Promise.{Mission}
 use Rattle.lc_model.specs.Host.Schedule.{Schedule}
 use Rattle.lc_model.specs.Kept.Summary.{Other}
 use Rattle.lc_model.specs.Name.{lc_name, sch_name, counter_name}
-use Rattle.app_host.specs.Hosted.{Object}
+use Rattle.app_host.specs.Hosted.{Object, Hosted}
 use Rattle.flight_core.specs.Run.{AreThese, IsOfProfile}
 use Rattle.flight_core.specs.Steps.{AnswersForItsReason}
 use Rattle.flight_profile.specs.Stock.{names_of}
@@ -23,10 +23,10 @@ pub record AreMixed (schedule : Schedule) (stock : List Object) : Type 0 where
   pub names : names_of known ≡ lc_name ∷ sch_name ∷ counter_name ∷ []
   pub fourth : HasStranger known stock
 
--- the run was a run of these texts, record by record, from a host that began with these four
-pub record RunsMixed (sources : List (List ℕ)) (schedule : Schedule) (d : Devices) (ending : Ending) : Type 0 where
+-- the run was a run of these texts, record by record, from a host that began with these four; `IsClosed` holds of the host that is left
+pub record RunsMixed (IsClosed : Hosted → Type 0) (sources : List (List ℕ)) (schedule : Schedule) (d : Devices) (ending : Ending) : Type 0 where
   pub stock : List Object
   pub mixed : AreMixed schedule stock
   pub mission : Mission
   pub texts : mission.sources ≡ sources
-  pub answers : AnswersForItsReason (AreThese stock) mission d ending
+  pub answers : AnswersForItsReason (AreThese stock) IsClosed mission d ending

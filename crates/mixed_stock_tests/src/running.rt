@@ -4,11 +4,12 @@ ghost use Rattle.std.specs.Prelude.{◌≡◌, ◌≤◌, false, None, IfOk, OnO
 ghost use Rattle.lc_model.specs.Host.Outcome.{devices};
 ghost use Rattle.lc_model.specs.Kept.Summary.{Other};
 ghost use Rattle.app_host.specs.Hosted.{objects_in};
+ghost use Rattle.app_host.specs.Left.{WasClosed};
 ghost use Rattle.app_host.specs.Whole.{AreSpares};
 ghost use Rattle.flight_core.specs.Compiled.{sources_of};
 ghost use Rattle.flight_core.specs.Ending.{ending_of};
 ghost use Rattle.flight_core.specs.Fitting.{RefusesUnfitAlone};
-ghost use Rattle.mixed_stock_tests.specs.Mixed.{HasStranger, RunsMixed};
+ghost use Rattle.mixed_stock_tests.specs.Mixed.{AreMixed, HasStranger, RunsMixed};
 
 use app_host::App;
 use app_host_tests::named::LetterApp;
@@ -29,6 +30,32 @@ fn add_stranger<B: App>(stock: &mut Vec<B>, app: B) -> Result<(), AllocError>
     Ok(())
 }
 
+/// Runs these texts with a stock in which a fourth application is of another kind than this profile's. Conditions: nothing was read or
+/// failed yet.
+fn run_stock<R: ByteSource, W: ByteSink, B: App>(
+    alloc: Global,
+    texts: &[&[u8]],
+    schedule: &Schedule,
+    stock: Vec<B>,
+    reader: &mut R,
+    writer: &mut W,
+) -> Result<Report, RunError>
+    requires spares { AreSpares (objects_in B.meaning stock.items) }
+    requires mixed { AreMixed schedule.now (objects_in B.meaning stock.items) }
+    requires unread { (R.source reader.old).reads ≡ 0 }
+    requires readable { (R.source reader.old).failed ≡ false }
+    requires writable { (W.sink writer.old).failed ≡ false }
+    ensures refuses { RefusesUnfitAlone (sources_of texts.now)
+        (devices (R.source reader.old) (R.source reader.new) (W.sink writer.old)
+        (W.sink writer.new)) (ending_of result) }
+    ensures bounded { (R.source reader.new).reads ≤ 4_294_967_296 }
+    ensures mixed { RunsMixed (WasClosed B.meaning) (sources_of texts.now) schedule.now
+        (devices (R.source reader.old) (R.source reader.new) (W.sink writer.old)
+        (W.sink writer.new)) (ending_of result) }
+{
+    run(alloc, texts, schedule, stock, reader, writer)
+}
+
 /// Runs these texts, with a Limit Checker, a scheduler, a counter and an application of another kind in stock. Out of memory for
 /// these is the outer error. Conditions: nothing was read or failed yet.
 fn run_mixed<R: ByteSource, W: ByteSink>(
@@ -45,9 +72,6 @@ fn run_mixed<R: ByteSource, W: ByteSink>(
         (devices (R.source reader.old) (R.source reader.new) (W.sink writer.old)
         (W.sink writer.new)) (ending_of answer)) }
     ensures bounded { IfOk result (λ _. (R.source reader.new).reads ≤ 4_294_967_296) }
-    ensures mixed { IfOk result (λ answer. RunsMixed (sources_of texts.now) schedule.now
-        (devices (R.source reader.old) (R.source reader.new) (W.sink writer.old)
-        (W.sink writer.new)) (ending_of answer)) }
 {
     let mut stock: Vec<Box<dyn App>> = Vec::new(alloc);
     let checker = Box::new(alloc, LimitChecker::new(alloc)?)?;
@@ -57,7 +81,7 @@ fn run_mixed<R: ByteSource, W: ByteSink>(
     let counter = Box::new(alloc, Counter::new())?;
     add(&mut stock, schedule, b"COUNTER", counter)?;
     add_stranger(&mut stock, Box::new(alloc, LetterApp::new(0))?)?;
-    Ok(run(alloc, texts, schedule, stock, reader, writer))
+    Ok(run_stock(alloc, texts, schedule, stock, reader, writer))
 }
 
 mod tests {

@@ -1,7 +1,7 @@
 //! A host that is fed.
 
-ghost use Rattle.std.specs.Prelude.{◌≡◌, ◌≢◌, ◌<◌, ◌≤◌, ◌⊎◌, length, None, IsSomeAnd};
-ghost use Rattle.c_interface.specs.Feeding.{AreFed, IsFed, IsMade, IsUnmade, too_small};
+ghost use Rattle.std.specs.Prelude.{◌≡◌, ◌≢◌, ◌<◌, ◌≤◌, ◌⊎◌, length, None, IfSome, IsSomeAnd};
+ghost use Rattle.c_interface.specs.Feeding.{AreFed, FedWasClosed, IsFed, IsMade, IsUnmade, too_small};
 ghost use Rattle.std.specs.List.{sum};
 ghost use Rattle.c_interface.specs.Refusing.{unfit};
 ghost use Rattle.c_interface.specs.Running.{IsNotRun, IsUnfit};
@@ -69,7 +69,8 @@ pub extern "C" fn needlemauve_host_feed(
 #[unsafe(no_mangle)]
 pub extern "C" fn needlemauve_host_close(alloc: Global, host: &mut Handle)
     requires { IsSomeAnd host.old.value IsFed }
-    ensures { host.new.value ≡ None }
+    ensures empty { host.new.value ≡ None }
+    ensures closed { IfSome host.old.value FedWasClosed }
 {
     close_host(alloc, host);
 }

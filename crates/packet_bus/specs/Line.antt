@@ -22,13 +22,14 @@ abbrev pub AreOnce : List ℕ → Type 0
 AreOnce [] = ⊤
 AreOnce (mid ∷ mids) = (list_any (λ other. mid == other) mids ≡ false) × AreOnce mids
 
--- The parts of a seat's pipe have room for 72 packets and 256 subscriptions, and are empty if the seat has no pipe.
+-- The parts of a seat's pipe have the room for 72 packets and 256 subscriptions that they were made with, and are empty if the
+-- seat has no pipe.
 pub record IsPlace (is_open : Bool) (subscriptions : List ℕ) (waiting : Buffer ℕ) (room : ℕ) : Type 0 where
   pub depth : waiting.capacity ≡ 72
   pub short : length waiting.items ≤ 72
   pub few : length subscriptions ≤ 256
   pub once : AreOnce subscriptions
-  pub has_room : 256 ≤ room
+  pub has_room : room ≡ 256
   pub closed : is_open ≡ false → (subscriptions ≡ []) × (waiting.items ≡ [])
 
 -- The pool slots of the packets that wait in a seat's pipe.

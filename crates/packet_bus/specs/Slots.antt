@@ -39,10 +39,10 @@ abbrev pub all_slots : List PooledPacket → List PooledPacket
 all_slots slots = slots ++ replicate (576 - length slots) no_packet
 
 -- The invariant of the pool: the free list has each slot once that was used and whose packet waits in no pipe any more; both
--- lists have room for all 576 slots.
+-- lists have the room for all 576 slots that they were made with.
 pub record IsPool (slots : List PooledPacket) (free : List ℕ) (slots_room free_room : ℕ) : Type 0 where
   pub few : length slots ≤ 576
   pub free_once : (number : ℕ) → occurrences number free ≡ (if nat_lt number (length slots) && (slot_at slots number).readers == 0 then 1 else 0)
   pub all : length free + used_slots slots ≡ length slots
-  pub slots_fit : 576 ≤ slots_room
-  pub free_fits : 576 ≤ free_room
+  pub slots_fit : slots_room ≡ 576
+  pub free_fits : free_room ≡ 576

@@ -32,7 +32,7 @@ asked (Reads name bytes) = Reads name None
 asked (Opens name source) = Opens name None
 asked (Compares first second is_one) = Compares first second false
 asked (Makes name sink) = Makes name None
-asked (Closes sink) = Closes (record { gained = None; failed = false })
+asked (Closes sink) = Closes (record { gained = None; failed = false; retried = false })
 asked (Writes name bytes is_done) = Writes name [] false
 
 -- ---- some calls in a row

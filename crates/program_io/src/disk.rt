@@ -10,7 +10,7 @@ use lc_model::{ByteSink, ByteSource};
 pub trait Disk {
     /// An opened file.
     type Reader: ByteSource + Drop;
-    /// A file that is being created.
+    /// A file that is open for writing.
     type Device: ByteSink + Drop;
 
     // The calls so far, in order, if they are known.
@@ -33,14 +33,19 @@ pub trait Disk {
         ensures { calls self.new ≡ followed_by (calls self.old)
             (Compares first.now second.now result ∷ []) };
 
-    /// Creates a file, in place of another of its name.
+    /// Opens a file for writing, and creates it if there is none. Its old bytes stay until the first write.
     fn create(&mut self, name: &str) -> Result<Self::Device, FileFault>
         ensures writable { IfOk result (λ device. (Self.Device.sink device).failed ≡ false) }
         ensures noted { calls self.new ≡ followed_by (calls self.old)
             (Makes name.now (given_by Self.Device.sink result) ∷ []) };
 
-    /// Closes a created file.
+    /// Closes a file that is open for writing. If nothing was written, its old bytes are removed.
     fn close(&mut self, device: Self::Device)
+        ensures { calls self.new ≡ followed_by (calls self.old)
+            (Closes (Self.Device.sink device) ∷ []) };
+
+    /// Closes a file that is open for writing, and leaves it as it is.
+    fn leave(&mut self, device: Self::Device)
         ensures { calls self.new ≡ followed_by (calls self.old)
             (Closes (Self.Device.sink device) ∷ []) };
 

@@ -4,11 +4,12 @@ ghost use Rattle.std.specs.Prelude.{None};
 
 use crate::disk::Disk;
 use crate::identity::is_one_file;
+use crate::replacing::Replacing;
 use crate::whole_files::read_front;
 use crate::why::{FileFault, fault_of};
 use crate::writing::write_all_to;
-use lc_model::{Reading, Writing};
-use std::fs::{File, Files};
+use lc_model::Reading;
+use std::fs::{File, Files, OpenOptions};
 
 /// The most bytes that are read of a rule text or a schedule: one more than it may have.
 const MOST: u64 = 65_537;
@@ -29,7 +30,7 @@ impl<'a, R: Files + AllocGlobal> Shell<'a, R> {
 impl<R: Files + AllocGlobal> Disk for Shell<'_, R> {
     type Reader = Reading<R::File>;
 
-    type Device = Writing<R::File>;
+    type Device = Replacing<R::File>;
 
     ghost calls = { λ _. None };
 
@@ -48,14 +49,20 @@ impl<R: Files + AllocGlobal> Disk for Shell<'_, R> {
         is_one_file(self.rt, first, second)
     }
 
-    fn create(&mut self, name: &str) -> Result<Writing<R::File>, FileFault> {
-        match File::create(self.rt, name) {
-            Ok(file) => Ok(Writing::new(file)),
+    fn create(&mut self, name: &str) -> Result<Replacing<R::File>, FileFault> {
+        let mut how = OpenOptions::new();
+        how.write(true).create(true);
+        match how.open(self.rt, name) {
+            Ok(file) => Ok(Replacing::new(file)),
             Err(error) => Err(fault_of(&error)),
         }
     }
 
-    fn close(&mut self, _device: Writing<R::File>) {}
+    fn close(&mut self, device: Replacing<R::File>) {
+        device.empty();
+    }
+
+    fn leave(&mut self, _device: Replacing<R::File>) {}
 
     fn write(&mut self, name: &str, bytes: &[u8]) -> Result<(), FileFault> {
         write_all_to(self.rt, name, bytes)

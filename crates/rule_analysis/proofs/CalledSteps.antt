@@ -9,9 +9,8 @@ use Rattle.lc_model.specs.declared.kind.Kind.TheVariants.{Wdt, Adt}
 use Rattle.lc_model.specs.Name.{Name, is_named, lc_name, sch_name, counter_name, value_under}
 use Rattle.lc_model.specs.Refusal.{Refusal, ◌>>=◌, refused, found, provided}
 use Rattle.lc_model.specs.Packet.{stream_fault, function_code, payload, message_id, event_services_mid, table_services_mid, executive_services_mid, counter_mid}
-use Rattle.lc_model.specs.Condition.{Condition, Watch, Not, Join}
-use Rattle.lc_model.specs.Rule.{Actionpoint, actions}
-use Rattle.lc_model.specs.Tables.Equation.{terms_of, IsRearranged, mention, negation, in_order}
+use Rattle.lc_model.specs.Rule.{actions}
+use Rattle.lc_model.specs.Tables.Equation.{terms_of}
 use Rattle.lc_model.specs.Tables.Image.{Layout}
 use Rattle.lc_model.specs.Tables.Slot.{Slot, Stage, Move, stage_after, restaged, loaded, moved}
 use Rattle.lc_model.specs.Tables.Interpretation.{FileMeaning, Pair, kind_named}
@@ -19,28 +18,20 @@ use Rattle.lc_model.specs.Tables.HalvesAndBytes.{Text, TextImage, HalfOf, half_f
 use Rattle.lc_model.specs.Events.Request.{Request, Service, event_services, table_services, executive_services, command_done, bad_packet}
 use Rattle.lc_model.specs.Events.Log.{joined}
 use Rattle.lc_model.specs.Command.{event_command, TableCommand, Load, Manage, table_command, Order, Start, Stop, Restart, Reload, app_command, bare_request}
-use Rattle.lc_model.specs.LimitChecker.Steps.{Point, by_lists, paired, default_pair, started_with, lc_start, lc_packet}
+use Rattle.lc_model.specs.LimitChecker.Steps.{Point, by_lists, is_short, paired, default_pair, started_with, lc_start, lc_packet}
 use Rattle.lc_model.specs.Host.Schedule.{Schedule, entry_packet, slot_number, entries_at}
 use Rattle.lc_model.specs.Host.World.{World, Application, Running, Lc, log_of, with_log, become, runs, spares_of}
 use Rattle.lc_model.specs.Host.React.{Input, Packet, Tick, File, Step, stored, filed, answered, event_service, opened_file, slot_of, with_slot, table_named, left, spare_taken, lc_begun, lc_become, counter_answer, counter_packet, counter_become, to_counter, managed, table_service, started, ordered, executive_service, to_lc, routed, on_packet, on_packets, scheduled, on_tick, react}
-use Rattle.lc_model.specs.Laws.Tables.{IsSameRule}
+use Rattle.lc_model.specs.Laws.Tables.{IsReworded}
 use Rattle.lc_model.specs.Laws.Correspondence.{BothOrNone, Agrees, LcAlike, WorldAlike, StepAlike}
 use Rattle.lc_model.proofs.Host.SameCore.{state_in, any_log}
 use Rattle.lc_model.proofs.Host.CorrespondenceLaws.{each_input_keeps}
+use Rattle.lc_model.proofs.LimitChecker.Reordered.{as_worded}
 use Rattle.lc_model.specs.LimitChecker.Past.{Past}
 use Rattle.rule_analysis.specs.Quiet.{HaveNoFailures, pasts_of, IsQuietSoFar, IsOfQuietRules, AreWithout}
 use Rattle.rule_analysis.proofs.QuietSteps.{starts_quiet, nobody_requests}
 
 -- ---- one reading, beside itself
-
-same_condition : (c : Condition) → IsRearranged c c
-same_condition (Watch t) = mention
-same_condition (Not c) = negation (same_condition c)
-same_condition (Join o a b) = in_order (same_condition a) (same_condition b)
-
-same_rules : (rules : List Actionpoint) → AllZip IsSameRule rules rules
-same_rules [] = tt
-same_rules (rule ∷ rules) = ((rule.condition, refl, same_condition rule.condition), same_rules rules)
 
 module _ (layouts : List Layout) (texts : List Text) where
   -- an image is a half of one of the texts, or of none at all
@@ -56,8 +47,8 @@ module _ (layouts : List Layout) (texts : List Text) where
     sizes = λ kind size. refl;
     faults = λ kind a b h. ap (half_fault kind) h.0;
     matches = λ p q h. ap₂ is_of_one_text h.wdt.0 h.adt.0;
-    terms = λ p q h m. ap (λ image. terms_of (rules_of_half image)) h.wdt.0;
-    rules = λ p q h m. subst (λ image. AllZip IsSameRule (actions (rules_of_half p.wdt)) (actions (rules_of_half image))) h.wdt.0 (same_rules (actions (rules_of_half p.wdt)));
+    short = λ p q h m packet. ap (λ image. is_short (terms_of (rules_of_half image)) packet) h.wdt.0;
+    rules = λ p q h m. subst (λ image. AllZip IsReworded (actions (rules_of_half p.wdt)) (actions (rules_of_half image))) h.wdt.0 (as_worded (actions (rules_of_half p.wdt)));
   }
 
   abbrev pub World' : Type 0

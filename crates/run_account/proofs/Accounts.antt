@@ -162,7 +162,7 @@ unsampled : (requests : List SampleRequest) (checker : Option LcOwn) (rule : ℕ
 unsampled requests None rule none = no_checker requests rule (are_taking requests rule) refl
 unsampled requests (Some own) rule none = by_point requests own rule (slice_get own.points rule) refl none
 
-same_row : (force : Option ℕ) (found : Option ApResult) (row : RuleRow) → is_some found ≡ false → row ≡ row_with force found row
+same_row : (force : Option ℕ) (found : Option ApResult) (row : RuleRow) → is_some found ≡ false → row ≡ row_with 1 force found row
 same_row None found row none = refl
 same_row (Some text) None row none = refl
 same_row (Some text) (Some found) row none = absurd (cc none)

@@ -2,6 +2,7 @@
 use Rattle.std.proofs.Common.{◌≡◌, ◌⊎◌, inl, inr, refl, ap, sym, ◌∙◌, subst, arith, ℕ, zero, suc, ◌+◌, ◌-◌, ◌<◌, ◌≤◌, ◌==◌, leb, Bool, true, false, List, [], ◌∷◌, length, map, slice_get, nat_lt, Option, Some, None, is_some, if◌then◌else◌, not, ◌&&◌, option_map, true≢false}
 use Rattle.std.specs.List.{AllByRecursion, list_all}
 use Rattle.std.proofs.lemmas.Bool.{leb-true, ltb-false, ltb-true}
+use Rattle.std.specs.Option.{option_flatten}
 use Rattle.lc_model.specs.Kept.Summary.{LcOwn}
 use Rattle.lc_model.specs.LimitChecker.Steps.{is_disabled}
 use Rattle.lc_model.specs.declared.command.SampleRequest.{SampleRequest}
@@ -10,7 +11,7 @@ use Rattle.lc_model.specs.declared.mode.ApResult.TheVariants.{Pass, Fail, Stale,
 use Rattle.run_account.specs.Clock.{add, capped}
 use Rattle.run_account.specs.Counts.{counts_with, row_sampled, row_with}
 use Rattle.run_account.specs.Lanes.{lane_with, over, two_cycles}
-use Rattle.run_account.specs.Repeats.{AreAllResults, IsOnTime, counts_more, flat, found_at, is_in_time, lane_by, lane_in, row_by, row_in, row_with_many}
+use Rattle.run_account.specs.Repeats.{AreAllResults, IsOnTime, found_at, is_in_time, lane_by, lane_in, row_by, row_in}
 use Rattle.run_account.specs.Samples.{are_taking, result_of}
 use Rattle.run_account.specs.declared.clock.RunClock.{RunClock}
 use Rattle.run_account.specs.declared.counts.RuleCounts.{RuleCounts}
@@ -41,42 +42,34 @@ lanes_none n last allowed results (lane ∷ lanes) none = λ i. lane_none n last
 added_more : (x n : ℕ) → add (add x n) 1 ≡ add x (suc n)
 added_more x n = omega arith
 
-counts_one : (n : ℕ) (found : ApResult) (counts : RuleCounts) → counts_with found (counts_more n found counts) ≡ counts_more (suc n) found counts
+counts_one : (n : ℕ) (found : ApResult) (counts : RuleCounts) → counts_with 1 found (counts_with n found counts) ≡ counts_with (suc n) found counts
 counts_one n Pass counts = λ i. record counts { passed = added_more counts.passed n i }
 counts_one n Fail counts = λ i. record counts { failed = added_more counts.failed n i }
 counts_one n Stale counts = λ i. record counts { stale = added_more counts.stale n i }
 counts_one n Error counts = λ i. record counts { errors = added_more counts.errors n i }
 
 row_by_text : (n text : ℕ) (found : ApResult) (row : RuleRow) (b : Bool) → text == row.text ≡ b →
-    row_with (Some text) (Some found) (row_with_many n (Some text) (Some found) row) ≡ row_with_many (suc n) (Some text) (Some found) row
+    row_with 1 (Some text) (Some found) (row_with n (Some text) (Some found) row) ≡ row_with (suc n) (Some text) (Some found) row
 row_by_text n text found row true test = rw test (rw test (ap (λ (counts : RuleCounts). record row { counts = counts }) (counts_one n found row.counts)))
 row_by_text n text found row false test = rw test (rw test refl)
 
-row_many_more : (n : ℕ) (force : Option ℕ) (found : Option ApResult) (row : RuleRow) → row_with force found (row_with_many n force found row) ≡ row_with_many (suc n) force found row
+row_many_more : (n : ℕ) (force : Option ℕ) (found : Option ApResult) (row : RuleRow) → row_with 1 force found (row_with n force found row) ≡ row_with (suc n) force found row
 row_many_more n None found row = refl
 row_many_more n (Some text) None row = refl
 row_many_more n (Some text) (Some found) row = row_by_text n text found row (text == row.text) refl
 
-row_first : (force : Option ℕ) (found : Option ApResult) (row : RuleRow) → row_with force found row ≡ row_with_many 1 force found row
-row_first None found row = refl
-row_first (Some text) None row = refl
-row_first (Some text) (Some Pass) row = refl
-row_first (Some text) (Some Fail) row = refl
-row_first (Some text) (Some Stale) row = refl
-row_first (Some text) (Some Error) row = refl
-
 row_one_more : (n : ℕ) (was force : Option ℕ) (results : List (Option ApResult)) (row : RuleRow) → (n ≡ 0) ⊎ (was ≡ force) →
-    row_with force (found_at results row.rule) (row_by n was results row) ≡ row_by (suc n) force results row
-row_one_more zero was force results row same = row_first force (found_at results row.rule) row
+    row_with 1 force (found_at results row.rule) (row_by n was results row) ≡ row_by (suc n) force results row
+row_one_more zero was force results row same = refl
 row_one_more (suc n) was force results row (inl none) = absurd (omega (arith, none))
 row_one_more (suc n) was force results row (inr same) =
-    (λ i. row_with force (found_at results row.rule) (row_with_many (suc n) (same i) (found_at results row.rule) row)) ∙ row_many_more (suc n) force (found_at results row.rule) row
+    (λ i. row_with 1 force (found_at results row.rule) (row_with (suc n) (same i) (found_at results row.rule) row)) ∙ row_many_more (suc n) force (found_at results row.rule) row
 
-rule_by_text : (n text : ℕ) (found : ApResult) (row : RuleRow) (b : Bool) → text == row.text ≡ b → (row_with_many n (Some text) (Some found) row).rule ≡ row.rule
+rule_by_text : (n text : ℕ) (found : ApResult) (row : RuleRow) (b : Bool) → text == row.text ≡ b → (row_with n (Some text) (Some found) row).rule ≡ row.rule
 rule_by_text n text found row true test = rw test refl
 rule_by_text n text found row false test = rw test refl
 
-rule_many : (n : ℕ) (force : Option ℕ) (found : Option ApResult) (row : RuleRow) → (row_with_many n force found row).rule ≡ row.rule
+rule_many : (n : ℕ) (force : Option ℕ) (found : Option ApResult) (row : RuleRow) → (row_with n force found row).rule ≡ row.rule
 rule_many n None found row = refl
 rule_many n (Some text) None row = refl
 rule_many n (Some text) (Some found) row = rule_by_text n text found row (text == row.text) refl
@@ -91,8 +84,8 @@ pub rows_one_more : (n : ℕ) (was force : Option ℕ) (results : List (Option A
 rows_one_more n was force results requests checker [] same are = refl
 rows_one_more n was force results requests checker (row ∷ rows) same are =
     let first : row_sampled requests checker force (row_by n was results row) ≡ row_by (suc n) force results row =
-    (λ i. row_with force (result_of requests checker (same_rule n was results row i)) (row_by n was results row))
-    ∙ (λ i. row_with force (sym (are row.rule) i) (row_by n was results row))
+    (λ i. row_with 1 force (result_of requests checker (same_rule n was results row i)) (row_by n was results row))
+    ∙ (λ i. row_with 1 force (sym (are row.rule) i) (row_by n was results row))
     ∙ row_one_more n was force results row same in
     λ i. first i ∷ rows_one_more n was force results requests checker rows same are i
 
@@ -243,5 +236,5 @@ all_results requests own results n before most few rule = by_place (nat_lt rule 
     by_place true is = before rule (ltb-true rule n is)
     by_place false is =
         let beyond : n ≤ rule = ltb-false rule n is in
-        ap flat (get_beyond results rule (omega (arith, most, beyond)))
+        ap option_flatten (get_beyond results rule (omega (arith, most, beyond)))
         ∙ sym (result_beyond requests own rule (is_disabled own.mode) (are_taking requests rule) refl refl (get_beyond own.points rule (omega (arith, most, few, beyond))))

@@ -32,7 +32,7 @@ counts_if is counts = record {
 }
 
 -- a row's result under tables of a text counts if the text is the row's
-by_text : (text : ℕ) (found : Option ApResult) (row : RuleRow) (b : Bool) → text == row.text ≡ b → (row_with (Some text) found row).counts ≡ counts_if (λ result. b && is_result result found) row.counts
+by_text : (text : ℕ) (found : Option ApResult) (row : RuleRow) (b : Bool) → text == row.text ≡ b → (row_with 1 (Some text) found row).counts ≡ counts_if (λ result. b && is_result result found) row.counts
 by_text text None row true test = refl
 by_text text None row false test = refl
 by_text text (Some Pass) row true test = rw test refl
@@ -41,17 +41,17 @@ by_text text (Some Stale) row true test = rw test refl
 by_text text (Some Error) row true test = rw test refl
 by_text text (Some found) row false test = rw test refl
 
-row_counts : (force : Option ℕ) (found : Option ApResult) (row : RuleRow) → (row_with force found row).counts ≡ counts_if (λ result. is_text row.text force && is_result result found) row.counts
+row_counts : (force : Option ℕ) (found : Option ApResult) (row : RuleRow) → (row_with 1 force found row).counts ≡ counts_if (λ result. is_text row.text force && is_result result found) row.counts
 row_counts None found row = refl
 row_counts (Some text) found row = by_text text found row (text == row.text) refl
 
 same_by : (text : ℕ) (found : Option ApResult) (row : RuleRow) (b : Bool) → text == row.text ≡ b →
-    ((row_with (Some text) found row).text ≡ row.text) × ((row_with (Some text) found row).rule ≡ row.rule)
+    ((row_with 1 (Some text) found row).text ≡ row.text) × ((row_with 1 (Some text) found row).rule ≡ row.rule)
 same_by text None row b test = (refl, refl)
 same_by text (Some found) row true test = rw test (refl, refl)
 same_by text (Some found) row false test = rw test (refl, refl)
 
-same_rule : (force : Option ℕ) (found : Option ApResult) (row : RuleRow) → ((row_with force found row).text ≡ row.text) × ((row_with force found row).rule ≡ row.rule)
+same_rule : (force : Option ℕ) (found : Option ApResult) (row : RuleRow) → ((row_with 1 force found row).text ≡ row.text) × ((row_with 1 force found row).rule ≡ row.rule)
 same_rule None found row = (refl, refl)
 same_rule (Some text) found row = same_by text found row (text == row.text) refl
 

@@ -2,13 +2,13 @@
 use Rattle.std.specs.Prelude.{ℕ, ◌/◌, ◌%◌, ◌==◌, ◌&&◌, not, Bool, true, false, List, drop, get_or, length, nat_le, nat_lt, Option, None, if◌then◌else◌}
 use Rattle.lc_model.specs.Events.Outgoing.{housekeeping_size}
 use Rattle.lc_model.specs.Host.Stream.{header_size}
-use Rattle.lc_model.specs.Packet.{lc_housekeeping_mid, message_id, sample_mid}
+use Rattle.lc_model.specs.Packet.{command_header_size, lc_housekeeping_mid, message_id, sample_mid}
 use Rattle.run_account.specs.Clock.{is_tick}
 use Rattle.run_account.specs.declared.force.KnownText.{KnownText}
 
 -- a packet that is a command, but no request for a sample
 abbrev pub is_order : List ℕ → Bool
-is_order packet = nat_le 8 (length packet) && (message_id packet / 4096 % 2 == 1 && not (message_id packet == sample_mid))
+is_order packet = nat_le command_header_size (length packet) && (message_id packet / 4096 % 2 == 1 && not (message_id packet == sample_mid))
 
 -- a record after which other tables may be in force, or other types of events on: it brings such a command, a file or a half of a rule
 -- text, or a tick that led to packets
@@ -23,7 +23,7 @@ may_change bytes written =
 abbrev pub first_text : KnownText
 first_text = record { number = None; is_settled = false }
 
--- A record was a tick that led to the Limit Checker's housekeeping alone, by which it takes what it can.
+-- a record was a tick that led to the Limit Checker's housekeeping alone: it has then taken what it could
 abbrev pub is_settling : (bytes written : List ℕ) → Bool
 is_settling bytes written = is_tick bytes && (length written == housekeeping_size && message_id written == lc_housekeeping_mid)
 

@@ -1,6 +1,7 @@
 //! The account of a run up to its newest record.
 
 ghost use Rattle.std.specs.Prelude.{◌≡◌, ◌+◌, ◌++◌, ◌<◌, ◌∷◌, [], List, length, option_map, slice_get, true, IfOk};
+ghost use Rattle.flight_core.specs.Records.{most_counted};
 ghost use Rattle.flight_profile.specs.Checkers.{engine_among};
 ghost use Rattle.run_stepper.specs.Stepping.{IsAtRest, host_in};
 ghost use Rattle.run_stepper.specs.Steps.{Step};
@@ -97,7 +98,7 @@ impl<'s> RunAccount<'s> {
 
     /// Notes a sample that repeats those before it.
     fn note_repeat(&mut self)
-        requires { self.old.repeats.count < 18446744073709551615 }
+        requires { self.old.repeats.count < most_counted }
         ensures { self.new ≡ record self.old {
           has_results = true;
           repeats = record {
@@ -139,8 +140,11 @@ impl<'s> RunAccount<'s> {
         ensures { HasSampled self.old self.new (requests_of requests.now)
             (engine_among (host_in stepping.now).host.seats) self.old.force.number }
     {
-        let engine = stepping.checker();
         self.has_results = false;
+        if requests.is_nothing() {
+            return;
+        }
+        let engine = stepping.checker();
         if !is_sampled(requests, engine) {
             return;
         }

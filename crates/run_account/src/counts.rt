@@ -57,16 +57,16 @@ impl RuleCounts {
             .saturating_add(self.errors)
     }
 
-    /// Counts one more result.
+    /// Adds a number to the count of a result.
     #[inline(always)]
-    fn add(&mut self, found: ApResult)
-        ensures { self.new ≡ counts_with found self.old }
+    pub(crate) fn add(&mut self, count: u64, found: ApResult)
+        ensures { self.new ≡ counts_with count found self.old }
     {
         match found {
-            ApResult::Pass => self.passed = self.passed.saturating_add(1),
-            ApResult::Fail => self.failed = self.failed.saturating_add(1),
-            ApResult::Stale => self.stale = self.stale.saturating_add(1),
-            ApResult::Error => self.errors = self.errors.saturating_add(1),
+            ApResult::Pass => self.passed = self.passed.saturating_add(count),
+            ApResult::Fail => self.failed = self.failed.saturating_add(count),
+            ApResult::Stale => self.stale = self.stale.saturating_add(count),
+            ApResult::Error => self.errors = self.errors.saturating_add(count),
         }
     }
 }
@@ -75,10 +75,10 @@ impl RuleRow {
     /// Counts a sample with this result, under tables of the row's text; none if the rule was not sampled.
     #[inline(always)]
     fn add(&mut self, found: Option<ApResult>)
-        ensures { self.new ≡ row_with (Some self.old.text) found self.old }
+        ensures { self.new ≡ row_with 1 (Some self.old.text) found self.old }
     {
         if let Some(found) = found {
-            self.counts.add(found);
+            self.counts.add(1, found);
         }
     }
 }

@@ -8,15 +8,12 @@ ghost use Rattle.run_account.specs.Force.{first_text, is_asked, is_order, is_set
 
 use crate::clock::is_tick;
 use lc_model::mids;
-use lc_model::packet::message_id;
+use lc_model::packet::{COMMAND_HEADERS, message_id};
 use lc_model::stream::HEADER;
 use run_stepper::Stepping;
 
-/// The least size of a command in bytes.
-const COMMAND_HEADERS: usize = 8;
-
 /// The size of the Limit Checker's housekeeping packet in bytes.
-const HOUSEKEEPING: usize = 192;
+const HOUSEKEEPING_SIZE: usize = 192;
 
 /// The run's text in force, as it was asked for last.
 #[derive(Clone, Copy, Debug, PartialEq, Eq)]
@@ -56,7 +53,7 @@ fn is_settling(bytes: &[u8], packets: &[u8]) -> bool
     ensures { result ≡ is_settling bytes.now packets.now }
 {
     is_tick(bytes)
-        && (packets.len() == HOUSEKEEPING && message_id(packets) == mids::LC_HOUSEKEEPING)
+        && (packets.len() == HOUSEKEEPING_SIZE && message_id(packets) == mids::LC_HOUSEKEEPING)
 }
 
 impl KnownText {

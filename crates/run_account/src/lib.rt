@@ -18,7 +18,7 @@ mod warning;
 pub use account::RunAccount;
 pub use clock::RunClock;
 pub use counts::{RuleCounts, RuleRow};
-pub use force::{KnownText, may_change};
+pub use force::may_change;
 pub use lanes::Lane;
 pub use listing::{AccountJson, WarningLine};
 pub use packets::PacketCount;

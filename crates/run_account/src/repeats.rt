@@ -3,11 +3,13 @@
 ghost use Rattle.std.specs.Prelude.{◌≡◌, ◌+◌, ◌<◌, false, map, option_map, IsTrue, Some};
 ghost use Rattle.std.specs.List.{AllByRecursion, list_all};
 ghost use Rattle.lc_model.specs.LimitChecker.Steps.{is_disabled};
-ghost use Rattle.run_account.specs.Repeats.{AreAllResults, IsOnTime, IsRepeat, counts_more, found_at, is_in_time, lane_in, none_noted, row_in, row_with_many};
+ghost use Rattle.flight_core.specs.Records.{most_counted};
+ghost use Rattle.run_account.specs.Counts.{row_with};
+ghost use Rattle.run_account.specs.Repeats.{AreAllResults, IsOnTime, IsRepeat, found_at, is_in_time, lane_in, none_noted, row_in};
 ghost use Rattle.run_account.specs.Samples.{requests_of};
 
 use crate::clock::RunClock;
-use crate::counts::{RuleCounts, RuleRow};
+use crate::counts::RuleRow;
 use crate::lanes::Lane;
 use crate::requests::{Requests, is_mode_on, sampled_result};
 use lc_model::ApResult;
@@ -94,20 +96,6 @@ fn are_on_time(lanes: &[Lane], results: &[Option<ApResult>], clock: &RunClock) -
     lanes.iter().all(|lane| is_in_time(lane, results, clock))
 }
 
-impl RuleCounts {
-    /// Adds a number to the count of a result.
-    fn add_many(&mut self, count: u64, found: ApResult)
-        ensures { self.new ≡ counts_more count found self.old }
-    {
-        match found {
-            ApResult::Pass => self.passed = self.passed.saturating_add(count),
-            ApResult::Fail => self.failed = self.failed.saturating_add(count),
-            ApResult::Stale => self.stale = self.stale.saturating_add(count),
-            ApResult::Error => self.errors = self.errors.saturating_add(count),
-        }
-    }
-}
-
 impl Repeats {
     /// No such sample.
     pub fn none() -> Repeats
@@ -148,14 +136,14 @@ impl Repeats {
     {
         self.count < u64::MAX
             && (self.count == 0 || self.force == force)
-            && self.is_on_time(lanes, results, clock)
             && are_repeated(results, requests, engine)
+            && self.is_on_time(lanes, results, clock)
     }
 
     /// These samples and one more, under tables of this text and at this time, after which the next one is late if it takes longer than
     /// `allowed`.
     pub fn with(self, force: Option<usize>, clock: &RunClock, allowed: u64) -> Repeats
-        requires { self.count < 18446744073709551615 }
+        requires { self.count < most_counted }
         ensures { result ≡ record {
           count = self.count + 1;
           force = force;
@@ -173,12 +161,12 @@ impl Repeats {
 
     /// The row of the text in force after these samples with this result.
     fn row_of_text(self, text: usize, found: Option<ApResult>, row: RuleRow) -> RuleRow
-        ensures { result ≡ row_with_many self.count (Some text) found row }
+        ensures { result ≡ row_with self.count (Some text) found row }
     {
         let mut counted = row;
         if let Some(found) = found {
             if row.text == text {
-                counted.counts.add_many(self.count, found);
+                counted.counts.add(self.count, found);
             }
         }
         counted

@@ -5,7 +5,7 @@ ghost use Rattle.lc_model.specs.LimitChecker.Steps.{is_disabled};
 ghost use Rattle.schedules.specs.Entry.{entries_of, entry_of};
 ghost use Rattle.run_account.specs.Samples.{are_taking, entry_request, entry_requests, has_sample, packet_request, point_result, requests_in, requests_of, result_of, sampled_from, standing_result};
 
-use lc_model::packet::{message_id, stream_fault};
+use lc_model::packet::{COMMAND_HEADERS, message_id, stream_fault};
 use lc_model::stream::HEADER;
 use lc_model::{ApMode, ApResult, LcMode, SampleRequest, mids, sample_request};
 use limit_engine::Engine;
@@ -48,10 +48,11 @@ pub fn are_entries_taking(entries: &[Entry], rule: usize) -> bool
 fn packet_request(packet: &[u8]) -> Option<SampleRequest>
     ensures { result ≡ packet_request packet.now }
 {
-    if stream_fault(packet).is_some() {
+    // Most packets are telemetry, so the id is looked at before the headers are judged.
+    if packet.len() < COMMAND_HEADERS || message_id(packet) != mids::SAMPLE {
         return None;
     }
-    if message_id(packet) != mids::SAMPLE {
+    if stream_fault(packet).is_some() {
         return None;
     }
     sample_request(packet).ok()

@@ -8,7 +8,6 @@ use run_stepper::{Handled, Stepping, WatchError};
 use std::marker::Model;
 
 /// The run of the new text. It is at rest between calls.
-#[derive(Drop)]
 pub struct RunBeside {
     stepping: Stepping,
 }

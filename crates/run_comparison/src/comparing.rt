@@ -37,7 +37,6 @@ pub struct Found<'s> {
 }
 
 /// The observer of the old text's run: it has the new text's run take the same records, and compares what both lead to.
-#[derive(Drop)]
 pub struct Comparing<'s> {
     beside: RunBeside,
     found: Found<'s>,

@@ -12,12 +12,12 @@ use Rattle.flight_core.specs.Going.{IsHandled, IsNext, MeetsNone, NoneIsHeld}
 use Rattle.flight_core.specs.Records.{Held, first_record, next_number}
 use Rattle.run_stepper.specs.declared.handled.Handled.{Handled}
 use Rattle.run_stepper.specs.declared.handled.Handled.TheVariants.{Whole, NoRecord, Part}
-use Rattle.run_stepper.specs.Stepping.{GoesOn, HandlesAlone, HandlesRecord, HasHandled, MeetsNoRecord, Waits, holding_none, told_of}
+use Rattle.run_stepper.specs.Stepping.{GoesOn, HandlesAlone, HandlesRecord, HasHandled, MeetsNoRecord, Waits, holding_none, sink_with, told_of}
 use Rattle.run_stepper.proofs.InFront.{all_of_it, as_long, by_itself, parted, rest_is}
 
-module _ (old new : Feeding) (written : List ℕ) (goes : GoesOn old) (failed fails : Bool) where
+module _ (old new : Feeding) (written : List ℕ) (goes : GoesOn old) (failed retried fails retries : Bool) where
   abbrev Handles : Feeding → Feeding → Result (Option ℕ) Halt → Type 0
-  Handles before after = HandlesOne before after (record { gained = Some []; failed = failed }) (record { gained = Some written; failed = fails })
+  Handles before after = HandlesOne before after (sink_with [] failed retried) (sink_with written fails retries)
 
   abbrev texts : ℕ
   texts = old.held.texts
@@ -33,7 +33,7 @@ module _ (old new : Feeding) (written : List ℕ) (goes : GoesOn old) (failed fa
   taken bytes few = rw goes.good (take_all 73739 bytes few)
 
   module _ (total : ℕ) (one : Handles old new (Ok (Some total))) where
-    is : IsHandled (meanings_of old.files) old.held new.held old.host new.host (record { gained = Some []; failed = failed }) (record { gained = Some written; failed = fails }) total
+    is : IsHandled (meanings_of old.files) old.held new.held old.host new.host (sink_with [] failed retried) (sink_with written fails retries) total
     is = one.where_open goes.is_open
 
     abbrev entry : StreamEntry
@@ -86,7 +86,9 @@ module _ (old new : Feeding) (written : List ℕ) (goes : GoesOn old) (failed fa
       alone = record {
         answer = Ok (Some total);
         failed = failed;
+        retried = retried;
         fails = fails;
+        retries = retries;
         one = record {
           files = one.files;
           where_open = λ still. record {
@@ -122,7 +124,7 @@ module _ (old new : Feeding) (written : List ℕ) (goes : GoesOn old) (failed fa
 
   meets : Handles old new (Err halt.NoRecord) → MeetsNoRecord old written
   meets one =
-      let none : MeetsNone (meanings_of old.files) old.held new.held old.host new.host (record { gained = Some []; failed = failed }) (record { gained = Some written; failed = fails }) =
+      let none : MeetsNone (meanings_of old.files) old.held new.held old.host new.host (sink_with [] failed retried) (sink_with written fails retries) =
       one.where_open goes.is_open in
       record {
         front = none.front;
@@ -130,7 +132,9 @@ module _ (old new : Feeding) (written : List ℕ) (goes : GoesOn old) (failed fa
         alone = record {
           answer = Err halt.NoRecord;
           failed = failed;
+          retried = retried;
           fails = fails;
+          retries = retries;
           one = record {
             files = refl;
             where_open = λ still. record {
@@ -147,7 +151,7 @@ module _ (old new : Feeding) (written : List ℕ) (goes : GoesOn old) (failed fa
 
   waits : Handles old new (Ok None) → Waits old new written
   waits one =
-      let none : NoneIsHeld (meanings_of old.files) old.held new.held old.host new.host (record { gained = Some []; failed = failed }) (record { gained = Some written; failed = fails }) =
+      let none : NoneIsHeld (meanings_of old.files) old.held new.held old.host new.host (sink_with [] failed retried) (sink_with written fails retries) =
       one.where_open goes.is_open in
       record {
         front = none.front;
@@ -157,7 +161,9 @@ module _ (old new : Feeding) (written : List ℕ) (goes : GoesOn old) (failed fa
         alone = record {
           answer = Ok None;
           failed = failed;
+          retried = retried;
           fails = fails;
+          retries = retries;
           one = record {
             files = refl;
             where_open = λ still. record {
@@ -188,4 +194,4 @@ module _ (old new : Feeding) (written : List ℕ) (goes : GoesOn old) (failed fa
   by_answer found (Err halt.Bound) one told = absurd (cc told)
 
 pub handled_alone : (old new : Feeding) (written : List ℕ) (found : Handled) → GoesOn old → HasHandled old new written (Ok found) → HandlesAlone old new written found
-handled_alone old new written found goes step = by_answer old new written goes step.failed step.fails found step.answer step.one step.told
+handled_alone old new written found goes step = by_answer old new written goes step.failed step.retried step.fails step.retries found step.answer step.one step.told

@@ -31,7 +31,7 @@ use Rattle.flight_profile.specs.Stock.{names_of}
 use Rattle.run_stepper.specs.declared.ending.Ending.{Ending}
 use Rattle.run_stepper.specs.declared.handled.Handled.TheVariants as handled
 use Rattle.flight_profile.specs.Checkers.{engine_among, engine_of}
-use Rattle.run_stepper.specs.Stepping.{HasStepped, BeginsWith, told_of}
+use Rattle.run_stepper.specs.Stepping.{HasStepped, BeginsWith, sink_with, told_of}
 use Rattle.run_stepper.specs.Trace.{HasRun, Part, Traced, ending_by, engine_in, moment_in, parts_from, size_in_front}
 use Rattle.run_stepper.proofs.InFront.{IsAllOf, all_of}
 
@@ -160,7 +160,7 @@ module _ (pairs : List TablePair) (first : Executive (List ℕ)) (stream : List 
             (found.there ∙ ap (Record entry) (sym past))
             (subst (λ (all : List TablePair). StepsSo entry.moment (input_of (meanings_of all) entry.contents) it.host new.host (Some []) (Some part.packets)) far.files so)
 
-        by_answer : (answer : Result (Option ℕ) Halt) → HandlesOne (fed_with given it) new (record { gained = Some []; failed = step.failed }) (record { gained = Some part.packets; failed = step.fails }) answer →
+        by_answer : (answer : Result (Option ℕ) Halt) → HandlesOne (fed_with given it) new (sink_with [] step.failed step.retried) (sink_with part.packets step.fails step.retries) answer →
             Ok handled.Whole ≡ told_of answer → Tracing new (done ++ part ∷ []) behind
         by_answer (Ok (Some total)) one told = goes _ _ total refl refl one.files (one.where_open far.is_open)
         by_answer (Ok None) one told = absurd (cc told)

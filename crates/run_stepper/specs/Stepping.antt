@@ -10,6 +10,7 @@ use Rattle.flight_core.specs.Feeding.{Feeding, HandlesOne, HasBegun, IsReady, fe
 use Rattle.flight_core.specs.Front.{part_of}
 use Rattle.flight_core.specs.Records.{front_of, most_held}
 use Rattle.flight_core.specs.Run.{IsOfProfile}
+use Rattle.lc_model.specs.Device.{Sink}
 use Rattle.lc_model.specs.Host.Schedule.{Schedule}
 use Rattle.lc_model.specs.Host.Stream.{End, StreamEntry, records_of}
 use Rattle.lc_model.specs.Host.Stream as stream
@@ -59,12 +60,18 @@ told_of (Err (halt.Unsent sent)) = Err Memory
 told_of (Err halt.Fault) = Err Memory
 told_of (Err halt.Bound) = Err Memory
 
+-- a sink that has taken these bytes; whether a write has failed, and whether one came after that
+abbrev pub sink_with : (bytes : List ℕ) (failed retried : Bool) → Sink
+sink_with bytes failed retried = record { gained = Some bytes; failed = failed; retried = retried }
+
 -- the host handles the record in front of what it holds; the output is exactly what this record leads to
 pub record HasHandled (old new : Feeding) (written : List ℕ) (result : Result Handled CourseError) : Type 0 where
   pub answer : Result (Option ℕ) Halt
   pub failed : Bool
+  pub retried : Bool
   pub fails : Bool
-  pub one : HandlesOne old new (record { gained = Some []; failed = failed }) (record { gained = Some written; failed = fails }) answer
+  pub retries : Bool
+  pub one : HandlesOne old new (sink_with [] failed retried) (sink_with written fails retries) answer
   pub told : result ≡ told_of answer
 
 -- the host takes these bytes after those that it holds, and handles the record in front

@@ -8,6 +8,7 @@ ghost use Rattle.flight_core.specs.Records.{most_held, taken_of};
 ghost use Rattle.run_stepper.specs.declared.error.CourseError.TheVariants.{Memory};
 ghost use Rattle.run_stepper.specs.Events.{is_type_of_checker_on};
 ghost use Rattle.flight_profile.specs.Force.{text_in_force};
+ghost use Rattle.flight_profile.specs.Members.{OwnWasClosed};
 ghost use Rattle.flight_profile.specs.Checkers.{engine_among, slot_among};
 ghost use Rattle.run_stepper.specs.Stepping.{BeginsWith, GoesOn, HandlesAlone, HasHandled, IsAtRest, IsRefusal, host_in, refusal_of, written_by};
 ghost use Rattle.run_stepper.specs.Trace.{engine_in, standing_in};
@@ -29,12 +30,15 @@ use std::alloc::Global;
 struct Written {
     bytes: Vec<u8>,
     failed: bool,
+    retried: bool,
 }
 
 impl ByteSink for Written {
-    ghost sink = { λ it. record { gained = Some it.bytes.items; failed = it.failed } };
+    ghost sink = { λ it.
+        record { gained = Some it.bytes.items; failed = it.failed; retried = it.retried } };
 
     fn write(&mut self, bytes: &[u8]) -> Result<usize, DeviceFault> {
+        self.retried |= self.failed;
         if self.bytes.extend_from_slice(bytes).is_err() {
             self.failed = true;
             return Err(DeviceFault);
@@ -47,8 +51,7 @@ impl ByteSink for Written {
     }
 }
 
-/// A run record by record, with this profile's applications. The caller feeds the stream.
-#[derive(Drop)]
+/// A run record by record, with this profile's applications. The caller feeds the stream, and has to `close` the run.
 pub struct Stepping {
     fed: FedHost<Box<Member>>,
     written: Written,
@@ -82,6 +85,7 @@ impl Stepping {
                 written: Written {
                     bytes: Vec::new(alloc),
                     failed: false,
+                    retried: false,
                 },
             }),
             Err(error) => Err(course_error(error)),
@@ -201,6 +205,7 @@ impl Stepping {
     /// Ends the run: all running applications are retired, and all applications dropped.
     pub fn close(self)
         requires { IsAtRest self }
+        ensures closed { OwnWasClosed (host_in self).host }
     {
         let Stepping { fed, written: _ } = self;
         fed.close();

@@ -1,15 +1,15 @@
 -- The tables of a seat, from the program's fields.
-use Rattle.std.specs.Prelude.{◌≡◌, ℕ, ◌+◌, ◌≤◌, List, length, slice_index_or, slice_set, Result, Ok}
+use Rattle.std.specs.Prelude.{◌≡◌, ℕ, ◌+◌, List, length, slice_index_or, slice_set, Result, Ok}
 use Rattle.std.specs.Option.{option_map_or}
 use Rattle.lc_model.specs.Refusal.{Refusal, ◌>>=◌, provided}
 use Rattle.lc_model.specs.Tables.Slot.{Slot, loaded, no_images}
 use Rattle.lc_model.specs.Services.Tables.{Table, Handle, fits_table, table_at}
 
--- A seat has two pairs of image buffers, in use or spare, and both lists have room for two.
+-- A seat has two pairs of image buffers, in use or spare, and both lists have the room for two that they were made with.
 pub record IsPlace (tables : List Table) (spare : List (Slot (List ℕ))) (table_room spare_room : ℕ) : Type 0 where
   pub images : length tables + length spare ≡ 2
-  pub tables_fit : 2 ≤ table_room
-  pub spare_fits : 2 ≤ spare_room
+  pub tables_fit : table_room ≡ 2
+  pub spare_fits : spare_room ≡ 2
 
 -- The table with another slot.
 abbrev pub with_images : Slot (List ℕ) → Table → Table

@@ -1,12 +1,13 @@
 -- The store of files, from the program's fields.
-use Rattle.std.specs.Prelude.{◌≡◌, ℕ, ◌+◌, ◌≤◌, List, length}
+use Rattle.std.specs.Prelude.{◌≡◌, ℕ, ◌+◌, List, length}
 use Rattle.lc_model.specs.Name.{Name}
 
 -- A stored file with its name.
 abbrev pub NamedFile : Type 0
 NamedFile = Name × List ℕ
 
--- There are eight file buffers, in use or spare, and the list has room for eight files.
-pub record IsStore (list : List NamedFile) (spare : List (List ℕ)) (capacity : ℕ) : Type 0 where
+-- There are eight file buffers, in use or spare, and both lists have the room for eight that they were made with.
+pub record IsStore (list : List NamedFile) (spare : List (List ℕ)) (list_room spare_room : ℕ) : Type 0 where
   pub buffers : length list + length spare ≡ 8
-  pub room : 8 ≤ capacity
+  pub files_fit : list_room ≡ 8
+  pub spare_fits : spare_room ≡ 8

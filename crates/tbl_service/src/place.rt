@@ -156,7 +156,7 @@ impl SeatTables {
         let tables = Vec::with_capacity(alloc, MAX_TABLES)?;
         let mut spare = Vec::with_capacity(alloc, MAX_TABLES)?;
         for _ in 0..MAX_TABLES {
-            spare.push(Images::new(alloc)?)?;
+            spare.push_reserved(Images::new(alloc)?);
         }
         Ok(SeatTables { tables, spare })
     }
@@ -178,7 +178,7 @@ impl SeatTables {
         let images = self.spare.pop()?;
         let number = self.tables.len();
         let table = Table::new(name, size, other, images);
-        self.tables.push(table).unwrap();
+        self.tables.push_reserved(table);
         Some(number)
     }
 
@@ -187,7 +187,7 @@ impl SeatTables {
         ensures { self.new ≡ [] }
     {
         while let Some(table) = self.tables.pop() {
-            self.spare.push(table.into_images()).unwrap();
+            self.spare.push_reserved(table.into_images());
         }
     }
 

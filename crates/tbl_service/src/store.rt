@@ -85,7 +85,8 @@ impl Model for Files {
 
     ghost view = { λ f. f.list.items };
 
-    ghost invariant = { λ f. IsStore f.list.items f.spare.items (vec_capacity f.list) };
+    ghost invariant = { λ f. IsStore f.list.items f.spare.items (vec_capacity f.list)
+        (vec_capacity f.spare) };
 }
 
 impl Files {
@@ -97,7 +98,7 @@ impl Files {
         let list = Vec::with_capacity(alloc, MAX_FILES)?;
         let mut spare = Vec::with_capacity(alloc, MAX_FILES)?;
         for _ in 0..MAX_FILES {
-            spare.push(Buffer::new(alloc)?)?;
+            spare.push_reserved(Buffer::new(alloc)?);
         }
         Ok(Files { list, spare })
     }
@@ -118,7 +119,7 @@ impl Files {
                     return Err(TableError::StoreFull);
                 };
                 buffer.fill(bytes);
-                self.list.push(StoredFile::new(name, buffer)).unwrap();
+                self.list.push_reserved(StoredFile::new(name, buffer));
             }
         }
         Ok(())

@@ -87,11 +87,13 @@ pub fn retirements_when_fed(
     let mut stock: Vec<Box<Watched>> = Vec::new(alloc);
     let counter = Box::new(alloc, Watched::new(retirements.clone()?))?;
     add(&mut stock, schedule, b"COUNTER", counter)?;
-    let Ok(mut fed) = FedHost::new(alloc, &[], stock) else {
-        return Err(AllocError);
-    };
-    fed.feed(stream);
-    let _handled = fed.handle(sink);
-    fed.close();
-    Ok(retirements.get())
+    match FedHost::new(alloc, &[], stock) {
+        Err(_) => Err(AllocError),
+        Ok(mut fed) => {
+            fed.feed(stream);
+            let _handled = fed.handle(sink);
+            fed.close();
+            Ok(retirements.get())
+        }
+    }
 }

@@ -33,7 +33,7 @@ struct Looking<'a> {
 }
 
 impl<'a> ByteSource for Looking<'a> {
-    ghost source = { λ looking. record { rest = None; reads = looking.reads; failed = false } };
+    ghost source = { λ looking. record { rest = None; reads = looking.reads; failed = false; retried = false } };
 
     fn read(&mut self, buffer: &mut [u8]) -> Result<usize, DeviceFault> {
         self.reads = self.reads.saturating_add(1);
@@ -64,7 +64,7 @@ struct Counting<'a> {
 }
 
 impl<'a> ByteSink for Counting<'a> {
-    ghost sink = { λ _. record { gained = None; failed = false } };
+    ghost sink = { λ _. record { gained = None; failed = false; retried = false } };
 
     fn write(&mut self, bytes: &[u8]) -> Result<usize, DeviceFault> {
         self.given.set(self.given.get().saturating_add(bytes.len()));

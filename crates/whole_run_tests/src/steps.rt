@@ -42,7 +42,7 @@ fn play(
     add(&mut stock, schedule, b"SCH", scheduler)?;
     let mut host = begin(alloc, stock)?;
     let file = |name, bytes| Body::File { name, bytes };
-    Ok([
+    let found = [
         handle(&mut host, file(DEFAULT_WDT, pair.wdt.as_slice()), out),
         handle(&mut host, file(DEFAULT_ADT, pair.adt.as_slice()), out),
         handle(&mut host, Body::Packet(START_LC), out),
@@ -51,7 +51,9 @@ fn play(
         handle(&mut host, Body::Tick, out),
         handle(&mut host, Body::Tick, out),
         handle(&mut host, Body::Tick, out),
-    ])
+    ];
+    host.close();
+    Ok(found)
 }
 
 #[test]

@@ -180,8 +180,8 @@ output : List ℕ
 output = output_by_bytes low_volts_mission compiled (records_in low_volts_mission stream).0
 
 abbrev both_devices : Devices
-both_devices = devices (record { rest = Some stream; reads = 0; failed = false }) (record { rest = Some []; reads = 2; failed = false })
-    (record { gained = Some []; failed = false }) (record { gained = Some output; failed = false })
+both_devices = devices (record { rest = Some stream; reads = 0; failed = false; retried = false }) (record { rest = Some []; reads = 2; failed = false; retried = false })
+    (record { gained = Some []; failed = false; retried = false }) (record { gained = Some output; failed = false; retried = false })
 
 abbrev ending : Ending
 ending = Complete 7 (length output)

@@ -288,15 +288,14 @@ module _ {A B : Type 0} (alike : A → B → Type 0) (images : Interpretation A)
         (both_map_or Pairs LcSteps (watched by_lists images packet a) (watched by_lists others packet b) (in_force images a) (in_force others b) (a, []) (b, []) force_alike
         (λ p q e. (
           record { mode = refl; wdt = h; adt = h'; watch = refl; points = refl },
-          ap (λ terms. if is_short terms packet then short_packet (message_id packet) ∷ [] else []) (agree.terms p q e.0 e.1),
+          ap (λ short. if short then short_packet (message_id packet) ∷ [] else []) (agree.short p q e.0 e.1 packet),
         ))
         (unchanged, refl))
 
     sampled_alike : (request : SampleRequest) (p : Pair A) (q : Pair B) → Pairs p q →
         LcSteps (sampled_by by_lists images request a p) (sampled_by by_lists others request (twin a wdt adt) q)
     sampled_alike request p q e =
-        let same = ap (λ terms. sampled_points by_lists request terms a.mode a.watch 0 (images.rules p) a.points) (agree.terms p q e.0 e.1)
-        ∙ same_points request (others.terms q) a.mode a.watch 0 (images.rules p) (others.rules q) a.points (agree.rules p q e.0 e.1) in
+        let same = same_points request (images.terms p) (others.terms q) a.mode a.watch 0 (images.rules p) (others.rules q) a.points (agree.rules p q e.0 e.1) in
         (record { mode = refl; wdt = h; adt = h'; watch = refl; points = ap (λ s. s.0) same }, ap (λ s. s.1) same)
 
     sample_alike : (packet : List ℕ) → SameAnswers LcSteps (lc_sample by_lists images packet a) (lc_sample by_lists others packet (twin a wdt adt))

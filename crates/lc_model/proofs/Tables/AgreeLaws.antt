@@ -1,5 +1,5 @@
 -- Bytes and halves of texts are read alike, if the halves of a text spell it.
-use Rattle.std.proofs.Common.{◌≡◌, ℕ, true, List, refl, sym, ◌∙◌, subst, IsTrue, None}
+use Rattle.std.proofs.Common.{◌≡◌, ℕ, true, List, refl, ap, sym, ◌∙◌, subst, IsTrue, None}
 use Rattle.std.specs.List.{AllZip}
 use Rattle.std.proofs.lemmas.Slice.Eq.{bytes_eq-Decides}
 use Rattle.lc_model.specs.declared.kind.Kind.TheVariants.{Wdt, Adt}
@@ -13,6 +13,8 @@ use Rattle.lc_model.specs.Tables.HalvesAndBytes.{Text, TextImage, HalfOf, Faulty
 use Rattle.lc_model.specs.Host.Promise.{HaveOwnHashes}
 use Rattle.lc_model.specs.Laws.Tables.{IsSameRule}
 use Rattle.lc_model.specs.Laws.Correspondence.{IsImageOf, SoundAlike, AreRead, BytesAgreeWithTexts, HalvesSpellTheText, SpellingSuffices}
+use Rattle.lc_model.specs.LimitChecker.Steps.{is_short}
+use Rattle.lc_model.proofs.LimitChecker.Reordered.{reworded}
 use Rattle.lc_model.proofs.Tables.FaultLaws.{same_fault}
 use Rattle.lc_model.proofs.Tables.MatchLaws.{same_match}
 use Rattle.lc_model.proofs.Host.CorrespondenceLaws.{each_input_keeps}
@@ -43,8 +45,8 @@ bytes_agree spell layouts texts read hashes = record {
   sizes = λ kind size. refl;
   faults = same_fault layouts texts;
   matches = same_match layouts texts hashes;
-  terms = λ p q h matching. (of_pair spell layouts texts read hashes p q h matching).0;
-  rules = λ p q h matching. (of_pair spell layouts texts read hashes p q h matching).1;
+  short = λ p q h matching packet. ap (λ terms. is_short terms packet) (of_pair spell layouts texts read hashes p q h matching).0;
+  rules = λ p q h matching. reworded (spelled_rules layouts p.wdt p.adt) (actions (rules_of_half q.wdt)) (of_pair spell layouts texts read hashes p q h matching).1;
 }
 
 pub spelling_suffices : SpellingSuffices

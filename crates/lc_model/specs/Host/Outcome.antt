@@ -30,9 +30,10 @@ pub record IsUntouched (d : Devices) : Type 0 where
 
 -- ---- endings
 
--- The result of a run: `Complete` with the numbers of records and bytes; a text that does not compile, with its refusal (`None`
--- if the compiler lacked memory); a bad record (141); a record cut by the end of the stream (142); a failed read (143); a failed
--- write after `sent` bytes (144); the bound of reads (145); or no memory.
+-- The result of a run: `Complete` with the numbers of records and bytes; a text that does not compile, by its number from 0, with its
+-- refusal (`None` if the compiler lacked memory: a run then ends with `NoMemory`); a bad record (141) or a record cut by the end of
+-- the stream (142), by its number from 1; a failed read (143); a failed write after `sent` bytes (144); the bound of reads (145); or no
+-- memory.
 pub data Ending : Type 0 where
   Complete : (records bytes : ℕ) → Ending
   Uncompiled : (text : ℕ) (refusal : Option TextRefusal) → Ending
@@ -96,8 +97,8 @@ module _ (records : List ℕ → List StreamEntry × End) (output : List StreamE
     pub good : MayGoOn (records bytes).1
     pub failed : d.source_after.failed ≡ true
 
-  -- `most_reads` reads were made and each read at least one byte (145): the stream has not ended, and none of its records so far
-  -- is bad.
+  -- `most_reads` reads were made, which read at least as many bytes (145), and none of the records so far is bad. So the stream is at
+  -- least that long; whether it ends there no read has told.
   pub record ReachesTheBound : Type 0 where
     pub bytes : List ℕ
     pub so : TookAndWrote bytes

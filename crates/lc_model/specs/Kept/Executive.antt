@@ -1,7 +1,7 @@
 -- The host in numbers: spares, seats, pipes and services, and what one record does to them. Services and executive commands
 -- follow the cFE user's guide (executive services, software bus); the order of calls and the refusals are this project's own.
--- Of an object that is `Other` nothing is promised: for it these definitions only remove its packet from its pipe, and a start
--- only removes it from the stock.
+-- Of what an object that is `Other` does nothing is promised: for its calls these definitions only remove its packet from its pipe. A
+-- start removes it from the stock, and when it leaves, its seat and pipe are free.
 use Rattle.std.specs.Prelude.{ℕ, zero, suc, ◌==◌, Bool, true, false, not, List, [], ◌∷◌, ◌++◌, map, remove, replicate, slice_index_or, slice_set, if◌then◌else◌, Option, Some, None, is_none, option_map, unwrap_or, Result, Ok, Err}
 use Rattle.std.specs.Option.{option_map_or}
 use Rattle.std.specs.List.{list_any, position_from}

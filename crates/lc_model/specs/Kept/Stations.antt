@@ -37,7 +37,7 @@ abbrev pub first_host : {Image : Type 0} → List Member → Host Image
 first_host stock = record { executive = first_executive stock; is_closed = false; calls = 0 }
 
 module _ {Image : Type 0} where
-  -- A single write after all work, without a call.
+  -- A single write after all work, without a call of `on_packet`.
   abbrev pub written_once : Written Image → List (Station Image)
   written_once step = record { executive = step.0; calls = 0; packets = step.1 } ∷ []
 

@@ -87,7 +87,7 @@ abbrev pub distinct_count : List ℕ → ℕ
 distinct_count [] = 0
 distinct_count (n ∷ numbers) = (if is_among n numbers then 0 else 1) + distinct_count numbers
 
--- How many more publications can wait: 576 less those that wait. This is `free` of the bus.
+-- How many more publications can wait: 576 less those that wait.
 abbrev pub free_publications : Bus → ℕ
 free_publications bus = most_publications - distinct_count (waiting_numbers bus)
 

@@ -1,7 +1,7 @@
 -- The rules between the host and its applications, of any kind: what a call may rely on, and which parts of the services it may
 -- change. From the cFE user's guide, executive services (applications and their resources); seats, and the bounds of one call,
 -- are this project's own.
-use Rattle.std.specs.Prelude.{◌≡◌, ◌≢◌, ℕ, ◌+◌, ◌<◌, ◌≤◌, ◌⊎◌, Bool, List, [], ◌∷◌, ◌++◌, length, filter, slice_index_or, Option, Some, None, option_map, IsTrue, IsFalse, IfSome, bytes_eq, take}
+use Rattle.std.specs.Prelude.{◌≡◌, ◌≢◌, ℕ, ◌+◌, ◌<◌, ◌≤◌, ◌⊎◌, Bool, List, [], ◌∷◌, ◌++◌, length, filter, slice_index_or, Option, Some, None, option_map, IsTrue, IsFalse, IfSome, bytes_eq, take, ⊤}
 use Rattle.std.specs.List.{AllByRecursion}
 use Rattle.lc_model.specs.declared.record.Moment.{Moment}
 use Rattle.lc_model.specs.Name.{Name, is_named, host_name, app_name_size}
@@ -12,7 +12,7 @@ use Rattle.lc_model.specs.Services.Events.{EventService, Sender, sender_named, s
 use Rattle.lc_model.specs.Services.Tables.{TableService, Table, tables_at}
 
 -- The services by seats: bus, event senders, files and tables, the record's moment, and the output of the call. Of the sequence
--- counts only that of event packets is here; a call may raise any other.
+-- counts only that of event packets is here. Of the others these definitions say nothing.
 pub record Held : Type 0 where
   pub bus : Bus
   pub events : EventService
@@ -126,15 +126,20 @@ pub record MayPublish (packet : List ℕ) (published : List (List ℕ)) : Type 0
   pub for_ticks : published ≢ [] → message_id packet ≡ tick_mid
   pub no_ticks : AllByRecursion (λ (other : List ℕ). message_id other ≢ tick_mid) published
 
--- The object's own pipe after the call: the packets that waited (none if the pipe is a new one), then at most as many as were
--- published, none of them a tick. Which of the published packets these are is not stated.
+-- The first list is part of the second, in the same order.
+abbrev pub IsPartOf : {A : Type 0} → List A → List A → Type 0
+IsPartOf [] all = ⊤
+IsPartOf (x ∷ part) [] = ⊥
+IsPartOf (x ∷ part) (y ∷ all) = ((x ≡ y) × IsPartOf part all) ⊎ IsPartOf (x ∷ part) all
+
+-- The object's own pipe after the call: the packets that waited (none if the pipe is a new one), then published packets to which
+-- the pipe is subscribed, in order. (An object that changes its subscriptions while it publishes misses some of them.)
 pub record IsOwnPipe (old : Option Pipe) (published : List (List ℕ)) (new : Pipe) : Type 0 where
   pub stayed : List (List ℕ)
   pub heard : List (List ℕ)
   pub waiting : new.waiting ≡ stayed ++ heard
   pub old_or_new : (stayed ≡ waiting_in old) ⊎ (stayed ≡ [])
-  pub few : length heard ≤ length published
-  pub no_ticks : AllByRecursion (λ (other : List ℕ). message_id other ≢ tick_mid) heard
+  pub heard_of : IsPartOf heard (filter (λ packet. hears packet new) published)
 
 -- `on_packet`: what it publishes reaches the other pipes, and the seat's sender and tables stay under the object's name.
 pub record IsGiven (seat : ℕ) (name : Name) (packet : List ℕ) (before after : Held) : Type 0 where

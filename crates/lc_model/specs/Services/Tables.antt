@@ -53,7 +53,7 @@ file_put name bytes service = do
 abbrev pub Places : Type 0
 Places = List (List Table)
 
--- A table by its seat and its number there. This is what `Slot` is to a caller.
+-- A table by its seat and its number there: the program's `tbl_service::Slot`.
 pub record Handle : Type 0 where
   pub seat : ℕ
   pub number : ℕ

@@ -1,7 +1,7 @@
 //! A slice as a sink, with a limit.
 
 ghost use Rattle.std.specs.Prelude.{◌≡◌, ◌-◌, ◌<◌, ◌≤◌, ◌⊎◌, ◌↔◌, ℕ, min, length, take, drop, Some, None, false, IfOk, OnErr, IsErr};
-ghost use Rattle.lc_model.specs.Device.{one_call_more, WritesSome, WriteFails};
+ghost use Rattle.lc_model.specs.Device.{one_call_more, retried_by_call, WritesSome, WriteFails};
 
 use crate::device::{ByteSink, DeviceFault};
 
@@ -20,6 +20,8 @@ pub struct Limited<'a> {
     pub writes: u64,
     /// Whether a write has failed.
     pub failed: bool,
+    /// Whether a write came after a failed one.
+    pub retried: bool,
     ghost within: { taken ≤ limit },
     ghost has_room: { limit ≤ length room.now },
 }
@@ -34,6 +36,7 @@ impl<'a> Limited<'a> {
         ensures fault_at { result.fault_at ≡ None }
         ensures writes { result.writes ≡ 0 }
         ensures failed { result.failed ≡ false }
+        ensures retried { result.retried ≡ false }
     {
         Limited {
             room,
@@ -42,6 +45,7 @@ impl<'a> Limited<'a> {
             fault_at: None,
             writes: 0,
             failed: false,
+            retried: false,
         }
     }
 
@@ -54,6 +58,7 @@ impl<'a> Limited<'a> {
         ensures fault_at { result.fault_at ≡ Some write }
         ensures writes { result.writes ≡ 0 }
         ensures failed { result.failed ≡ false }
+        ensures retried { result.retried ≡ false }
     {
         Limited {
             room,
@@ -62,6 +67,7 @@ impl<'a> Limited<'a> {
             fault_at: Some(write),
             writes: 0,
             failed: false,
+            retried: false,
         }
     }
 
@@ -75,7 +81,11 @@ impl<'a> Limited<'a> {
 
 impl<'a> ByteSink for Limited<'a> {
     ghost sink = { λ limited.
-        record { gained = Some (take limited.taken limited.room.now); failed = limited.failed } };
+        record {
+          gained = Some (take limited.taken limited.room.now);
+          failed = limited.failed;
+          retried = limited.retried;
+        } };
 
     fn write(&mut self, bytes: &[u8]) -> Result<usize, DeviceFault>
         requires { 0 < length bytes.now }
@@ -85,6 +95,7 @@ impl<'a> ByteSink for Limited<'a> {
         ensures fault { OnErr result
             (WriteFails (⟦<Limited<'a> as ByteSink>⟧.sink self.old)
             (⟦<Limited<'a> as ByteSink>⟧.sink self.new)) }
+        ensures retried { self.new.retried ≡ retried_by_call self.old.failed self.old.retried }
 
         // The chosen write fails, and so does a write at the limit; any other takes all that the limit allows.
         ensures told { IsErr result ↔ ((self.old.fault_at ≡ Some self.new.writes) ⊎
@@ -98,6 +109,7 @@ impl<'a> ByteSink for Limited<'a> {
         ensures fault_at { self.new.fault_at ≡ self.old.fault_at }
     {
         self.writes = self.writes.saturating_add(1);
+        self.retried |= self.failed;
         if self.fault_at == Some(self.writes) || self.taken == self.limit {
             self.failed = true;
             return Err(DeviceFault);

@@ -1,7 +1,7 @@
 //! A slice as a source, in pieces.
 
 ghost use Rattle.std.specs.Prelude.{◌≡◌, ◌<◌, ◌↔◌, ℕ, min, length, Some, None, false, IfOk, OnErr, IsErr};
-ghost use Rattle.lc_model.specs.Device.{one_call_more, ReadsSome, ReadFails};
+ghost use Rattle.lc_model.specs.Device.{one_call_more, retried_by_call, ReadsSome, ReadFails};
 
 use crate::device::{ByteSource, DeviceFault};
 
@@ -18,6 +18,8 @@ pub struct Pieces<'a> {
     pub reads: u64,
     /// Whether a read has failed.
     pub failed: bool,
+    /// Whether a read came after a failed one.
+    pub retried: bool,
     ghost some: { 0 < most },
 }
 
@@ -30,6 +32,7 @@ impl<'a> Pieces<'a> {
         ensures fault_at { result.fault_at ≡ None }
         ensures reads { result.reads ≡ 0 }
         ensures failed { result.failed ≡ false }
+        ensures retried { result.retried ≡ false }
     {
         Pieces {
             left: bytes,
@@ -37,6 +40,7 @@ impl<'a> Pieces<'a> {
             fault_at: None,
             reads: 0,
             failed: false,
+            retried: false,
         }
     }
 
@@ -48,6 +52,7 @@ impl<'a> Pieces<'a> {
         ensures fault_at { result.fault_at ≡ Some read }
         ensures reads { result.reads ≡ 0 }
         ensures failed { result.failed ≡ false }
+        ensures retried { result.retried ≡ false }
     {
         Pieces {
             left: bytes,
@@ -55,13 +60,19 @@ impl<'a> Pieces<'a> {
             fault_at: Some(read),
             reads: 0,
             failed: false,
+            retried: false,
         }
     }
 }
 
 impl<'a> ByteSource for Pieces<'a> {
     ghost source = { λ pieces.
-        record { rest = Some pieces.left.now; reads = pieces.reads; failed = pieces.failed } };
+        record {
+          rest = Some pieces.left.now;
+          reads = pieces.reads;
+          failed = pieces.failed;
+          retried = pieces.retried;
+        } };
 
     fn read(&mut self, buffer: &mut [u8]) -> Result<usize, DeviceFault>
         requires { 0 < length buffer.old }
@@ -72,6 +83,7 @@ impl<'a> ByteSource for Pieces<'a> {
             (ReadFails (⟦<Pieces<'a> as ByteSource>⟧.source self.old)
             (⟦<Pieces<'a> as ByteSource>⟧.source self.new)) }
         ensures counted { self.new.reads ≡ one_call_more self.old.reads }
+        ensures retried { self.new.retried ≡ retried_by_call self.old.failed self.old.retried }
 
         // The chosen read fails; any other gives all that a piece, the buffer and the rest allow.
         ensures told { IsErr result ↔ (self.old.fault_at ≡ Some self.new.reads) }
@@ -82,6 +94,7 @@ impl<'a> ByteSource for Pieces<'a> {
         ensures fault_at { self.new.fault_at ≡ self.old.fault_at }
     {
         self.reads = self.reads.saturating_add(1);
+        self.retried |= self.failed;
         if self.fault_at == Some(self.reads) {
             self.failed = true;
             return Err(DeviceFault);

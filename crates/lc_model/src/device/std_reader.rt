@@ -12,18 +12,20 @@ pub struct Reading<R> {
     reader: R,
     reads: u64,
     failed: bool,
+    retried: bool,
 }
 
 impl<R: Read> Reading<R> {
     /// A source over this reader, before its first read.
     pub fn new(reader: R) -> Reading<R>
         ensures { ⟦<Reading<R> as ByteSource>⟧.source result ≡
-            record { rest = R.remaining reader; reads = 0; failed = false } }
+            record { rest = R.remaining reader; reads = 0; failed = false; retried = false } }
     {
         Reading {
             reader,
             reads: 0,
             failed: false,
+            retried: false,
         }
     }
 }
@@ -34,10 +36,12 @@ impl<R: Read> ByteSource for Reading<R> {
           rest = R.remaining reading.reader;
           reads = reading.reads;
           failed = reading.failed;
+          retried = reading.retried;
         } };
 
     fn read(&mut self, buffer: &mut [u8]) -> Result<usize, DeviceFault> {
         self.reads = self.reads.saturating_add(1);
+        self.retried |= self.failed;
         match self.reader.read(buffer) {
             Ok(count) => Ok(count),
             Err(_) => {

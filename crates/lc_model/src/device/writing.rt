@@ -11,26 +11,33 @@ use std::io::Write;
 pub struct Writing<W> {
     writer: W,
     failed: bool,
+    retried: bool,
 }
 
 impl<W: Write> Writing<W> {
     /// A sink over this writer, before its first write.
     pub fn new(writer: W) -> Writing<W>
         ensures { ⟦<Writing<W> as ByteSink>⟧.sink result ≡
-            record { gained = W.contents writer; failed = false } }
+            record { gained = W.contents writer; failed = false; retried = false } }
     {
         Writing {
             writer,
             failed: false,
+            retried: false,
         }
     }
 }
 
 impl<W: Write> ByteSink for Writing<W> {
     ghost sink = { λ writing.
-        record { gained = W.contents writing.writer; failed = writing.failed } };
+        record {
+          gained = W.contents writing.writer;
+          failed = writing.failed;
+          retried = writing.retried;
+        } };
 
     fn write(&mut self, bytes: &[u8]) -> Result<usize, DeviceFault> {
+        self.retried |= self.failed;
         match self.writer.write(bytes) {
             Ok(count) if count > 0 => Ok(count),
             _ => {

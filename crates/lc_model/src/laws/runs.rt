@@ -3,6 +3,7 @@
 ghost use Rattle.std.specs.Prelude.{List};
 ghost use Rattle.lc_model.specs.Tables.HalvesAndBytes.{as_bytes, as_halves};
 ghost use Rattle.lc_model.specs.Tables.Image.{Layout};
+ghost use Rattle.lc_model.specs.Laws.Reworded.{RewordedTextsRunAlike};
 ghost use Rattle.lc_model.specs.Laws.Runs.{BytesRunAsFixedText, BytesRunAsTexts, CarriedByTheStream, CompiledFilesMeanAlike, RunsFollowTexts, RunsGoOn, RunsTellFailures, RunsWriteWhatBytesCallFor, RunsWriteWhatIsCalledFor, RunsWriteWithFixedTables};
 
 /// The compiled file of a half has the same meaning by bytes and by texts.
@@ -18,6 +19,11 @@ pub fn bytes_run_as_texts()
 /// For one text and streams with fixed tables, the output by bytes is what the text calls for, without these premises.
 pub fn bytes_run_as_fixed_text()
     ensures { BytesRunAsFixedText }
+{}
+
+/// A run of texts and one of the same texts, of which one is worded otherwise, have the same output for every stream.
+pub fn reworded_texts_run_alike()
+    ensures { RewordedTextsRunAlike }
 {}
 
 /// One more record only adds to the output.

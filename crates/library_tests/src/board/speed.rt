@@ -69,9 +69,15 @@ fn is_sent(events: &mut Events, id: u16, text: &[u8], out: &mut Vec<u8>) -> bool
         seconds: 100,
         subseconds: 0,
     };
-    out.clear();
-    events.send_into(Some(Seat::new(3)), moment, id, EventKind::Error, text, out);
-    !out.is_empty()
+    events.send_into(
+        Some(Seat::new(3)),
+        moment,
+        id,
+        EventKind::Error,
+        text,
+        out,
+        0,
+    ) != 0
 }
 
 /// Asks a thousand times for event 1001 of a sender with filters of these ids; `expected` of them are sent.

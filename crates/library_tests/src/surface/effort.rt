@@ -141,6 +141,7 @@ fn measured(alloc: Global, text: &[u8], packet: &[u8]) -> Result<Option<(u32, u3
         Ok(mut host) => {
             fly(&mut host, &pair, packet);
             let effort = effort_of(&host);
+            host.close();
             Ok(effort)
         }
     }
@@ -187,6 +188,7 @@ fn faulty(alloc: Global) -> Result<[(Option<u64>, bool, usize); 2], AllocError> 
         Err(_) => Err(AllocError),
         Ok(mut host) => {
             let answers = after_a_fault(&mut host);
+            host.close();
             Ok(answers)
         }
     }

@@ -9,15 +9,19 @@ returns-clause-run g c =
     let w = c.launch-answer.result.1 in
     let r = c.launch-answer.new.reader in
     in_memory (sources_of c.args.texts.now) c.args.schedule.now c.args.stream.now _ _ c.launch-answer.result.0
-    (record { rest = Some c.new-reader.result.left.now; reads = c.new-reader.result.reads; failed = false })
-    (record { rest = Some r.left.now; reads = r.reads; failed = false })
-    (record { gained = Some (take c.new-writer.result.taken c.new-writer.result.room.now); failed = c.new-writer.result.failed })
-    (record { gained = Some (take w.taken w.room.now); failed = w.failed })
+    (record { rest = Some c.new-reader.result.left.now; reads = c.new-reader.result.reads; failed = false; retried = false })
+    (record { rest = Some r.left.now; reads = r.reads; failed = false; retried = false })
+    (record { gained = Some (take c.new-writer.result.taken c.new-writer.result.room.now); failed = c.new-writer.result.failed; retried = c.new-writer.result.retried })
+    (record { gained = Some (take w.taken w.room.now); failed = w.failed; retried = w.retried })
     w.failed
     c.new-reader.ensures refl
     (λ fails. c.bytes-bytes.ensures.full fails ∙ search rules)
-    (λ i. record { gained = Some (take (c.new-writer.ensures.taken i) c.new-writer.result.room.now); failed = c.new-writer.ensures.failed i })
-    (ap (λ (bytes : List ℕ). record { gained = Some bytes; failed = w.failed }) (sym c.bytes-bytes.ensures.bytes)
+    (λ i. record { gained = Some (take (c.new-writer.ensures.taken i) c.new-writer.result.room.now); failed = c.new-writer.ensures.failed i; retried = c.new-writer.ensures.retried i })
+    ((λ i. record {
+      gained = Some (sym c.bytes-bytes.ensures.bytes i);
+      failed = w.failed;
+      retried = (c.launch-answer.ensures.promises.not_retried.writes ∙ c.new-writer.ensures.retried) i;
+    })
     ∙ copied c.bytes-bytes.result.now c.copy_from_slice.new.self (drop (length c.bytes-bytes.result.now) c.args.output.now) w.failed (search rules))
     c.launch-answer.ensures.promises
 

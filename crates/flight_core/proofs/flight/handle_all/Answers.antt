@@ -5,6 +5,7 @@ use Rattle.flight_core.proofs.Courses.{goes_on_board, takes_on_board, one_more, 
 use Rattle.flight_core.proofs.Cutting.{begins, comes, goes, ends_badly, ends_whole, ends_cut}
 use Rattle.flight_core.proofs.Exits.{begins_so, shows_device, goes_on_behind, profile_stops, profile_reads, profile_ends}
 use Rattle.flight_core.proofs.Reasons.{reason_to_stop, reason_to_read_no_more, reason_to_end}
+use Rattle.flight_core.proofs.Retries.{stops_untried, reads_untried, ends_untried}
 use Rattle.flight_core.proofs.flight.handle_all.Goals as goal
 
 pub loop-total-init : goal.loop-total-init
@@ -22,7 +23,7 @@ loop-total-preserved-in-Ok-Some g c =
     record {
       room = c.loop-total.invariant.room;
       bounded = c.loop-total.invariant.bounded;
-      far = one_more _ _ _ (goes_on_board (c.goes_on.ensures layouts)) goes _ _ _ _ _ _ _ _ c.loop-total.invariant.far _ _ _ _ fits handled;
+      far = one_more _ _ _ (goes_on_board (c.goes_on.ensures layouts)) goes _ _ _ _ _ _ _ _ c.loop-total.invariant.far _ _ _ _ fits handled c.in-Ok-Some.ensures.not_retried;
     }
 
 pub loop-total-preserved : goal.loop-total-preserved
@@ -34,7 +35,7 @@ loop-total-preserved g c =
     record {
       room = c.refill.ensures.room;
       bounded = c.refill.ensures.bounded;
-      far = comes_more _ _ _ comes _ _ _ _ _ _ _ _ _ behind _ _ came.piece;
+      far = comes_more _ _ _ comes _ _ _ _ _ _ _ _ _ behind _ _ came.piece c.refill.ensures.not_retried;
     }
 
 pub returns-in-Ok-false-clause-outcome : goal.returns-in-Ok-false-clause-outcome
@@ -124,3 +125,20 @@ returns-in-Err-clause-reasons g c =
     }) _ _ _ _ _ _ _ _ _ _ _ _ c.loop-total.invariant.far _ _ _ _ _ _ _ (g.met.O.Outlet.shows c.handle_next.new.writer)
     (g.met.O.Outlet.grows c.final_reason-reason.new.out _ c.requires.had) c.in-Err.halt c.final_reason-reason.result c.in-Err.ensures.next c.final_reason-reason.ensures
     c.run_error-in-Err.result (c.run_error-in-Err.ensures.so ∙ ap (λ held. stopped_by c.final_reason-reason.result c.loop-total.report.records c.loop-total.report.bytes held) c.held_in-in-Err.ensures)
+
+pub returns-in-Ok-false-clause-not_retried : goal.returns-in-Ok-false-clause-not_retried
+returns-in-Ok-false-clause-not_retried g c =
+    let none = rw c.in-Ok-None.field-0-is at c.in-Ok-None.ensures.next in
+    let over = rw c.in-Ok-false.field-0-test at c.in-Ok-false.ensures.refilled in
+    ends_untried _ _ _ _ _ _ _ _ _ _ _ c.loop-total.invariant.far _ _ _ _ _ _ _ (g.met.O.Outlet.shows c.handle_next.new.writer) none _ _ _ over c.refill.ensures.not_retried
+
+pub returns-in-Err-refill-clause-not_retried : goal.returns-in-Err-refill-clause-not_retried
+returns-in-Err-refill-clause-not_retried g c =
+    let none = rw c.in-Ok-None.field-0-is at c.in-Ok-None.ensures.next in
+    reads_untried _ _ _ _ _ _ _ _ _ _ _ c.loop-total.invariant.far _ _ _ _ _ _ _ (g.met.O.Outlet.shows c.handle_next.new.writer) none _ _ _
+    c.in-Err-refill.halt c.in-Err-refill.ensures.refilled c.refill.ensures.not_retried
+
+pub returns-in-Err-clause-not_retried : goal.returns-in-Err-clause-not_retried
+returns-in-Err-clause-not_retried g c =
+    stops_untried _ _ _ _ _ _ _ _ _ _ _ c.loop-total.invariant.far _ _ _ _ _ _ _ (g.met.O.Outlet.shows c.handle_next.new.writer)
+    c.in-Err.halt c.final_reason-reason.result c.in-Err.ensures.next c.final_reason-reason.ensures c.in-Err.ensures.not_retried

@@ -11,7 +11,7 @@ pub returns-in-Ok-clause-judged : goal.returns-in-Ok-clause-judged
 returns-in-Ok-clause-judged g c = begun _ _ c.handle_all-result.ensures.begun
 
 pub returns-in-Ok-clause-reasons : goal.returns-in-Ok-clause-reasons
-returns-in-Ok-clause-reasons g c = runs_for _ _ _ _ _ c.in-Ok.ensures.first _ c.handle_all-result.ensures.reasons
+returns-in-Ok-clause-reasons g c = runs_for _ _ _ _ _ _ c.in-Ok.ensures.first _ c.close.ensures.closed _ c.handle_all-result.ensures.reasons
 
 pub new-requires-2 : goal.new-requires-2
 new-requires-2 g c = let fits = c.host_fits.ensures (search rules) in (omega arith, c.requires.spares)

@@ -37,7 +37,7 @@ returns-in-Err-clause-named g c = named (sources_of c.args.texts.now) _ c.in-Err
 
 pub returns-in-Ok-clause-reasons : goal.returns-in-Ok-clause-reasons
 returns-in-Ok-clause-reasons g c =
-    answers_for _ _ _ c.as_slice.result.now (subst (AreAllCompiled (sources_of c.args.texts.now)) (sym c.as_slice.ensures.value) c.in-Ok.ensures.compiled) _ refl _ c.run_compiled.ensures.reasons
+    answers_for _ _ _ _ c.as_slice.result.now (subst (AreAllCompiled (sources_of c.args.texts.now)) (sym c.as_slice.ensures.value) c.in-Ok.ensures.compiled) _ refl _ c.run_compiled.ensures.reasons
 
 pub returns-in-Err-clause-reasons : goal.returns-in-Err-clause-reasons
-returns-in-Err-clause-reasons g c = none_answered _ _ _ (sources_of c.args.texts.now) _ c.in-Err.ensures.refused
+returns-in-Err-clause-reasons g c = none_answered _ _ _ _ (sources_of c.args.texts.now) _ c.in-Err.ensures.refused

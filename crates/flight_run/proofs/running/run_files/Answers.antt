@@ -13,7 +13,7 @@ returns-in_err-plan-clause-stops g c =
 pub returns-in_err-texts-clause-stops : goal.returns-in_err-texts-clause-stops
 returns-in_err-texts-clause-stops g c =
     passes _ _ _ c.from_residual-in_err-texts.ensures.1
-    (inr (at_texts c.args.schedule.now c.args.stream c.args.out _ _ c.in_ok-plan.ensures.said.0 _ _ c.in_err-texts.field-0.0 c.in_ok-plan.ensures.said.2 c.in_err-texts.ensures.stops))
+    (inr (at_texts c.args.schedule.now c.args.stream c.args.out _ _ c.in_ok-plan.ensures.said.0 _ _ (fault_of_file c.in_err-texts.field-0.0) c.in_ok-plan.ensures.said.2 (lifted _ _ _ c.in_err-texts.field-0.0 c.in_err-texts.ensures.stops)))
 
 pub returns-in_err-slices-clause-stops : goal.returns-in_err-slices-clause-stops
 returns-in_err-slices-clause-stops g c =
@@ -67,7 +67,7 @@ returns-clause-done g c =
     let opened = is_opened c.args.schedule.now c.args.stream c.args.out _ _ text texts _ _ _ _ read c.in-Ok.ensures.noted c.in_ok-check_apart.ensures.apart in
     let there = all_there c.args.schedule.now c.args.stream c.args.out _ _ text texts _ _ _ opened c.in_ok-check_apart-2.ensures.apart in
     let lent = ap (map (λ (x : Bor (List ℕ)). x.now)) c.as_slice-2.ensures.value ∙ c.in_ok-slices.ensures ∙ ap (map (λ (x : Vec ℕ Global). x.items)) c.as_slice.ensures.value in
-    let ran = is_run c.args.schedule.now c.args.stream c.args.out _ _ text _ texts c.as_slice-2.result.now _ _ _ _ _ _ _ c.run_devices-outcome.result.0 c.in_ok-plan.ensures.said.1 same lent there c.in-Ok-create.ensures.noted c.close.ensures c.run_devices-outcome.ensures.flies in
+    let ran = is_run c.args.schedule.now c.args.stream c.args.out _ _ text _ texts c.as_slice-2.result.now _ _ _ _ _ _ _ c.run_devices-outcome.result.0 c.in_ok-plan.ensures.said.1 same lent there c.in-Ok-create.ensures.noted c.end_output.ensures c.run_devices-outcome.ensures.flies in
     run_ends c.args.schedule.now c.args.stream c.args.out _ _ _ c.run_devices-outcome.result.0 ran
 
 pub returns-clause-stops : goal.returns-clause-stops
@@ -79,5 +79,5 @@ returns-clause-stops g c =
     let opened = is_opened c.args.schedule.now c.args.stream c.args.out _ _ text texts _ _ _ _ read c.in-Ok.ensures.noted c.in_ok-check_apart.ensures.apart in
     let there = all_there c.args.schedule.now c.args.stream c.args.out _ _ text texts _ _ _ opened c.in_ok-check_apart-2.ensures.apart in
     let lent = ap (map (λ (x : Bor (List ℕ)). x.now)) c.as_slice-2.ensures.value ∙ c.in_ok-slices.ensures ∙ ap (map (λ (x : Vec ℕ Global). x.items)) c.as_slice.ensures.value in
-    let ran = is_run c.args.schedule.now c.args.stream c.args.out _ _ text _ texts c.as_slice-2.result.now _ _ _ _ _ _ _ c.run_devices-outcome.result.0 c.in_ok-plan.ensures.said.1 same lent there c.in-Ok-create.ensures.noted c.close.ensures c.run_devices-outcome.ensures.flies in
+    let ran = is_run c.args.schedule.now c.args.stream c.args.out _ _ text _ texts c.as_slice-2.result.now _ _ _ _ _ _ _ c.run_devices-outcome.result.0 c.in_ok-plan.ensures.said.1 same lent there c.in-Ok-create.ensures.noted c.end_output.ensures c.run_devices-outcome.ensures.flies in
     run_stops c.args.schedule.now c.args.stream c.args.out _ _ _ c.run_devices-outcome.result.0 ran

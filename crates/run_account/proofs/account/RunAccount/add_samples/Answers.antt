@@ -9,7 +9,14 @@ use Rattle.run_account.specs.Samples.{requests_of}
 use Rattle.run_account.specs.declared.account.RunAccount.{RunAccount}
 use Rattle.run_account.specs.declared.lanes.Lane.{Lane}
 use Rattle.run_account.proofs.Accounts.{none_counted, one_counted, one_noted}
+use Rattle.run_account.proofs.Taking.{none_sampled}
 use Rattle.run_account.proofs.account.RunAccount.add_samples.Goals as goal
+
+pub returns-then-is_nothing : goal.returns-then-is_nothing
+returns-then-is_nothing c =
+    let checker : Option LcOwn = engine_among (host_in c.args.stepping.now).host.seats in
+    none_counted c.args.self.now false (requests_of c.args.requests.now) checker c.args.self.now.force.number
+    (none_sampled (requests_of c.args.requests.now) checker (c.is_nothing.ensures c.if-is_nothing.true))
 
 pub returns-then-not-is_sampled : goal.returns-then-not-is_sampled
 returns-then-not-is_sampled c =

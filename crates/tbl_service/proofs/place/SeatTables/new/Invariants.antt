@@ -1,5 +1,5 @@
-use Rattle.std.proofs.Common.{◌≡◌, ◌≤◌, length, vec_capacity}
+use Rattle.std.proofs.Common.{◌≡◌, length, vec_capacity}
 use Rattle.tbl_service.proofs.place.SeatTables.new.Given as goal
 
 abbrev pub invariant-loop : goal.invariant-loop
-invariant-loop l = (length l.spare.items ≡ l.counter) × (2 ≤ vec_capacity l.spare)
+invariant-loop l = (length l.spare.items ≡ l.counter) × (vec_capacity l.spare ≡ 2)

@@ -13,5 +13,5 @@ returns-in-Some-clause-answer c =
 
 pub returns-in-Some-pop-clause-answer : goal.returns-in-Some-pop-clause-answer
 returns-in-Some-pop-clause-answer c =
-    added c.args.name.now c.args.bytes.now c.as_slice.result.now c.args.self.now c.push.new.self.items c.new.result
+    added c.args.name.now c.args.bytes.now c.as_slice.result.now c.args.self.now c.push_reserved.new.self.items c.new.result
     (search rules) (search rules) c.in-None.ensures.place (search rules) (search rules) (search rules)
