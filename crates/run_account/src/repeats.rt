@@ -11,7 +11,7 @@ ghost use Rattle.run_account.specs.Samples.{requests_of};
 use crate::clock::RunClock;
 use crate::counts::RuleRow;
 use crate::lanes::Lane;
-use crate::requests::{Requests, is_mode_on, sampled_result};
+use crate::requests::{Requests, is_mode_on, taken_result};
 use lc_model::ApResult;
 use limit_engine::Engine;
 
@@ -44,7 +44,7 @@ pub fn found_at(results: &[Option<ApResult>], rule: usize) -> Option<ApResult>
 fn is_same(one: Option<ApResult>, other: Option<ApResult>) -> bool
     ensures { IsTrue result → one ≡ other }
 {
-    ApResult::last_code(one) == ApResult::last_code(other)
+    one == other
 }
 
 /// Whether the list has the results of all rules that these requests led to, for an engine whose mode allows samples.
@@ -55,10 +55,11 @@ fn are_those(results: &[Option<ApResult>], requests: &Requests<'_>, engine: &Eng
     if results.len() < engine.rule_count() {
         return false;
     }
+    let takes_all = requests.takes_all(results.len());
     for rule in 0..results.len() {
         if !is_same(
             found_at(results, rule),
-            sampled_result(requests, engine, rule),
+            taken_result(requests, takes_all, engine, rule),
         ) {
             return false;
         }
