@@ -34,7 +34,6 @@ class Code:
     def __init__(self, path):
         self.starts = collections.defaultdict(list)
         self.calls = collections.defaultdict(set)
-        self.jumps = 0
         lines = lines_of(path)
         section = ""
         for line in lines:
@@ -68,9 +67,7 @@ class Code:
         target = None
         if word.startswith(("call", "j")):
             if rest.startswith("*"):
-                if word.startswith("j") and rest[1:].startswith("%") and is_match(before, rest[1:]):
-                    self.jumps += 1
-                else:
+                if not (word.startswith("j") and rest[1:].startswith("%") and is_match(before, rest[1:])):
                     self.calls[name].add(UNKNOWN)
             else:
                 target = rest
