@@ -227,7 +227,7 @@ const PART_3: [Explanation; 8] = [
     Explanation {
         name: "fails-wherever",
         head: "warning[fails-wherever] of rule texts: Both rules request the same sequence, and whenever this one fails and the other's fields are known, the other fails too.",
-        rest: "  You can remove this rule if the other one has no greater `fails` and is at least as active. Of rules that fail alike with one sequence, only the first is named.\n  at: the name of the rule that fails less often\n",
+        rest: "  You can remove this rule if the other one has no greater `fails`, is at least as active, and its fields are known whenever this one's are. Of rules that fail alike with one sequence, only the first is named.\n  at: the name of the rule that fails less often\n",
         advice: "did you mean `fails-wherever`?",
     },
     Explanation {

@@ -10,10 +10,10 @@ use Rattle.lc_model.specs.Host.ScheduleText.{schedule_in}
 use Rattle.lc_model.specs.Host.Outcome.{devices}
 use Rattle.flight_profile.specs.Stock.{own_mission}
 use Rattle.flight_run.specs.Flown.{Flies}
-use Rattle.program_io.specs.FileCall.{FileCall, Closes, Compares, Makes, Opens, Reads, all_apart, all_read, asked, followed_by}
+use Rattle.program_io.specs.FileCall.{FileCall, Compares, Makes, Opens, Reads, all_apart, all_read, asked, followed_by}
 use Rattle.program_io.proofs.Calls.{asked_apart, asked_read, none_yet, then_more}
 use Rattle.program_io.proofs.Stopping.{last_of}
-use Rattle.flight_run.specs.Commands.{IsRunDone, mission_of, run_order}
+use Rattle.flight_run.specs.Commands.{IsEnded, IsRunDone, last_call, mission_of, run_order}
 use Rattle.flight_run.specs.Stops.{StopsIn}
 use Rattle.flight_run.proofs.Stopping.{one, stops_later}
 
@@ -105,20 +105,23 @@ module _ (schedule : List ℕ) (stream out : Bor (List ℕ)) (rules : List (List
       (ap (λ calls. (Opens stream.now None ∷ Compares out.now schedule false ∷ Compares out.now stream.now false ∷ calls) ++ third) (sym (asked_apart out.now rules))) e
       (one (Makes out.now None) mid now (File out) f (last_of _ _ refl))
 
-  pub is_run : (text : List ℕ) (plan : Schedule) (texts : List (List ℕ)) (slices : List (Bor (List ℕ))) (source source_after : Source) (sink sink_after : Sink) (mid next now : Option (List FileCall)) (outcome : Result Done Fault) →
+  pub is_run : (text : List ℕ) (plan : Schedule) (texts : List (List ℕ)) (slices : List (Bor (List ℕ))) (source source_after : Source) (sink sink_after : Sink) (mid next now : Option (List FileCall)) (ran answer : Result Done Fault) →
       schedule_in text ≡ Ok plan → length texts ≡ length rules → map (λ (x : Bor (List ℕ)). x.now) slices ≡ texts →
-      mid ≡ followed_by before (first text texts ++ (opened source ++ all_apart out.now rules)) → next ≡ followed_by mid (Makes out.now (Some sink) ∷ []) → now ≡ followed_by next (Closes sink_after ∷ []) →
-      Flies (own_mission slices plan) (devices source source_after sink sink_after) outcome → IsRunDone schedule stream.now out.now rules before now outcome
-  is_run text plan texts slices source source_after sink sink_after mid next now outcome says same lent e f h flies = record {
+      mid ≡ followed_by before (first text texts ++ (opened source ++ all_apart out.now rules)) → next ≡ followed_by mid (Makes out.now (Some sink) ∷ []) → IsEnded out.now sink_after next now ran answer →
+      Flies (own_mission slices plan) (devices source source_after sink sink_after) ran → IsRunDone schedule stream.now out.now rules before now answer
+  is_run text plan texts slices source source_after sink sink_after mid next now ran answer says same lent e f ended flies = record {
     text = text;
     plan = plan;
     texts = texts;
     devices = devices source source_after sink sink_after;
     says = says;
     each = same;
-    calls = then_more before mid now (first text texts ++ (opened source ++ all_apart out.now rules)) (Makes out.now (Some sink) ∷ Closes sink_after ∷ []) e
-        (then_more mid next now (Makes out.now (Some sink) ∷ []) (Closes sink_after ∷ []) f h);
-    flies = subst (λ these. Flies (mission_of these plan) (devices source source_after sink sink_after) outcome) lent flies;
+    ran = ran;
+    is_done = ended.is_done;
+    calls = then_more before mid now (first text texts ++ (opened source ++ all_apart out.now rules)) (Makes out.now (Some sink) ∷ last_call ran sink_after ended.is_done ∷ []) e
+        (then_more mid next now (Makes out.now (Some sink) ∷ []) (last_call ran sink_after ended.is_done ∷ []) f ended.closed);
+    flies = subst (λ these. Flies (mission_of these plan) (devices source source_after sink sink_after) ran) lent flies;
+    answers = ended.answers;
   }
 
   pub run_ends : (now : Option (List FileCall)) (outcome : Result Done Fault) → IsRunDone schedule stream.now out.now rules before now outcome → IfOk outcome (λ done. IsRunDone schedule stream.now out.now rules before now (Ok done))

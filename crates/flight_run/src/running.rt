@@ -4,11 +4,11 @@ ghost use Rattle.std.specs.Prelude.{◌≡◌, [], ◌∷◌, List, ℕ, Ok, Som
 ghost use Rattle.lc_model.specs.Host.Outcome.{devices};
 ghost use Rattle.lc_model.specs.Host.ScheduleText.{schedule_in};
 ghost use Rattle.flight_profile.specs.Stock.{own_mission};
-ghost use Rattle.flight_run.specs.Commands.{IsRunDone};
+ghost use Rattle.flight_run.specs.Commands.{IsEnded, IsRunDone};
 ghost use Rattle.flight_run.specs.Dispatch.{IsFlown, IsRunStopped};
 ghost use Rattle.flight_run.specs.Flown.{Flies};
 ghost use Rattle.flight_run.specs.Stops.{StopsIn};
-ghost use Rattle.program_io.specs.FileCall.{Closes, Reads, followed_by};
+ghost use Rattle.program_io.specs.FileCall.{Reads, followed_by};
 
 use crate::done::Done;
 use crate::fault::Fault;
@@ -73,20 +73,31 @@ pub fn run_devices<'a, R: ByteSource, W: ByteSink + Drop>(
     }
 }
 
-/// Whether nothing was run: a text was refused, or there was no memory.
-fn is_unrun(outcome: &Result<Done, Fault<'_>>) -> bool {
-    matches!(outcome, Err(Fault::Text(_) | Fault::Memory))
-}
-
-/// Closes the output. If nothing was run, it stays as it was.
-fn end_output<D: Disk>(disk: &mut D, device: D::Device, is_unrun: bool)
-    ensures { D.calls disk.new ≡ followed_by (D.calls disk.old)
-        (Closes (D.Device.sink device) ∷ []) }
+/// Closes the output, and returns what came of the run. If nothing was run, since a text is refused or memory ran out, the output stays
+/// as it was. Error: `File` if the run went well, but wrote nothing, and the output's old bytes can't be removed.
+fn end_output<'a, D: Disk>(
+    disk: &mut D,
+    out: &'a str,
+    device: D::Device,
+    ran: Result<Done, Fault<'a>>,
+) -> Result<Done, Fault<'a>>
+    ensures { IsEnded out.entry.now (D.Device.sink device) (D.calls disk.old) (D.calls disk.new)
+        ran.entry result }
 {
-    if is_unrun {
-        disk.leave(device);
-    } else {
-        disk.close(device);
+    match ran {
+        Ok(done) => match disk.close(device) {
+            Ok(()) => Ok(done),
+            Err(_) => Err(Fault::File(out)),
+        },
+        Err(fault) => {
+            match fault {
+                Fault::Text(_) | Fault::Memory => disk.leave(device),
+                Fault::Schedule(_) | Fault::Words(_) | Fault::File(_) | Fault::Run(_) => {
+                    let _ = disk.close(device);
+                }
+            }
+            Err(fault)
+        }
     }
 }
 
@@ -118,7 +129,6 @@ pub fn run_files<'a, D: Disk>(
     let Ok(device) = disk.create(out) else {
         return Err(Fault::File(out));
     };
-    let (outcome, device) = run_devices(alloc, slices.as_slice(), &plan, &mut reader, device);
-    end_output(disk, device, is_unrun(&outcome));
-    outcome
+    let (ran, device) = run_devices(alloc, slices.as_slice(), &plan, &mut reader, device);
+    end_output(disk, out, device, ran)
 }

@@ -12,8 +12,10 @@ pub data FileCall : Type 0 where
   Compares : (first second : List ℕ) (is_one : Bool) → FileCall
   -- a file was made, and takes bytes as this sink
   Makes : (name : List ℕ) (sink : Option Sink) → FileCall
-  -- the file that was made last was closed as this sink
-  Closes : (sink : Sink) → FileCall
+  -- the file that was made last was closed as this sink: whether its old bytes are gone
+  Closes : (sink : Sink) (is_done : Bool) → FileCall
+  -- the file that was made last was closed as this sink, and was left as it is
+  Leaves : (sink : Sink) → FileCall
   -- a file was made of these bytes: whether it was
   Writes : (name bytes : List ℕ) (is_done : Bool) → FileCall
 
@@ -26,13 +28,18 @@ given_by view (Err fault) = None
 abbrev pub followed_by : Option (List FileCall) → List FileCall → Option (List FileCall)
 followed_by before calls = option_map (λ known. known ++ calls) before
 
+-- a sink of which nothing is known
+abbrev pub unknown_sink : Sink
+unknown_sink = record { gained = None; failed = false; retried = false }
+
 -- a call without what came of it
 abbrev pub asked : FileCall → FileCall
 asked (Reads name bytes) = Reads name None
 asked (Opens name source) = Opens name None
 asked (Compares first second is_one) = Compares first second false
 asked (Makes name sink) = Makes name None
-asked (Closes sink) = Closes (record { gained = None; failed = false; retried = false })
+asked (Closes sink is_done) = Closes unknown_sink false
+asked (Leaves sink) = Leaves unknown_sink
 asked (Writes name bytes is_done) = Writes name [] false
 
 -- ---- some calls in a row

@@ -2,7 +2,7 @@
 use Rattle.std.specs.Prelude.{◌≡◌, ℕ, ◌<◌, true, false, List, [], ◌∷◌, ◌++◌, length, map, Option, Some, None, ⊤}
 use Rattle.program_io.specs.declared.error.FileError.{FileError}
 use Rattle.program_io.specs.declared.error.FileError.TheVariants.{Memory, Unusable}
-use Rattle.program_io.specs.FileCall.{FileCall, Reads, Opens, Compares, Makes, Closes, Writes, asked, followed_by}
+use Rattle.program_io.specs.FileCall.{FileCall, Reads, Opens, Compares, Makes, Closes, Leaves, Writes, asked, followed_by}
 
 -- the longest rule text, and the longest schedule, in bytes
 abbrev pub longest_text : ℕ
@@ -17,7 +17,8 @@ HasFailedAt at (Opens name (Some source)) = ⊥
 HasFailedAt at (Compares first second is_one) = (first ≡ at) × (is_one ≡ true)
 HasFailedAt at (Makes name None) = name ≡ at
 HasFailedAt at (Makes name (Some sink)) = ⊥
-HasFailedAt at (Closes sink) = ⊥
+HasFailedAt at (Closes sink is_done) = ⊥
+HasFailedAt at (Leaves sink) = ⊥
 HasFailedAt at (Writes name bytes is_done) = (name ≡ at) × (is_done ≡ false)
 
 -- the last call is one of these

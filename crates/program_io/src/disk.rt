@@ -1,7 +1,7 @@
 //! The files that a program uses, by their names.
 
 ghost use Rattle.std.specs.Prelude.{◌≡◌, List, [], ◌∷◌, Option, false, is_ok, IfOk};
-ghost use Rattle.program_io.specs.FileCall.{FileCall, Closes, Compares, Makes, Opens, Reads, Writes, followed_by, given_by};
+ghost use Rattle.program_io.specs.FileCall.{FileCall, Closes, Compares, Leaves, Makes, Opens, Reads, Writes, followed_by, given_by};
 
 use crate::why::FileFault;
 use lc_model::{ByteSink, ByteSource};
@@ -39,15 +39,15 @@ pub trait Disk {
         ensures noted { calls self.new ≡ followed_by (calls self.old)
             (Makes name.now (given_by Self.Device.sink result) ∷ []) };
 
-    /// Closes a file that is open for writing. If nothing was written, its old bytes are removed.
-    fn close(&mut self, device: Self::Device)
+    /// Closes a file that is open for writing. If nothing was written, its old bytes are removed. Error: they can't be removed.
+    fn close(&mut self, device: Self::Device) -> Result<(), FileFault>
         ensures { calls self.new ≡ followed_by (calls self.old)
-            (Closes (Self.Device.sink device) ∷ []) };
+            (Closes (Self.Device.sink device) (is_ok result) ∷ []) };
 
     /// Closes a file that is open for writing, and leaves it as it is.
     fn leave(&mut self, device: Self::Device)
         ensures { calls self.new ≡ followed_by (calls self.old)
-            (Closes (Self.Device.sink device) ∷ []) };
+            (Leaves (Self.Device.sink device) ∷ []) };
 
     /// Creates a file with these bytes, in place of another of its name.
     fn write(&mut self, name: &str, bytes: &[u8]) -> Result<(), FileFault>

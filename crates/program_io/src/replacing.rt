@@ -55,9 +55,9 @@ impl<F: Write + OpenFile + Drop> Replacing<F> {
         }
     }
 
-    /// Removes the old bytes, if nothing was written.
-    pub fn empty(mut self) {
-        let _emptied = remove_old(&self.file, &mut self.is_emptied);
+    /// Removes the old bytes, if nothing was written. Error: they can't be removed.
+    pub fn empty(mut self) -> io::Result<()> {
+        remove_old(&self.file, &mut self.is_emptied)
     }
 }
 

@@ -58,8 +58,11 @@ impl<R: Files + AllocGlobal> Disk for Shell<'_, R> {
         }
     }
 
-    fn close(&mut self, device: Replacing<R::File>) {
-        device.empty();
+    fn close(&mut self, device: Replacing<R::File>) -> Result<(), FileFault> {
+        match device.empty() {
+            Ok(()) => Ok(()),
+            Err(error) => Err(fault_of(&error)),
+        }
     }
 
     fn leave(&mut self, _device: Replacing<R::File>) {}

@@ -9,7 +9,7 @@ use crate::judging::{Judged, places_of, rule_at};
 use crate::lint::{LINTS, Lint};
 use crate::warning::Warning;
 use analysis_listing::{
-    FieldNames, NameSource, RuleFindings, ShownTerm, Values, said_of, terms_in, why,
+    FieldName, FieldNames, NameSource, RuleFindings, ShownTerm, Values, said_of, terms_in, why,
 };
 use diagnostics::{Many, Mark, Message, around, nearest, written_line};
 use lc_model::Term;
@@ -473,6 +473,25 @@ impl<'s, 'a> JudgedText<'s, 'a> {
     }
 }
 
+/// The number that was probably meant by one that lies below the field's mask, which does not shift: 0x30 for 3 under mask 0xF0.
+fn number_in_mask(term: &Term) -> Option<u32> {
+    let shift = term.mask.trailing_zeros();
+    let number = u32::try_from(term.value).ok()?;
+    let shifted = term.mask.checked_shr(shift)?;
+    if shift == 0 || number == 0 || number & shifted != number {
+        return None;
+    }
+    number.checked_shl(shift)
+}
+
+/// What to do about a comparison with the same outcome for all values.
+fn constant_label(alloc: Global, term: &Term) -> Result<String, AllocError> {
+    match number_in_mask(term) {
+        Some(meant) => { format!(in alloc; "the mask does not shift: did you mean 0x{meant:X}?") }
+        None => String::from_str(alloc, "take another number, or leave the comparison out"),
+    }
+}
+
 /// A comparison with the same outcome for all values.
 fn constant_comparison(
     alloc: Global,
@@ -486,9 +505,12 @@ fn constant_comparison(
         Constancy::Never => " never holds",
         _ => " always holds",
     };
-    let head = shown_term(alloc, subject, warning.about, comparison.term, holds)?;
-    let label = "take another number, or leave the comparison out";
-    Ok(plain(head, String::from_str(alloc, label)?))
+    let shown = ShownTerm {
+        name: FieldName::Text(subject.text_at(warning.at)),
+        term: comparison.term,
+    };
+    let head = format!(in alloc; "`{shown}`{holds}")?;
+    Ok(plain(head, constant_label(alloc, &comparison.term)?))
 }
 
 /// The numbers of the rules of a group whose first rule has this number.
@@ -537,10 +559,10 @@ fn alike_head(
     let names = named_rules(alloc, subject, numbers, " and ")?;
     let more = numbers.len().saturating_sub(MOST_NAMED);
     if more == 0 {
-        format!(in alloc; "{names} fail alike")
+        format!(in alloc; "{names} always fail together while their fields are known")
     } else {
         let others = Many(more, "other");
-        format!(in alloc; "{names} and {others} fail alike")
+        format!(in alloc; "{names} and {others} always fail together while their fields are known")
     }
 }
 
@@ -553,12 +575,12 @@ fn fails_alike(
     let numbers = rules_of_group(alloc, subject.judged, warning.about)?;
     let (label, other) = if numbers.len() > 2 {
         (
-            "leave all but one out, unless their requests or states are needed",
+            "if their fields are known together, leave all but one out, unless their requests or states are needed",
             "the first one",
         )
     } else {
         (
-            "leave one of the two out, unless its request or state is needed",
+            "if their fields are known together, leave one of the two out, unless its request or state is needed",
             "the other one",
         )
     };
@@ -580,10 +602,10 @@ fn fails_wherever(
         other,
         " fails wherever ",
         subject.text_at(warning.at),
-        " does",
+        " does, while its fields are known",
     )?;
     let label =
-        "both request the same sequence: you can remove it if the other is as active and needs no more failures";
+        "both request the same sequence: you can remove it if the other is as active, needs no more failures, and its fields are known whenever this one's are";
     let mut words = plain(head, String::from_str(alloc, label)?);
     words.other = subject.rule_mark(alloc, warning.about, "fails there, too")?;
     Ok(words)

@@ -301,6 +301,51 @@ impl Display for TallyObject {
     }
 }
 
+impl Listing<'_, '_, '_> {
+    /// Writes the first members: the names of both texts, and all requests and events that were kept.
+    fn write_runs<W: Write>(&self, out: &mut W) -> Result<(), ComparisonError> {
+        let (old, new) = (
+            JsonText(self.sides.old.name.as_bytes()),
+            JsonText(self.sides.new.name.as_bytes()),
+        );
+        write!(out, "{{\"old\":{old},\"new\":{new},\"requests\":[")?;
+        self.write_all(Sort::Requests, out)?;
+        out.write_all(b"],\n\"events\":[")?;
+        self.write_all(Sort::Events, out)
+    }
+
+    /// Writes the differences and the notes.
+    fn write_findings<W: Write>(&self, out: &mut W) -> Result<(), ComparisonError> {
+        out.write_all(b"],\n\"differences\":[")?;
+        self.write_differences(out)?;
+        out.write_all(b"],\n\"notes\":[")?;
+        self.write_notes(out)
+    }
+
+    /// Writes the counts of requests and of events.
+    fn write_counts<W: Write>(&self, out: &mut W) -> Result<(), ComparisonError> {
+        let requests = TallyObject(request_tally(self.alloc, self.found, self.lone)?);
+        let events = TallyObject(event_tally(self.alloc, self.found)?);
+        write!(
+            out,
+            "],\n\"counts\":{{\"requests\":{requests},\"events\":{events}}},\n"
+        )?;
+        Ok(())
+    }
+
+    /// Writes the whole object. `stop` says why both runs ended before the stream did.
+    fn write_whole<W: Write>(
+        &self,
+        stop: Option<Stop>,
+        out: &mut W,
+    ) -> Result<(), ComparisonError> {
+        self.write_runs(out)?;
+        self.write_findings(out)?;
+        self.write_counts(out)?;
+        write_end(self.alloc, self.sides, self.found, stop, out)
+    }
+}
+
 /// Writes two runs of these texts as one JSON object: all requests and events of both runs, if all records were kept; the differences; the
 /// counts; why both runs ended before the stream did; and what both looked at.
 ///
@@ -321,25 +366,7 @@ pub fn write_object<W: Write>(
         words: &words,
         lone: &lone,
     };
-    let (old, new) = (
-        JsonText(sides.old.name.as_bytes()),
-        JsonText(sides.new.name.as_bytes()),
-    );
-    write!(out, "{{\"old\":{old},\"new\":{new},\"requests\":[")?;
-    listing.write_all(Sort::Requests, out)?;
-    out.write_all(b"],\n\"events\":[")?;
-    listing.write_all(Sort::Events, out)?;
-    out.write_all(b"],\n\"differences\":[")?;
-    listing.write_differences(out)?;
-    out.write_all(b"],\n\"notes\":[")?;
-    listing.write_notes(out)?;
-    let requests = TallyObject(request_tally(alloc, found, &lone)?);
-    let events = TallyObject(event_tally(alloc, found)?);
-    write!(
-        out,
-        "],\n\"counts\":{{\"requests\":{requests},\"events\":{events}}},\n"
-    )?;
-    write_end(alloc, sides, found, stop, out)
+    listing.write_whole(stop, out)
 }
 
 /// Writes the last members: whether there are new requests, why both runs ended early, and what both looked at.

@@ -67,8 +67,8 @@ returns-clause-done g c =
     let opened = is_opened c.args.schedule.now c.args.stream c.args.out _ _ text texts _ _ _ _ read c.in-Ok.ensures.noted c.in_ok-check_apart.ensures.apart in
     let there = all_there c.args.schedule.now c.args.stream c.args.out _ _ text texts _ _ _ opened c.in_ok-check_apart-2.ensures.apart in
     let lent = ap (map (λ (x : Bor (List ℕ)). x.now)) c.as_slice-2.ensures.value ∙ c.in_ok-slices.ensures ∙ ap (map (λ (x : Vec ℕ Global). x.items)) c.as_slice.ensures.value in
-    let ran = is_run c.args.schedule.now c.args.stream c.args.out _ _ text _ texts c.as_slice-2.result.now _ _ _ _ _ _ _ c.run_devices-outcome.result.0 c.in_ok-plan.ensures.said.1 same lent there c.in-Ok-create.ensures.noted c.end_output.ensures c.run_devices-outcome.ensures.flies in
-    run_ends c.args.schedule.now c.args.stream c.args.out _ _ _ c.run_devices-outcome.result.0 ran
+    let ran = is_run c.args.schedule.now c.args.stream c.args.out _ _ text _ texts c.as_slice-2.result.now _ _ _ _ _ _ _ c.run_devices-ran.result.0 c.end_output.result c.in_ok-plan.ensures.said.1 same lent there c.in-Ok-create.ensures.noted c.end_output.ensures c.run_devices-ran.ensures.flies in
+    run_ends c.args.schedule.now c.args.stream c.args.out _ _ _ c.end_output.result ran
 
 pub returns-clause-stops : goal.returns-clause-stops
 returns-clause-stops g c =
@@ -79,5 +79,5 @@ returns-clause-stops g c =
     let opened = is_opened c.args.schedule.now c.args.stream c.args.out _ _ text texts _ _ _ _ read c.in-Ok.ensures.noted c.in_ok-check_apart.ensures.apart in
     let there = all_there c.args.schedule.now c.args.stream c.args.out _ _ text texts _ _ _ opened c.in_ok-check_apart-2.ensures.apart in
     let lent = ap (map (λ (x : Bor (List ℕ)). x.now)) c.as_slice-2.ensures.value ∙ c.in_ok-slices.ensures ∙ ap (map (λ (x : Vec ℕ Global). x.items)) c.as_slice.ensures.value in
-    let ran = is_run c.args.schedule.now c.args.stream c.args.out _ _ text _ texts c.as_slice-2.result.now _ _ _ _ _ _ _ c.run_devices-outcome.result.0 c.in_ok-plan.ensures.said.1 same lent there c.in-Ok-create.ensures.noted c.end_output.ensures c.run_devices-outcome.ensures.flies in
-    run_stops c.args.schedule.now c.args.stream c.args.out _ _ _ c.run_devices-outcome.result.0 ran
+    let ran = is_run c.args.schedule.now c.args.stream c.args.out _ _ text _ texts c.as_slice-2.result.now _ _ _ _ _ _ _ c.run_devices-ran.result.0 c.end_output.result c.in_ok-plan.ensures.said.1 same lent there c.in-Ok-create.ensures.noted c.end_output.ensures c.run_devices-ran.ensures.flies in
+    run_stops c.args.schedule.now c.args.stream c.args.out _ _ _ c.end_output.result ran
