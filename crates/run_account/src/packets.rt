@@ -30,17 +30,12 @@ pub fn mid_in(bytes: &[u8]) -> Option<u16>
 }
 
 impl PacketCount {
-    /// The count after a packet of this message id.
-    fn with(self, mid: u16) -> PacketCount
-        ensures { result ≡ packet_with mid self }
+    /// Counts a packet of this message id.
+    fn add(&mut self, mid: u16)
+        ensures { self.new ≡ packet_with mid self.old }
     {
-        if mid == self.mid {
-            PacketCount {
-                mid: self.mid,
-                packets: self.packets.saturating_add(1),
-            }
-        } else {
-            self
+        if self.mid == mid {
+            self.packets = self.packets.saturating_add(1);
         }
     }
 }
@@ -50,6 +45,6 @@ pub fn count_packet(counts: &mut [PacketCount], mid: u16)
     ensures { counts.new ≡ map (packet_with mid) counts.old }
 {
     for count in counts.iter_mut() {
-        *count = count.with(mid);
+        count.add(mid);
     }
 }

@@ -1,6 +1,6 @@
 //! Samples in a row that led to the same results: each is noted in a few steps, and they are counted together when a result changes.
 
-ghost use Rattle.std.specs.Prelude.{◌≡◌, ◌+◌, ◌<◌, false, map, option_map, IsTrue, Some};
+ghost use Rattle.std.specs.Prelude.{◌≡◌, ◌+◌, ◌<◌, [], ◌∷◌, false, map, option_map, IsTrue, Some};
 ghost use Rattle.std.specs.List.{AllByRecursion, list_all};
 ghost use Rattle.lc_model.specs.LimitChecker.Steps.{is_disabled};
 ghost use Rattle.flight_core.specs.Records.{most_counted};
@@ -11,8 +11,8 @@ ghost use Rattle.run_account.specs.Samples.{requests_of};
 use crate::clock::RunClock;
 use crate::counts::RuleRow;
 use crate::lanes::Lane;
-use crate::requests::{Requests, is_mode_on, taken_result};
-use lc_model::ApResult;
+use crate::requests::{Requests, is_mode_on, sampled_result};
+use lc_model::{ApResult, SampleRequest};
 use limit_engine::Engine;
 
 /// Samples in a row with the same results of all rules, which are not counted yet.
@@ -48,6 +48,7 @@ fn is_same(one: Option<ApResult>, other: Option<ApResult>) -> bool
 }
 
 /// Whether the list has the results of all rules that these requests led to, for an engine whose mode allows samples.
+#[inline(always)]
 fn are_those(results: &[Option<ApResult>], requests: &Requests<'_>, engine: &Engine) -> bool
     requires { is_disabled engine.now.mode ≡ false }
     ensures { IsTrue result → AreAllResults (requests_of requests.now) (Some engine.now) results.now }
@@ -55,16 +56,35 @@ fn are_those(results: &[Option<ApResult>], requests: &Requests<'_>, engine: &Eng
     if results.len() < engine.rule_count() {
         return false;
     }
-    let takes_all = requests.takes_all(results.len());
     for rule in 0..results.len() {
         if !is_same(
             found_at(results, rule),
-            taken_result(requests, takes_all, engine, rule),
+            sampled_result(requests, engine, rule),
         ) {
             return false;
         }
     }
     true
+}
+
+/// The same for one request, as nearly all samples have it: a loop without a test for the kind of the requests.
+#[inline(never)]
+fn are_those_of_one(results: &[Option<ApResult>], request: SampleRequest, engine: &Engine) -> bool
+    requires { is_disabled engine.now.mode ≡ false }
+    ensures { IsTrue result → AreAllResults (request ∷ []) (Some engine.now) results.now }
+{
+    are_those(results, &Requests::One(request), engine)
+}
+
+/// The same for any requests.
+fn are_those_of_any(results: &[Option<ApResult>], requests: &Requests<'_>, engine: &Engine) -> bool
+    requires { is_disabled engine.now.mode ≡ false }
+    ensures { IsTrue result → AreAllResults (requests_of requests.now) (Some engine.now) results.now }
+{
+    match *requests {
+        Requests::One(request) => are_those_of_one(results, request, engine),
+        Requests::Nothing | Requests::Slot(_) => are_those(results, requests, engine),
+    }
 }
 
 /// Whether the list has the results of all rules that these requests led to, in the engine after them; false if there is none, or its
@@ -78,7 +98,7 @@ pub fn are_repeated(
         (option_map (λ engine. engine.now) engine.entry) results.now }
 {
     match engine {
-        Some(engine) if is_mode_on(engine.mode()) => are_those(results, requests, engine),
+        Some(engine) if is_mode_on(engine.mode()) => are_those_of_any(results, requests, engine),
         _ => false,
     }
 }

@@ -117,17 +117,6 @@ impl Requests<'_> {
             Requests::One(request) => request.takes(rule),
         }
     }
-
-    /// Whether one request takes all rules with numbers below `count`; false also where several do so together.
-    pub fn takes_all(&self, count: usize) -> bool
-        ensures { IsTrue result → (rule : ℕ) → rule < count →
-            are_taking (requests_of self.now) rule ≡ true }
-    {
-        match self {
-            Requests::One(request) if count > 0 => request.takes(0) && request.takes(count - 1),
-            _ => false,
-        }
-    }
 }
 
 /// Whether a Limit Checker in this mode samples.
@@ -166,25 +155,6 @@ pub(crate) fn sampled_result(
     ensures { result ≡ result_of (requests_of requests.now) (Some engine.now) rule }
 {
     if requests.takes(rule) {
-        point_result(engine, rule)
-    } else {
-        None
-    }
-}
-
-/// The same, where it may be known that one of the requests takes the rule.
-#[inline(always)]
-pub(crate) fn taken_result(
-    requests: &Requests<'_>,
-    is_taken: bool,
-    engine: &Engine,
-    rule: usize,
-) -> Option<ApResult>
-    requires enabled { is_disabled engine.now.mode ≡ false }
-    requires taken { IsTrue is_taken → are_taking (requests_of requests.now) rule ≡ true }
-    ensures { result ≡ result_of (requests_of requests.now) (Some engine.now) rule }
-{
-    if is_taken || requests.takes(rule) {
         point_result(engine, rule)
     } else {
         None

@@ -1,5 +1,5 @@
 -- Lists of meanings that are the same by the test are equal.
-use Rattle.std.proofs.Common.{◌≡◌, refl, sym, ◌∙◌, ap, arith, ℕ, ◌==◌, ◌&&◌, Bool, true, false, List, [], ◌∷◌, length, bytes_eq, Some}
+use Rattle.std.proofs.Common.{◌≡◌, refl, sym, ◌∙◌, ap, arith, ℕ, ◌==◌, ◌&&◌, Bool, true, false, List, [], ◌∷◌, length, bytes_eq, Some, None}
 use Rattle.std.proofs.lemmas.Bool.{eq-eqb, eqb-true, false≢true}
 use Rattle.std.proofs.lemmas.Slice.Eq.{bytes_eq-Decides}
 use Rattle.lc_model.specs.Codes.{event_code, event_numbered}
@@ -8,6 +8,7 @@ use Rattle.lc_model.specs.declared.rule.EventKind.TheVariants.{Debug, Informatio
 use Rattle.run_stepper.specs.Trace.{packets_within}
 use Rattle.run_comparison.specs.Asked.{sequences_in}
 use Rattle.run_comparison.specs.Meaning.{Meaning, Request, Event}
+use Rattle.run_comparison.specs.Met.{kept, shown_by}
 use Rattle.run_comparison.specs.Order.{are_same, is_same}
 
 and_left : (a b : Bool) → (a && b) ≡ true → a ≡ true
@@ -79,3 +80,15 @@ pub none_requested : (packets : List ℕ) → (length packets == 0) ≡ true →
 unfolding packets_within
 none_requested [] none = refl
 none_requested (byte ∷ packets) none = absurd (omega (arith, eqb-true (length (byte ∷ packets)) 0 none))
+
+-- a record that led to no packets is not kept
+none_kept : (keeps_all : Bool) (number : ℕ) → None ≡ kept keeps_all (shown_by (record { number = number; old = []; new = [] }))
+unfolding packets_within
+none_kept true number = refl
+none_kept false number = refl
+
+pub nothing_kept : (keeps_all : Bool) (number : ℕ) (old new : List ℕ) → (length old == 0) ≡ true → (length new == 0) ≡ true →
+    None ≡ kept keeps_all (shown_by (record { number = number; old = old; new = new }))
+nothing_kept keeps_all number [] [] e f = none_kept keeps_all number
+nothing_kept keeps_all number [] (byte ∷ new) e f = absurd (omega (arith, eqb-true (length (byte ∷ new)) 0 f))
+nothing_kept keeps_all number (byte ∷ old) new e f = absurd (omega (arith, eqb-true (length (byte ∷ old)) 0 e))

@@ -9,7 +9,7 @@ loop-rule-init c = λ rule less. absurd (omega (arith, less))
 pub loop-rule-preserved : goal.loop-rule-preserved
 loop-rule-preserved c =
     one_result_more (requests_of c.args.requests.now) (Some c.args.engine.now) c.args.results.now c.loop-rule.rule c.loop-rule.invariant
-    (sym c.found_at.ensures ∙ c.is_same.ensures (search rules) ∙ c.taken_result.ensures)
+    (sym c.found_at.ensures ∙ c.is_same.ensures (search rules) ∙ c.sampled_result.ensures)
 
 pub returns : goal.returns
 returns c = λ is.
