@@ -29,3 +29,4 @@ pub mod Resubscribing
 pub mod Ordered
 pub mod Step
 pub mod Stepped
+pub mod Capacities

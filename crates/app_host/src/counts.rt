@@ -16,7 +16,7 @@ pub struct Counts {
 }
 
 impl Model for Counts {
-    ghost use Rattle.std.specs.Prelude.{◌≡◌, ◌<◌, ℕ, List, length, All};
+    ghost use Rattle.std.specs.Prelude.{◌≡◌, ◌<◌, ℕ, List, length, All, vec_capacity};
     ghost use Rattle.lc_model.specs.Packet.{count_end, message_id_end};
 
     ghost Value = { List ℕ };
@@ -24,7 +24,8 @@ impl Model for Counts {
     ghost view = { λ c. c.counts.items };
 
     ghost invariant = { λ c. (length c.counts.items ≡ message_id_end) ×
-        All (λ (count : ℕ). count < count_end) c.counts.items };
+        All (λ (count : ℕ). count < count_end) c.counts.items ×
+        (vec_capacity c.counts ≡ message_id_end) };
 }
 
 impl Counts {
@@ -37,6 +38,13 @@ impl Counts {
             counts.push_reserved(0);
         }
         Ok(Counts { counts })
+    }
+
+    /// How many message ids there are counts for, which no call changes.
+    pub fn capacity(&self) -> usize
+        ensures { result ≡ message_id_end }
+    {
+        self.counts.capacity()
     }
 
     /// Returns the sequence count of the next packet of a message id, and counts that packet. Condition: an id of packet

@@ -4,6 +4,7 @@ ghost use Rattle.std.specs.Prelude.{◌≡◌, map, is_some, count_by, option_ma
 ghost use Rattle.lc_model.specs.Kept.Executive as model;
 ghost use Rattle.lc_model.specs.Kept.Executive.{is_called};
 ghost use Rattle.lc_model.specs.Kept.Stations.{first_host};
+ghost use Rattle.app_host.specs.Capacities.{host_capacities};
 ghost use Rattle.app_host.specs.declared.error.HostError.TheVariants.{Memory};
 ghost use Rattle.app_host.specs.Hosted.{Object, object_at, shown, member_of, in_numbers, objects_in};
 ghost use Rattle.app_host.specs.Whole.{AreSpares, IsWhole, IsQuiet};
@@ -11,6 +12,7 @@ ghost use Rattle.event_service.specs.Types.{is_type_on};
 ghost use Rattle.tbl_service.specs.Images.{active_of};
 
 use crate::app::App;
+use crate::capacities::HostCapacities;
 use crate::error::HostError;
 use crate::objects::{seat_of, spares_of};
 use crate::services::Services;
@@ -104,6 +106,14 @@ impl<B: App> Host<B> {
             ((in_numbers (shown B.meaning self.now)).executive.services.events name.now) }
     {
         self.services.events.is_type_on(name, kind)
+    }
+
+    /// The capacities of the services' lists; of those by seat, this seat's. They are those with which the lists were made, at any
+    /// time: no call of the host, and no call of an application, makes a list grow.
+    pub fn capacities(&self, seat: Seat) -> HostCapacities
+        ensures { result ≡ host_capacities }
+    {
+        self.services.capacities(seat)
     }
 
     /// Whether a failed write has closed the host, so that it handles no more records.

@@ -4,6 +4,7 @@
 
 mod app;
 mod boxed;
+mod capacities;
 mod counts;
 mod deliveries;
 mod departure;
@@ -30,6 +31,7 @@ mod table_commands;
 mod texts;
 
 pub use app::App;
+pub use capacities::HostCapacities;
 pub use counts::Counts;
 pub use error::{HostError, WriteFault};
 pub use host::Host;

@@ -52,6 +52,13 @@ impl Outgoing {
         &self.bytes[..self.size]
     }
 
+    /// The capacity of the list in bytes, which no call changes.
+    pub fn capacity(&self) -> usize
+        ensures { result ≡ outgoing_room }
+    {
+        self.bytes.capacity()
+    }
+
     /// Whether nothing waits.
     pub fn is_empty(&self) -> bool
         ensures none { result ≡ true → self.now ≡ [] }

@@ -9,8 +9,10 @@ ghost use Rattle.lc_model.specs.Services.Bus.{no_pipes};
 ghost use Rattle.lc_model.specs.Services.Events.{Sender, first_events, sender_at, event_asked};
 ghost use Rattle.lc_model.specs.Services.Interface.{outgoing_room};
 ghost use Rattle.lc_model.specs.Services.Tables.{first_tables};
+ghost use Rattle.app_host.specs.Capacities.{host_capacities};
 ghost use Rattle.app_host.specs.Telling.{Tells};
 
+use crate::capacities::HostCapacities;
 use crate::counts::Counts;
 use crate::outgoing::Outgoing;
 use event_service::Events;
@@ -59,6 +61,19 @@ impl Services {
             },
             outgoing: Outgoing::new(alloc)?,
         })
+    }
+
+    /// The capacities of all lists; of those by seat, this seat's. No call changes them.
+    pub fn capacities(&self, seat: Seat) -> HostCapacities
+        ensures { result ≡ host_capacities }
+    {
+        HostCapacities {
+            bus: self.bus.capacities(seat),
+            senders: self.events.capacity(),
+            tables: self.tables.capacities(seat),
+            counts: self.counts.capacity(),
+            outgoing: self.outgoing.capacity(),
+        }
     }
 
     /// Requests an event of the seat's application, or of `HOST` if `from` is `None`; its packet waits to be written if types

@@ -4,6 +4,7 @@ ghost use Rattle.std.specs.Prelude.{◌≡◌, ◌+◌, ◌<◌, ◌≤◌, leng
 ghost use Rattle.std.specs.List.{position_from};
 ghost use Rattle.lc_model.specs.Events.Log.{FilterSet, FiltersReset, TypesSet};
 ghost use Rattle.lc_model.specs.Events.Outgoing.{event_packet_size, longest_event_text};
+ghost use Rattle.lc_model.specs.Kept.Executive.{seat_count};
 ghost use Rattle.lc_model.specs.Name.{app_name_size};
 ghost use Rattle.lc_model.specs.Services.Events.{IsEventService, first_events, is_sender, events_among, sender_named, registered_at, unregistered_at, commanded, event_asked};
 ghost use Rattle.event_service.specs.declared.error.EventError.TheVariants.{Memory};
@@ -33,7 +34,8 @@ pub struct Events {
 }
 
 impl Model for Events {
-    ghost use Rattle.std.specs.Prelude.{◌≡◌};
+    ghost use Rattle.std.specs.Prelude.{◌≡◌, vec_capacity};
+    ghost use Rattle.lc_model.specs.Kept.Executive.{seat_count};
     ghost use Rattle.lc_model.specs.Name.{host_name};
     ghost use Rattle.lc_model.specs.Services.Events.{EventService, IsEventService};
     ghost use Rattle.event_service.specs.Service.{service_of, AreServices};
@@ -42,7 +44,8 @@ impl Model for Events {
 
     ghost view = { λ e. service_of e.host e.places.items e.sent };
 
-    ghost invariant = { λ e. AreServices e.host e.places.items e.sent };
+    ghost invariant = { λ e. AreServices e.host e.places.items e.sent ×
+        (vec_capacity e.places ≡ seat_count) };
 }
 
 impl Events {
@@ -54,13 +57,20 @@ impl Events {
     {
         let mut places = Vec::with_capacity(alloc, Seat::COUNT)?;
         for _ in 0..Seat::COUNT {
-            places.push(None)?;
+            places.push_reserved(None);
         }
         Ok(Events {
             host: Sender::new(HOST),
             places,
             sent: 0,
         })
+    }
+
+    /// How many seats there are places for, which no call changes.
+    pub fn capacity(&self) -> usize
+        ensures { result ≡ seat_count }
+    {
+        self.places.capacity()
     }
 
     /// States the invariant: eight seats, distinct names of the senders and `HOST`, a count below 16,384. The body does

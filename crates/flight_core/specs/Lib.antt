@@ -22,3 +22,4 @@ pub mod Leaving
 pub mod Promises
 pub mod Worlds
 pub mod Room
+pub mod Capacities

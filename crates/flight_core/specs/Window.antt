@@ -11,11 +11,15 @@ pub record Shown : Type 0 where
 abbrev pub empty_window : Shown
 empty_window = record { last = []; held = [] }
 
+-- The capacity of the buffer: room for 73,739 unread bytes and 16,384 that were taken.
+abbrev pub window_room : ℕ
+window_room = 90123
+
 -- The bytes taken last begin at `last`, the unread bytes at `start`, and they end at `end`; the buffer has `size` bytes and the
--- capacity that it was made with, for 73,739 unread bytes and 16,384 that were taken.
+-- capacity that it was made with.
 pub record IsWindow (last start end size capacity : ℕ) : Type 0 where
   pub ordered : last ≤ start
   pub inside : start ≤ end
   pub few : end ≤ start + most_held
   pub there : end ≤ size
-  pub room : capacity ≡ 90123
+  pub room : capacity ≡ window_room

@@ -5,18 +5,20 @@ ghost use Rattle.lc_model.specs.Device.{NoWriteRetried};
 ghost use Rattle.app_host.specs.Hosted.{objects_in, shown};
 ghost use Rattle.app_host.specs.Left.{WasClosed};
 ghost use Rattle.app_host.specs.Whole.{AreSpares};
+ghost use Rattle.flight_core.specs.Capacities.{fed_capacities};
 ghost use Rattle.flight_core.specs.Compiled.{IsNotCompiled, sources_of};
 ghost use Rattle.flight_core.specs.Feeding.{HandlesOne, HasBegun, IsReady, boxes_on, fed_by, fed_with, feeding_of};
 ghost use Rattle.flight_core.specs.Leaving.{LeavesForFront};
 ghost use Rattle.flight_core.specs.Records.{front_of, most_held, taken_of};
 
+use crate::capacities::FedCapacities;
 use crate::compiling::compile_all;
 use crate::error::RunError;
 use crate::halt::Halt;
 use crate::handling::handle_next;
 use crate::records::Records;
 use app_host::{App, Host};
-use lc_model::ByteSink;
+use lc_model::{ByteSink, Seat};
 use rpn_compiler::TablePair;
 use std::alloc::Global;
 
@@ -111,6 +113,16 @@ impl<B: App> FedHost<B> {
         ensures { result ≡ (feeding_of B.meaning self.now).held.count }
     {
         self.records.count()
+    }
+
+    /// The capacities of the stream's buffer and of the host's lists; of those by seat, this seat's. No call changes them.
+    pub fn capacities(&self, seat: Seat) -> FedCapacities
+        ensures { result ≡ fed_capacities }
+    {
+        FedCapacities {
+            host: self.host.capacities(seat),
+            stream: self.records.capacity(),
+        }
     }
 
     /// The compiled table files of the rule texts, in order.

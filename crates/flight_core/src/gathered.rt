@@ -66,6 +66,13 @@ impl<W: ByteSink, S: Outset> Gathered<W, S> {
         device
     }
 
+    /// How many bytes the buffer has room for.
+    pub fn capacity(&self) -> usize
+        ensures { result ≡ most_gathered }
+    {
+        self.held.capacity()
+    }
+
     /// Collects these bytes. Condition: there is room for them.
     #[inline(always)]
     fn hold(&mut self, part: &[u8])

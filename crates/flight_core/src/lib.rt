@@ -2,6 +2,7 @@
 #![tactic(auto)]
 
 mod bringing;
+mod capacities;
 mod compiling;
 mod error;
 mod feeding;
@@ -20,6 +21,7 @@ mod running;
 mod settling;
 mod window;
 
+pub use capacities::FedCapacities;
 pub use error::{Report, RunError};
 pub use feeding::FedHost;
 pub use found::Found;

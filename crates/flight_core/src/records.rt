@@ -7,6 +7,7 @@ ghost use Rattle.lc_model.specs.Host.Stream.{header_size, max_body};
 ghost use Rattle.flight_core.specs.Front.{part_of};
 ghost use Rattle.flight_core.specs.Found.{answer_in, IsShortNamed, NamesText};
 ghost use Rattle.flight_core.specs.Records.{nothing_held, taken_of, fed, next_answer, after_next, front_of, most_held, IsRecord};
+ghost use Rattle.flight_core.specs.Window.{window_room};
 ghost use Rattle.flight_core.specs.contracts.records.Records.{the_row};
 
 use crate::found::{Found, read_off};
@@ -119,6 +120,13 @@ impl Records {
         ensures { result ≡ self.now.count }
     {
         self.count
+    }
+
+    /// How many bytes, unread or of records that were taken, there is room for. No call changes it.
+    pub fn capacity(&self) -> usize
+        ensures { result ≡ window_room }
+    {
+        self.window.capacity()
     }
 
     /// The number of unread bytes.

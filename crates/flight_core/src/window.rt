@@ -1,7 +1,7 @@
 //! A buffer of unread bytes: pieces are appended at its end, records are taken off its start.
 
 ghost use Rattle.std.specs.Prelude.{◌≡◌, ◌≤◌, ◌+◌, ◌-◌, ◌++◌, [], length, take, drop, IfOk, vec_capacity};
-ghost use Rattle.flight_core.specs.Window.{empty_window};
+ghost use Rattle.flight_core.specs.Window.{empty_window, window_room};
 
 use lc_model::write_at;
 use std::alloc::{AllocError, Global};
@@ -65,6 +65,13 @@ impl Window {
             start: 0,
             end: 0,
         })
+    }
+
+    /// How many bytes there is room for.
+    pub fn capacity(&self) -> usize
+        ensures { result ≡ window_room }
+    {
+        self.room.capacity()
     }
 
     /// The unread bytes.

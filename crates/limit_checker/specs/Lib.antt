@@ -5,3 +5,4 @@ pub mod Standings
 pub mod Starting
 pub mod Housekeeping
 pub mod Adoption
+pub mod Capacities

@@ -17,8 +17,10 @@ ghost use Rattle.app_host.specs.Calls.{LeavesEmpty};
 ghost use Rattle.app_host.specs.Shared.{held_by, shared};
 ghost use Rattle.limit_engine.specs.Engine.{without_tables};
 ghost use Rattle.limit_checker.specs.Application.{IsHome, MayHave, Answers};
+ghost use Rattle.limit_checker.specs.Capacities.{checker_capacities};
 
 use crate::asked::AskedList;
+use crate::capacities::CheckerCapacities;
 use crate::telling::tell;
 use crate::{command, reacting, standings, texts};
 use app_host::Services;
@@ -49,6 +51,15 @@ impl Application {
             seat: None,
             asked: AskedList::new(alloc)?,
         })
+    }
+
+    pub(crate) fn capacities(&self) -> CheckerCapacities
+        ensures { result ≡ checker_capacities }
+    {
+        CheckerCapacities {
+            engine: self.engine.capacities(),
+            asked: self.asked.capacity(),
+        }
     }
 
     /// Executes a command (message id 0x18A4, event 8), or refuses it (event 9).

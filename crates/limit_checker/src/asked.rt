@@ -1,6 +1,7 @@
 //! The result of a sample.
 
 ghost use Rattle.std.specs.Prelude.{◌≡◌, [], IfOk};
+ghost use Rattle.lc_model.specs.Codes.{table_entries};
 ghost use Rattle.limit_engine.specs.Engine.{after_sample, points_sampled};
 ghost use Rattle.limit_engine.specs.Reactions.{requests_in};
 
@@ -35,6 +36,13 @@ impl AskedList {
         Ok(AskedList {
             items: Vec::with_capacity(alloc, TABLE_ENTRIES)?,
         })
+    }
+
+    /// How many items there is room for.
+    pub(crate) fn capacity(&self) -> usize
+        ensures { result ≡ table_entries }
+    {
+        self.items.capacity()
     }
 
     pub(crate) fn as_slice(&self) -> &[Asked]

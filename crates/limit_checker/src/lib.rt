@@ -5,6 +5,7 @@
 mod adoption;
 mod application;
 mod asked;
+mod capacities;
 mod checker;
 mod command;
 mod dispatch;
@@ -16,4 +17,5 @@ mod telling;
 mod texts;
 mod verdict;
 
+pub use capacities::CheckerCapacities;
 pub use checker::LimitChecker;

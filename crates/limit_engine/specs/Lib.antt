@@ -1,7 +1,9 @@
--- Used by the engine's contracts, for the crates above: the effects of its calls, the reactions to a sample, and the refusals.
+-- Used by the engine's contracts, for the crates above: the effects of its calls, the reactions to a sample, the
+-- refusals, and the capacities of its lists.
 pub mod Reactions
 pub mod Engine
 pub mod States
+pub mod Capacities
 -- Used only by its own functions and invariants.
 pub mod Ids
 pub mod Bytes

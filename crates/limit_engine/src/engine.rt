@@ -10,6 +10,7 @@ ghost use Rattle.lc_model.specs.declared.kind.Kind.TheVariants.{Wdt, Adt};
 ghost use Rattle.lc_model.specs.Tables.Half.{IsMatch};
 ghost use Rattle.lc_model.specs.Tables.InForce.{layouts};
 ghost use Rattle.lc_model.specs.Tables.Spelled.{spelled_terms, spelled_rules};
+ghost use Rattle.limit_engine.specs.Capacities.{engine_capacities};
 ghost use Rattle.limit_engine.specs.Engine as engine;
 ghost use Rattle.limit_engine.specs.Engine.{after_telemetry, points_sampled, tells_short, with_tables, without_tables};
 ghost use Rattle.limit_engine.specs.Reactions.{requests_in, AreInOrder};
@@ -17,6 +18,7 @@ ghost use Rattle.limit_engine.specs.States.{answered, outcome, unless_refused};
 ghost use Rattle.limit_engine.specs.Tables.{most_probes, most_steps};
 
 use crate::actionpoint::{Point, RuleEntry};
+use crate::capacities::EngineCapacities;
 use crate::groups::Watchpoints;
 use crate::plan::Plan;
 use crate::reaction::Asked;
@@ -114,6 +116,20 @@ impl Engine {
             steps: 0,
             probes: 0,
         })
+    }
+
+    /// The capacities of all lists. No call changes them.
+    pub fn capacities(&self) -> EngineCapacities
+        ensures { result ≡ engine_capacities }
+    {
+        EngineCapacities {
+            watchpoints: self.watchpoints.capacities(),
+            watch: self.watch.capacity(),
+            entries: self.entries.capacity(),
+            points: self.points.capacity(),
+            words: self.words.capacity(),
+            plan: self.plan.capacities(),
+        }
     }
 
     /// Returns to the state after `new`: active, without tables, with 0 steps and 0 probes.

@@ -3,6 +3,7 @@
 #![tactic(auto)]
 
 mod actionpoint;
+mod capacities;
 mod engine;
 mod field;
 mod groups;
@@ -17,6 +18,7 @@ mod states;
 mod step;
 mod watchpoint;
 
+pub use capacities::{EngineCapacities, PlanCapacities, WatchpointCapacities};
 pub use engine::{Engine, RuleEvent, Standing};
 pub use reaction::{Asked, Failure, Reactions, Turn};
 pub use states::StateRefusal;

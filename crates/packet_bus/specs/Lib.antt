@@ -6,3 +6,4 @@ pub mod Line
 pub mod Inside
 pub mod Filled
 pub mod Hearers
+pub mod Capacities

@@ -1,10 +1,11 @@
 //! The bus (cFE user's guide, software bus services; the pool is this project's own).
 
-ghost use Rattle.std.specs.Prelude.{◌≡◌, ◌≤◌, ◌<◌, ◌+◌, ◌++◌, ℕ, true, false, length, drop, map, None, is_some, IfOk, IfErr, OnOk, OnErr, replicate, IfSome, IfNone, option_map, slice_set, count_by};
+ghost use Rattle.std.specs.Prelude.{◌≡◌, ◌≤◌, ◌<◌, ◌+◌, ◌++◌, ℕ, true, false, length, drop, map, None, is_some, IfOk, IfErr, OnOk, OnErr, replicate, IfSome, IfNone, option_map, slice_set, count_by, vec_capacity};
 ghost use Rattle.lc_model.specs.Kept.Executive.{ready_seat, seat_count};
 ghost use Rattle.lc_model.specs.Packet.{header_fault, message_id, longest_packet, message_id_end};
 ghost use Rattle.lc_model.specs.Services.Bus as model;
 ghost use Rattle.lc_model.specs.Services.Bus.{after, refusal_of, seen, pipe_at, oldest_at, no_pipes, publish_refusal, IsPublished, free_publications, most_publications, pipe_depth};
+ghost use Rattle.packet_bus.specs.Capacities.{bus_capacities};
 ghost use Rattle.packet_bus.specs.Error.{refusal_in};
 ghost use Rattle.packet_bus.specs.declared.error.BusError.TheVariants.{Memory};
 ghost use Rattle.packet_bus.specs.Line.{behind_first, first_slot, has_slots, is_long, slots_in, with_slot};
@@ -15,6 +16,7 @@ ghost use Rattle.packet_bus.specs.Seats.{is_in};
 ghost use Rattle.packet_bus.specs.Slots.{slot_at, used_slots};
 
 use crate::BusError;
+use crate::capacities::BusCapacities;
 use crate::header::{checked_message_id, judged_message_id};
 use crate::pipe::PipePlace;
 use crate::pool::{PACKET_SIZE, Pool};
@@ -42,7 +44,9 @@ pub struct Bus {
 }
 
 impl Model for Bus {
-    ghost use Rattle.std.specs.Prelude.{List, Option};
+    ghost use Rattle.std.specs.Prelude.{◌≡◌, List, Option, vec_capacity};
+    ghost use Rattle.lc_model.specs.Kept.Executive.{seat_count};
+    ghost use Rattle.lc_model.specs.Packet.{message_id_end};
     ghost use Rattle.lc_model.specs.Services.Bus.{Queue};
     ghost use Rattle.packet_bus.specs.Inside.{shown, IsBus};
 
@@ -50,12 +54,14 @@ impl Model for Bus {
 
     ghost view = { λ b. shown b.pool b.places.items };
 
-    ghost invariant = { λ b. IsBus b.places.items b.pool b.audience.items b.ready b.full };
+    ghost invariant = { λ b. IsBus b.places.items b.pool b.audience.items b.ready b.full
+        × (vec_capacity b.places ≡ seat_count) × (vec_capacity b.audience ≡ message_id_end) };
 }
 
 /// An empty set of seats for each message id.
 fn empty_rows(alloc: Global) -> Result<Vec<SeatSet>, AllocError>
-    ensures { IfOk result (λ rows. rows.items ≡ replicate message_id_end nobody) }
+    ensures rows { IfOk result (λ rows. rows.items ≡ replicate message_id_end nobody) }
+    ensures room { IfOk result (λ rows. vec_capacity rows ≡ message_id_end) }
 {
     let mut rows = Vec::with_capacity(alloc, MESSAGE_IDS)?;
     for _ in 0..MESSAGE_IDS {
@@ -66,7 +72,8 @@ fn empty_rows(alloc: Global) -> Result<Vec<SeatSet>, AllocError>
 
 /// A place for each seat, without a pipe.
 fn empty_places(alloc: Global) -> Result<Vec<PipePlace>, AllocError>
-    ensures { IfOk result (λ places. places.items ≡ no_lines) }
+    ensures places { IfOk result (λ places. places.items ≡ no_lines) }
+    ensures room { IfOk result (λ places. vec_capacity places ≡ seat_count) }
 {
     let mut places = Vec::with_capacity(alloc, Seat::COUNT)?;
     for _ in 0..Seat::COUNT {
@@ -84,6 +91,7 @@ fn deliver_to(seat: Seat, slot: u16, places: &mut Vec<PipePlace>, full: &mut Sea
     ensures places { places.new.items ≡ slice_set places.old.items seat
         (option_map (with_slot slot) (place_at places.old.items seat)) }
     ensures full { full.new ≡ map is_long places.new.items }
+    ensures capacity { vec_capacity places.new ≡ vec_capacity places.old }
 {
     if places[seat.index()].push(slot) {
         full.insert(seat);
@@ -112,6 +120,7 @@ fn deliver_to_each(
         slice_set pool.old result record { packet = packet.now; readers = count_by is_in hearers } }
     ensures places { places.new.items ≡ delivered result hearers places.old.items }
     ensures full { full.new ≡ map is_long places.new.items }
+    ensures capacity { vec_capacity places.new ≡ vec_capacity places.old }
 {
     let slot = pool.reserve(hearers.count());
     let mut left = hearers;
@@ -145,6 +154,7 @@ fn deliver(
     ensures places { places.new.items ≡ delivered result hearers places.old.items }
     ensures ready { ready.new ≡ map has_slots places.new.items }
     ensures full { full.new ≡ map is_long places.new.items }
+    ensures capacity { vec_capacity places.new ≡ vec_capacity places.old }
 {
     ready.add(&hearers);
     let Some(seat) = hearers.only() else {
@@ -172,6 +182,7 @@ fn take_oldest(
         (option_map behind_first (place_at places.old.items seat)) }
     ensures ready { ready.new ≡ map has_slots places.new.items }
     ensures full { full.new ≡ map is_long places.new.items }
+    ensures capacity { vec_capacity places.new ≡ vec_capacity places.old }
     ensures below { seat < seat_count }
 {
     let place = &mut places[seat.index()];
@@ -362,6 +373,21 @@ impl Bus {
         ensures { result ≡ free_publications self.now }
     {
         self.pool.free() as u32
+    }
+
+    /// The capacities of all lists; of those of the pipes, this seat's, open or not. No call changes them.
+    pub fn capacities(&self, seat: Seat) -> BusCapacities
+        ensures { result ≡ bus_capacities }
+    {
+        let place = &self.places[seat.index()];
+        BusCapacities {
+            seats: self.places.capacity(),
+            message_ids: self.audience.capacity(),
+            packets: self.pool.slot_capacity(),
+            free: self.pool.free_capacity(),
+            subscriptions: place.subscription_capacity(),
+            waiting: place.waiting_capacity(),
+        }
     }
 
     fn has_pipe(&self, seat: Seat) -> bool

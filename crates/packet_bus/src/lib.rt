@@ -3,6 +3,7 @@
 #![tactic(auto)]
 
 mod bus;
+mod capacities;
 mod error;
 mod header;
 mod pipe;
@@ -10,6 +11,7 @@ mod pool;
 mod seats;
 
 pub use bus::Bus;
+pub use capacities::BusCapacities;
 pub use error::BusError;
 pub use header::{Header, HeaderFault, PacketKind, parse_header};
 pub use packet_builders::{build_command, build_telemetry};

@@ -2,7 +2,7 @@
 
 ghost use Rattle.std.specs.Prelude.{◌≡◌, ◌<◌, ◌≤◌, ◌==◌, true, false, length, is_some, option_map, Some, None, IfOk, IfSome};
 ghost use Rattle.std.specs.List.{position_from};
-ghost use Rattle.lc_model.specs.Services.Bus.{most_subscriptions};
+ghost use Rattle.lc_model.specs.Services.Bus.{most_subscriptions, pipe_depth};
 ghost use Rattle.packet_bus.specs.Line.{Line, new_line, mids_in, slots_in, first_slot, behind_first, with_slot, with_subscription, without_subscription, is_long, has_slots, hears_mid, first_mid};
 
 use circular_buffer::HeapCircularBuffer;
@@ -118,6 +118,20 @@ impl PipePlace {
         ensures few { result ≤ most_subscriptions }
     {
         self.subscriptions.len()
+    }
+
+    /// How many subscriptions there is room for.
+    pub fn subscription_capacity(&self) -> usize
+        ensures { result ≡ most_subscriptions }
+    {
+        self.subscriptions.capacity()
+    }
+
+    /// How many packets there is room for.
+    pub fn waiting_capacity(&self) -> usize
+        ensures { result ≡ pipe_depth }
+    {
+        self.waiting.capacity()
     }
 
     /// The oldest subscription, if there is one.

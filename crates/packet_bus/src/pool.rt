@@ -160,6 +160,20 @@ impl Pool {
         SLOTS - self.slots.len() + self.free.len()
     }
 
+    /// How many slots the list of used slots has room for.
+    pub fn slot_capacity(&self) -> usize
+        ensures { result ≡ most_publications }
+    {
+        self.slots.capacity()
+    }
+
+    /// How many numbers the list of free slots has room for.
+    pub fn free_capacity(&self) -> usize
+        ensures { result ≡ most_publications }
+    {
+        self.free.capacity()
+    }
+
     /// Takes a free slot for a packet that `readers` pipes will wait for, and returns the slot's number.
     pub fn reserve(&mut self, readers: u8) -> u16
         requires room { used_slots self.old < most_publications }

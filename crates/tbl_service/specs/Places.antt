@@ -5,11 +5,15 @@ use Rattle.lc_model.specs.Refusal.{Refusal, ◌>>=◌, provided}
 use Rattle.lc_model.specs.Tables.Slot.{Slot, loaded, no_images}
 use Rattle.lc_model.specs.Services.Tables.{Table, Handle, fits_table, table_at}
 
+-- The most tables of a seat.
+abbrev pub most_tables : ℕ
+most_tables = 2
+
 -- A seat has two pairs of image buffers, in use or spare, and both lists have the room for two that they were made with.
 pub record IsPlace (tables : List Table) (spare : List (Slot (List ℕ))) (table_room spare_room : ℕ) : Type 0 where
-  pub images : length tables + length spare ≡ 2
-  pub tables_fit : table_room ≡ 2
-  pub spare_fits : spare_room ≡ 2
+  pub images : length tables + length spare ≡ most_tables
+  pub tables_fit : table_room ≡ most_tables
+  pub spare_fits : spare_room ≡ most_tables
 
 -- The table with another slot.
 abbrev pub with_images : Slot (List ℕ) → Table → Table

@@ -43,6 +43,13 @@ impl Buffer {
         })
     }
 
+    /// How many bytes there is room for.
+    pub(crate) fn capacity(&self) -> usize
+        ensures { result ≡ max_file_size }
+    {
+        self.bytes.capacity()
+    }
+
     /// Replaces the buffer's bytes with these.
     pub(crate) fn fill(&mut self, bytes: &[u8])
         requires { length bytes.now ≤ max_file_size }

@@ -3,6 +3,7 @@
 #![tactic(auto)]
 
 mod buffer;
+mod capacities;
 mod error;
 mod place;
 mod seats;
@@ -10,6 +11,7 @@ mod service;
 mod slot;
 mod store;
 
+pub use capacities::TableCapacities;
 pub use error::TableError;
 pub use seats::Slot;
 pub use service::Tables;

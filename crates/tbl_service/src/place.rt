@@ -9,7 +9,8 @@ ghost use Rattle.lc_model.specs.Services.Tables.{Table as Kept, fits_table, new_
 ghost use Rattle.tbl_service.specs.declared.error.TableError.TheVariants.{Memory};
 ghost use Rattle.tbl_service.specs.Error.{answered};
 ghost use Rattle.tbl_service.specs.Images.{move_of, waiting_seen};
-ghost use Rattle.tbl_service.specs.Places.{changed_by, loaded_at, with_images, with_images_at};
+ghost use Rattle.tbl_service.specs.Capacities.{buffers};
+ghost use Rattle.tbl_service.specs.Places.{changed_by, loaded_at, most_tables, with_images, with_images_at};
 
 use crate::error::TableError;
 use crate::slot::{Images, Move, Stage};
@@ -113,6 +114,12 @@ impl Table {
         self.images.install(image);
     }
 
+    fn images(&self) -> &Images
+        ensures { result.now ≡ self.now.slot }
+    {
+        &self.images
+    }
+
     pub(crate) fn active(&self) -> Option<&[u8]>
         ensures { option_map (λ image. image.now) result ≡ self.now.slot.active }
     {
@@ -159,6 +166,45 @@ impl SeatTables {
             spare.push_reserved(Images::new(alloc)?);
         }
         Ok(SeatTables { tables, spare })
+    }
+
+    /// How many tables there is room for.
+    pub(crate) fn table_capacity(&self) -> usize
+        ensures { result ≡ most_tables }
+    {
+        self.tables.capacity()
+    }
+
+    /// How many pairs of buffers that no table uses there is room for.
+    pub(crate) fn spare_capacity(&self) -> usize
+        ensures { result ≡ most_tables }
+    {
+        self.spare.capacity()
+    }
+
+    /// How many bytes each image buffer has room for, in pairs: active and waiting. Those of tables come first.
+    pub(crate) fn buffer_capacities(&self) -> [usize; 4]
+        ensures { result ≡ buffers 4 }
+    {
+        let first = self.images(0);
+        let second = self.images(1);
+        [
+            first.active_capacity(),
+            first.waiting_capacity(),
+            second.active_capacity(),
+            second.waiting_capacity(),
+        ]
+    }
+
+    /// The pair of buffers with this number: those of tables come first.
+    fn images(&self, number: usize) -> &Images
+        requires { number < most_tables }
+    {
+        let used = self.tables.len();
+        if number < used {
+            return self.tables[number].images();
+        }
+        &self.spare[number - used]
     }
 
     /// Adds a table without images and returns its number, or `None` if there are two tables already.

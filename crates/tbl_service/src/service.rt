@@ -7,9 +7,11 @@ ghost use Rattle.lc_model.specs.Command.{Load, Manage};
 ghost use Rattle.lc_model.specs.Tables.Slot.{Activated, Asked, Validate, Activate, Abort, waiting_at};
 ghost use Rattle.lc_model.specs.Services.Tables.{IsTableService, file_put, first_tables, fits_at, image_installed, image_taken, new_handle, slot_at, stored_image, table_at, table_commanded, table_registered, tables_unregistered, verdict_set};
 ghost use Rattle.tbl_service.specs.declared.error.TableError.TheVariants.{Memory};
+ghost use Rattle.tbl_service.specs.Capacities.{table_capacities};
 ghost use Rattle.tbl_service.specs.Error.{answered};
 ghost use Rattle.tbl_service.specs.Images.{active_of, slot_named, waiting_seen};
 
+use crate::capacities::TableCapacities;
 use crate::error::TableError;
 use crate::place::{SeatTables, Table};
 use crate::seats::{Slot, change_among, find, install_into, judge, load_into, register, take};
@@ -28,13 +30,16 @@ pub struct Tables {
 }
 
 impl Model for Tables {
+    ghost use Rattle.std.specs.Prelude.{◌≡◌, vec_capacity};
+    ghost use Rattle.lc_model.specs.Kept.Executive.{seat_count};
     ghost use Rattle.lc_model.specs.Services.Tables.{TableService, IsTableService};
 
     ghost Value = { TableService };
 
     ghost view = { λ t. record { files = t.files; places = t.places.items } };
 
-    ghost invariant = { λ t. IsTableService (record { files = t.files; places = t.places.items }) };
+    ghost invariant = { λ t. IsTableService (record { files = t.files; places = t.places.items })
+        × (vec_capacity t.places ≡ seat_count) };
 }
 
 impl Tables {
@@ -47,9 +52,27 @@ impl Tables {
         let files = Files::new(alloc)?;
         let mut places = Vec::with_capacity(alloc, Seat::COUNT)?;
         for _ in 0..Seat::COUNT {
-            places.push(SeatTables::new(alloc)?)?;
+            places.push_reserved(SeatTables::new(alloc)?);
         }
         Ok(Tables { files, places })
+    }
+
+    /// The capacities of the lists; of those by seat, this seat's. No call changes them.
+    pub fn capacities(&self, seat: Seat) -> TableCapacities
+        ensures { result ≡ table_capacities }
+    {
+        // For the proof: there are eight seats.
+        self.is_service();
+        let place = &self.places[seat.index()];
+        TableCapacities {
+            seats: self.places.capacity(),
+            files: self.files.file_capacity(),
+            spare_files: self.files.spare_capacity(),
+            file_buffers: self.files.buffer_capacities(),
+            tables: place.table_capacity(),
+            spare_images: place.spare_capacity(),
+            image_buffers: place.buffer_capacities(),
+        }
     }
 
     /// Stores a file, in place of one with the same name. Errors: `FileTooLong` for over 32,768 bytes; `StoreFull`

@@ -67,6 +67,20 @@ impl Images {
         })
     }
 
+    /// How many bytes the buffer of the active image has room for.
+    pub(crate) fn active_capacity(&self) -> usize
+        ensures { result ≡ max_file_size }
+    {
+        self.active.capacity()
+    }
+
+    /// How many bytes the buffer of the waiting image has room for.
+    pub(crate) fn waiting_capacity(&self) -> usize
+        ensures { result ≡ max_file_size }
+    {
+        self.waiting.capacity()
+    }
+
     /// Removes both images.
     pub(crate) fn clear(&mut self)
         ensures { self.new ≡ no_images }

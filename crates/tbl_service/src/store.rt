@@ -5,9 +5,10 @@ ghost use Rattle.std.specs.List.{position_from};
 ghost use Rattle.lc_model.specs.Host.React.{max_file_size};
 ghost use Rattle.lc_model.specs.Name.{value_under, is_named, name_size};
 ghost use Rattle.lc_model.specs.Services.Tables.{files_with};
+ghost use Rattle.tbl_service.specs.Capacities.{buffers};
 ghost use Rattle.tbl_service.specs.declared.error.TableError.TheVariants.{Memory};
 ghost use Rattle.tbl_service.specs.Error.{answered};
-ghost use Rattle.tbl_service.specs.Store.{NamedFile};
+ghost use Rattle.tbl_service.specs.Store.{NamedFile, most_files};
 
 use crate::buffer::{Buffer, MAX_FILE};
 use crate::error::TableError;
@@ -62,6 +63,12 @@ impl StoredFile {
         self.bytes.fill(bytes);
     }
 
+    fn capacity(&self) -> usize
+        ensures { result ≡ max_file_size }
+    {
+        self.bytes.capacity()
+    }
+
     fn bytes(&self) -> &[u8]
         ensures bytes { result.now ≡ self.now.1 }
         ensures fits { length result.now ≤ max_file_size }
@@ -101,6 +108,47 @@ impl Files {
             spare.push_reserved(Buffer::new(alloc)?);
         }
         Ok(Files { list, spare })
+    }
+
+    /// How many stored files there is room for.
+    pub(crate) fn file_capacity(&self) -> usize
+        ensures { result ≡ most_files }
+    {
+        self.list.capacity()
+    }
+
+    /// How many buffers without a file there is room for.
+    pub(crate) fn spare_capacity(&self) -> usize
+        ensures { result ≡ most_files }
+    {
+        self.spare.capacity()
+    }
+
+    /// How many bytes each buffer has room for: those of the stored files come first.
+    pub(crate) fn buffer_capacities(&self) -> [usize; MAX_FILES]
+        ensures { result ≡ buffers most_files }
+    {
+        [
+            self.buffer_capacity(0),
+            self.buffer_capacity(1),
+            self.buffer_capacity(2),
+            self.buffer_capacity(3),
+            self.buffer_capacity(4),
+            self.buffer_capacity(5),
+            self.buffer_capacity(6),
+            self.buffer_capacity(7),
+        ]
+    }
+
+    fn buffer_capacity(&self, number: usize) -> usize
+        requires { number < most_files }
+        ensures { result ≡ max_file_size }
+    {
+        let stored = self.list.len();
+        if number < stored {
+            return self.list[number].capacity();
+        }
+        self.spare[number - stored].capacity()
     }
 
     /// Stores a file, in place of one with the same name. Errors: `FileTooLong` for over 32,768 bytes, `StoreFull`.

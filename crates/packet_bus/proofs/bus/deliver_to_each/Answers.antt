@@ -38,6 +38,7 @@ loop-seat-preserved c =
       seats = ap length c.in-Some.ensures.after ∙ length-set left seat false ∙ kept.seats;
       room = rw (c.in-Some.ensures.after, c.deliver_to.ensures.places) (room_left seat left places new (left_within seat left next) kept.room);
       full = c.deliver_to.ensures.full;
+      capacity = c.deliver_to.ensures.capacity ∙ kept.capacity;
     }
 
 pub returns-clause-places : goal.returns-clause-places

@@ -1,4 +1,5 @@
 use Rattle.std.proofs.Common.{◌≡◌, length, map, count_by}
+use Rattle.std.specs.Prelude.{vec_capacity}
 use Rattle.packet_bus.specs.Seats.{is_in}
 use Rattle.packet_bus.specs.Line.{is_long}
 use Rattle.packet_bus.specs.Inside.{delivered, HaveRoom}
@@ -12,6 +13,7 @@ invariant-loop-seat l = record {
   seats : length l.left ≡ 8;
   room : HaveRoom l.left l.places.items;
   full : l.full ≡ map is_long l.places.items;
+  capacity : vec_capacity l.places ≡ vec_capacity l.initial.places;
 }
 
 -- the seats that are left

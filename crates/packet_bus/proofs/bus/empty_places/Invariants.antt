@@ -1,4 +1,4 @@
-use Rattle.std.proofs.Common.{◌≡◌, ◌≤◌, replicate}
+use Rattle.std.proofs.Common.{◌≡◌, replicate}
 use Rattle.std.specs.Prelude.{vec_capacity, vec_len, None}
 use Rattle.packet_bus.proofs.bus.empty_places.Given as goal
 
@@ -6,5 +6,5 @@ abbrev pub invariant-loop : goal.invariant-loop
 invariant-loop l = record {
   places : l.places.items ≡ replicate l.counter None;
   len : vec_len l.places ≡ l.counter;
-  room : 8 ≤ vec_capacity l.places;
+  room : vec_capacity l.places ≡ 8;
 }

@@ -1,4 +1,4 @@
-use Rattle.std.proofs.Common.{◌≡◌, ◌∙◌, ap, sym, refl, ℕ}
+use Rattle.std.proofs.Common.{◌≡◌, ◌∙◌, ap, sym, refl, ℕ, rules}
 use Rattle.std.specs.Prelude.{Option, Some, None, is_some, option_map, slice_set}
 use Rattle.packet_bus.specs.Line.{Line, new_line, slots_in, hears_mid}
 use Rattle.packet_bus.specs.Inside.{place_at, queue_over}
@@ -16,14 +16,14 @@ same_mids old new lacks has mid = rw (lacks, has) refl
 
 pub invariant_of-self : goal.invariant_of-self
 invariant_of-self c =
-    let bus = c.self.invariant in
+    let bus = c.self.invariant.0 in
     let at = c.index.result in
     let in_seats = in_places _ _ _ _ _ bus at c.index.ensures.below in
     let place = is_place_at c.self.inside.places.items at c.index_mut.result.now in_seats c.index_mut.ensures.value in
     let pipe = pipe_is c.self.inside.pool c.self.inside.places.items c.args.self.now c.args.seat at c.index_mut.result.now in_seats c.index_mut.ensures.value c.index.ensures.value c.self.view_is in
     let lacks : place_at c.self.inside.places.items at ≡ None =
     sym place ∙ no_place c.index_mut.result.now (sym (has_queue c.self.inside.pool c.index_mut.result.now) ∙ ap is_some pipe ∙ sym c.has_pipe.ensures.has ∙ c.if-has_pipe.false) in
-    heard_as_before _ _ _ _ _ bus at c.index.ensures.below c.open.new.self (same_slots _ _ lacks c.open.ensures) (λ mid less. same_mids _ _ lacks c.open.ensures mid)
+    (heard_as_before _ _ _ _ _ bus at c.index.ensures.below c.open.new.self (same_slots _ _ lacks c.open.ensures) (λ mid less. same_mids _ _ lacks c.open.ensures mid), search rules, search rules)
 
 pub returns-clause-after : goal.returns-clause-after
 returns-clause-after c =

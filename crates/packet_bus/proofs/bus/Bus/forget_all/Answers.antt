@@ -10,7 +10,7 @@ pub loop-mid-smaller : goal.loop-mid-smaller
 loop-mid-smaller c =
     let pipe =
     pipe_is c.self.inside.pool c.self.inside.places.items c.loop-mid.self c.args.seat c.index.result c.index-in-loop-mid.result.now
-    (in_places _ _ _ _ _ c.self.invariant c.index.result c.index.ensures.below) c.index-in-loop-mid.ensures c.index.ensures.value c.self.view_is in
+    (in_places _ _ _ _ _ c.self.invariant.0 c.index.result c.index.ensures.below) c.index-in-loop-mid.ensures c.index.ensures.value c.self.view_is in
     let below : c.args.seat < length c.loop-mid.self = omega (arith, c.index.ensures.value, c.index.ensures.below, c.forget.ensures.eight) in
     rw c.forget.ensures.after
     (fewer_mids c.args.seat c.in-Some.mid c.loop-mid.self below
@@ -29,7 +29,7 @@ pub returns : goal.returns
 returns c =
     let pipe =
     pipe_is c.self.inside.pool c.self.inside.places.items c.loop-mid.self c.args.seat c.index.result c.index-in-loop-mid.result.now
-    (in_places _ _ _ _ _ c.self.invariant c.index.result c.index.ensures.below) c.index-in-loop-mid.ensures c.index.ensures.value c.self.view_is in
+    (in_places _ _ _ _ _ c.self.invariant.0 c.index.result c.index.ensures.below) c.index-in-loop-mid.ensures c.index.ensures.value c.self.view_is in
     no_mids c.args.seat c.loop-mid.self
     (ap (λ (queue : Option Queue). slice_get (mids_of queue) 0) (sym pipe)
     ∙ ap (λ (mids : List ℕ). slice_get mids 0) (same_mids c.self.inside.pool c.index-in-loop-mid.result.now)

@@ -9,4 +9,4 @@ returns-clause-has c =
     ∙ sym (has_queue c.self.inside.pool c.index-2.result.now)
     ∙ ap is_some
     (pipe_is c.self.inside.pool c.self.inside.places.items c.args.self.now c.args.seat c.index.result c.index-2.result.now
-    (in_places _ _ _ _ _ c.self.invariant c.index.result c.index.ensures.below) c.index-2.ensures c.index.ensures.value c.self.view_is)
+    (in_places _ _ _ _ _ c.self.invariant.0 c.index.result c.index.ensures.below) c.index-2.ensures c.index.ensures.value c.self.view_is)

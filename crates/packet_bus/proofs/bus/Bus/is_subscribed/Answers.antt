@@ -8,7 +8,7 @@ use Rattle.packet_bus.proofs.bus.Bus.is_subscribed.Goals as goal
 
 pub returns-then-mid-lt-MESSAGE_IDS : goal.returns-then-mid-lt-MESSAGE_IDS
 returns-then-mid-lt-MESSAGE_IDS c =
-    let bus = c.self.invariant in
+    let bus = c.self.invariant.0 in
     let places = c.self.inside.places.items in
     let in_seats = in_places _ _ _ _ _ bus c.args.seat c.contains.ensures.below in
     c.contains.ensures.inside

@@ -9,6 +9,6 @@ use Rattle.packet_bus.proofs.bus.Bus.least_ready.Goals as goal
 pub returns-clause-least : goal.returns-clause-least
 returns-clause-least c =
     c.least.ensures
-    ∙ ap (position_from is_in 0) c.self.invariant.waits
+    ∙ ap (position_from is_in 0) c.self.invariant.0.waits
     ∙ least_is c.self.inside.pool c.self.inside.places.items
     ∙ ap (λ (bus : Bus). ready_seat (seen bus)) c.self.view_is

@@ -1,4 +1,4 @@
-use Rattle.std.proofs.Common.{◌≡◌, ◌∙◌, ◌<◌, ap, sym, refl, ℕ, arith, length}
+use Rattle.std.proofs.Common.{◌≡◌, ◌∙◌, ◌<◌, ap, sym, refl, ℕ, arith, length, rules}
 use Rattle.std.specs.Prelude.{Option, Some, None, slice_set, option_map}
 use Rattle.lc_model.specs.Services.Bus.{Bus, pipe_at}
 use Rattle.packet_bus.specs.Line.{Line, new_line, slots_in, hears_mid}
@@ -19,7 +19,7 @@ pub close-requires : goal.close-requires
 close-requires c =
     let pipe =
     pipe_is c.self.inside.pool c.self.inside.places.items c.forget_all.new.self c.args.seat c.index.result c.index_mut.result.now
-    (in_places _ _ _ _ _ c.self.invariant c.index.result c.index.ensures.below) c.index_mut.ensures.value c.index.ensures.value c.self.view_is in
+    (in_places _ _ _ _ _ c.self.invariant.0 c.index.result c.index.ensures.below) c.index_mut.ensures.value c.index.ensures.value c.self.view_is in
     let below : c.args.seat < length c.args.self.now = omega (arith, c.index.ensures.value, c.index.ensures.below, c.has_pipe.ensures.eight) in
     place_is_new c.self.inside.pool c.index_mut.result.now
     (pipe
@@ -28,7 +28,7 @@ close-requires c =
 
 pub invariant_of-self : goal.invariant_of-self
 invariant_of-self c =
-    let bus = c.self.invariant in
+    let bus = c.self.invariant.0 in
     let at = c.index.result in
     let in_seats = in_places _ _ _ _ _ bus at c.index.ensures.below in
     let pipe = pipe_is c.self.inside.pool c.self.inside.places.items c.forget_all.new.self c.args.seat at c.index_mut.result.now in_seats c.index_mut.ensures.value c.index.ensures.value c.self.view_is in
@@ -39,7 +39,7 @@ invariant_of-self c =
     (pipe
     ∙ ap (pipe_at c.args.seat) (c.forget_all.ensures ∙ ap (changed c.args.seat without_subscriptions) c.discard_all.ensures)
     ∙ nothing_left c.args.seat c.args.self.now below (sym c.has_pipe.ensures.has ∙ c.if-not-has_pipe.false)) in
-    heard_as_before _ _ _ _ _ bus at c.index.ensures.below c.close.new.self (same_slots _ _ has c.close.ensures) (λ mid less. same_mids _ _ has c.close.ensures mid)
+    (heard_as_before _ _ _ _ _ bus at c.index.ensures.below c.close.new.self (same_slots _ _ has c.close.ensures) (λ mid less. same_mids _ _ has c.close.ensures mid), search rules, search rules)
 
 pub returns-clause-after : goal.returns-clause-after
 returns-clause-after c =

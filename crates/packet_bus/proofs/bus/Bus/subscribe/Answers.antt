@@ -1,4 +1,4 @@
-use Rattle.std.proofs.Common.{◌≡◌, ◌∙◌, ap, sym, refl, ℕ, ◌≢◌, arith, length, List, true}
+use Rattle.std.proofs.Common.{◌≡◌, ◌∙◌, ap, sym, refl, ℕ, ◌≢◌, arith, length, List, true, rules}
 use Rattle.std.specs.Prelude.{option_map, Option, Some, None, slice_set, is_some}
 use Rattle.lc_model.specs.Services.Bus.{Queue, pipe_at}
 use Rattle.packet_bus.specs.Slots.{PooledPacket}
@@ -20,7 +20,7 @@ same_subscriptions pool (Some line) = refl
 
 pub invariant_of-self : goal.invariant_of-self
 invariant_of-self c =
-    let bus = c.self.invariant in
+    let bus = c.self.invariant.0 in
     let at = c.index-at.result in
     let below = c.index-at.ensures.below in
     let in_seats = in_places _ _ _ _ _ bus at below in
@@ -30,27 +30,33 @@ invariant_of-self c =
     let pipe = pipe_is c.self.inside.pool c.self.inside.places.items c.args.self.now c.args.seat at c.index_mut.result.now in_seats c.index_mut.ensures.value c.index-at.ensures.value c.self.view_is in
     let has : is_some old ≡ true =
     ap is_some (sym place) ∙ sym (has_queue c.self.inside.pool c.index_mut.result.now) ∙ ap is_some pipe ∙ sym c.has_pipe.ensures.has ∙ c.if-not-has_pipe.false in
-    let new : c.subscribe.new.self ≡ option_map (with_subscription mid) old = c.subscribe.ensures ∙ ap (option_map (with_subscription mid)) place in
-    heard_anew _ _ _ _ _ bus at below c.subscribe.new.self (ap slots_in new ∙ slots_stay mid old) mid c.insert.new.self _ _ (omega arith) c.index_mut-then-mid-lt-MESSAGE_IDS.ensures.value
-    (c.insert.ensures ∙ ap (λ seat. slice_set c.index_mut-then-mid-lt-MESSAGE_IDS.result.now seat true) (sym c.index-at.ensures.value)) (ap (hears_mid mid) new ∙ hears_more mid old has)
-    (λ other not_same. ap (hears_mid other) new ∙ hears_others_too mid other old not_same)
+    let new : c.subscribe.new.self ≡ option_map (with_subscription mid) old = c.subscribe.ensures ∙ ap (option_map (with_subscription mid)) place in (
+      heard_anew _ _ _ _ _ bus at below c.subscribe.new.self (ap slots_in new ∙ slots_stay mid old) mid c.insert.new.self _ _ (omega arith) c.index_mut-then-mid-lt-MESSAGE_IDS.ensures.value
+          (c.insert.ensures ∙ ap (λ seat. slice_set c.index_mut-then-mid-lt-MESSAGE_IDS.result.now seat true) (sym c.index-at.ensures.value)) (ap (hears_mid mid) new ∙ hears_more mid old has)
+          (λ other not_same. ap (hears_mid other) new ∙ hears_others_too mid other old not_same),
+      search rules,
+      search rules,
+    )
 
 pub invariant_of-self-else-mid-lt-MESSAGE_IDS : goal.invariant_of-self-else-mid-lt-MESSAGE_IDS
 invariant_of-self-else-mid-lt-MESSAGE_IDS c =
-    let bus = c.self.invariant in
+    let bus = c.self.invariant.0 in
     let at = c.index-at.result in
     let below = c.index-at.ensures.below in
     let mid = c.args.mid in
     let old = place_at c.self.inside.places.items at in
     let place = is_place_at c.self.inside.places.items at c.index_mut.result.now (in_places _ _ _ _ _ bus at below) c.index_mut.ensures.value in
-    let new : c.subscribe.new.self ≡ option_map (with_subscription mid) old = c.subscribe.ensures ∙ ap (option_map (with_subscription mid)) place in
-    heard_as_before _ _ _ _ _ bus at below c.subscribe.new.self (ap slots_in new ∙ slots_stay mid old)
-    (λ other less. let not_same : other ≢ mid = omega arith in ap (hears_mid other) new ∙ hears_others_too mid other old not_same)
+    let new : c.subscribe.new.self ≡ option_map (with_subscription mid) old = c.subscribe.ensures ∙ ap (option_map (with_subscription mid)) place in (
+      heard_as_before _ _ _ _ _ bus at below c.subscribe.new.self (ap slots_in new ∙ slots_stay mid old)
+          (λ other less. let not_same : other ≢ mid = omega arith in ap (hears_mid other) new ∙ hears_others_too mid other old not_same),
+      search rules,
+      search rules,
+    )
 
 pub returns-then-mid-lt-MESSAGE_IDS-clause-after : goal.returns-then-mid-lt-MESSAGE_IDS-clause-after
 returns-then-mid-lt-MESSAGE_IDS-clause-after c =
     let at = c.index-at.result in
-    let in_seats = in_places _ _ _ _ _ c.self.invariant at c.index-at.ensures.below in
+    let in_seats = in_places _ _ _ _ _ c.self.invariant.0 at c.index-at.ensures.below in
     let pool = c.self.inside.pool in
     let second = pipe_is pool c.self.inside.places.items c.args.self.now c.args.seat at c.index.result.now in_seats c.index.ensures c.index-at.ensures.value c.self.view_is in
     let count : length (subscriptions_in (pipe_at c.args.seat c.args.self.now)) ≡ c.subscriptions.result =
@@ -64,7 +70,7 @@ returns-then-mid-lt-MESSAGE_IDS-clause-after c =
 pub returns-else-mid-lt-MESSAGE_IDS-clause-after : goal.returns-else-mid-lt-MESSAGE_IDS-clause-after
 returns-else-mid-lt-MESSAGE_IDS-clause-after c =
     let at = c.index-at.result in
-    let in_seats = in_places _ _ _ _ _ c.self.invariant at c.index-at.ensures.below in
+    let in_seats = in_places _ _ _ _ _ c.self.invariant.0 at c.index-at.ensures.below in
     let pool = c.self.inside.pool in
     let second = pipe_is pool c.self.inside.places.items c.args.self.now c.args.seat at c.index.result.now in_seats c.index.ensures c.index-at.ensures.value c.self.view_is in
     let count : length (subscriptions_in (pipe_at c.args.seat c.args.self.now)) ≡ c.subscriptions.result =
@@ -78,7 +84,7 @@ returns-else-mid-lt-MESSAGE_IDS-clause-after c =
 pub subscribe-requires-clause-anew : goal.subscribe-requires-clause-anew
 subscribe-requires-clause-anew c =
     let at = c.index-at.result in
-    let in_seats = in_places _ _ _ _ _ c.self.invariant at c.index-at.ensures.below in
+    let in_seats = in_places _ _ _ _ _ c.self.invariant.0 at c.index-at.ensures.below in
     let pool = c.self.inside.pool in
     let pipe = pipe_is pool c.self.inside.places.items c.args.self.now c.args.seat at c.index_mut.result.now in_seats c.index_mut.ensures.value c.index-at.ensures.value c.self.view_is in
     sym (heard_in pool c.args.mid c.index_mut.result.now) ∙ ap (hears_in c.args.mid) pipe ∙ sym c.is_subscribed.ensures ∙ c.if-is_subscribed.false

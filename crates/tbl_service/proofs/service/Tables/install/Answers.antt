@@ -11,11 +11,13 @@ use Rattle.tbl_service.proofs.service.Tables.install.Goals as goal
 
 pub invariant_of-self : goal.invariant_of-self
 invariant_of-self c =
-    let there : value_under c.args.file.now c.args.self.now.files ≡ Some c.in-Some.bytes.now = search rules in
-    installed_sound c.self.inside.files c.self.inside.places.items c.as_mut_slice.result.now c.install_into.new.places c.self.inside.places.len (search rules) (search rules) (search rules)
-    (image_in (opened c.in-Some.bytes.now)) (λ image. IsTrue (fits_at c.args.slot c.args.self.now image)) (λ image. installed image) c.args.slot
-    (subst (λ (o : Option (List ℕ)). IsSomeAnd (option_map_or (λ bytes. image_in (opened bytes)) o None) (λ image. IsTrue (fits_at c.args.slot c.args.self.now image))) there c.requires.fits)
-    c.install_into.ensures.opened c.self.invariant
+    let there : value_under c.args.file.now c.args.self.now.files ≡ Some c.in-Some.bytes.now = search rules in (
+      installed_sound c.self.inside.files c.self.inside.places.items c.as_mut_slice.result.now c.install_into.new.places c.self.inside.places.len (search rules) (search rules) (search rules)
+          (image_in (opened c.in-Some.bytes.now)) (λ image. IsTrue (fits_at c.args.slot c.args.self.now image)) (λ image. installed image) c.args.slot
+          (subst (λ (o : Option (List ℕ)). IsSomeAnd (option_map_or (λ bytes. image_in (opened bytes)) o None) (λ image. IsTrue (fits_at c.args.slot c.args.self.now image))) there c.requires.fits)
+          c.install_into.ensures.opened c.self.invariant.0,
+      search rules,
+    )
 
 pub returns-in-Some : goal.returns-in-Some
 returns-in-Some c =

@@ -1,5 +1,10 @@
 use Rattle.std.proofs.Common.{◌≡◌, [], replicate}
+use Rattle.std.specs.Prelude.{vec_capacity, vec_len}
 use Rattle.tbl_service.proofs.service.Tables.new.Given as goal
 
 abbrev pub invariant-loop : goal.invariant-loop
-invariant-loop l = l.places.items ≡ replicate l.counter []
+invariant-loop l = record {
+  places : l.places.items ≡ replicate l.counter [];
+  len : vec_len l.places ≡ l.counter;
+  room : vec_capacity l.places ≡ 8;
+}

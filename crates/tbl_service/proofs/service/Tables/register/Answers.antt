@@ -7,10 +7,12 @@ use Rattle.tbl_service.proofs.service.Tables.register.Goals as goal
 
 pub invariant_of-self : goal.invariant_of-self
 invariant_of-self c =
-    let old : TableService = record { files = c.self.inside.files; places = c.self.inside.places.items } in
-    answered_sound c.self.inside.files c.self.inside.places.items c.as_mut_slice.result.now c.register.new.places c.self.inside.places.len (search rules) (search rules) (search rules)
-    c.register.result (table_registered c.args.seat c.args.name.now c.args.size c.args.other old) (search rules)
-    c.register.ensures.refused (registering_stays_sound c.args.seat c.args.name.now c.args.size c.args.other old c.self.invariant) c.self.invariant
+    let old : TableService = record { files = c.self.inside.files; places = c.self.inside.places.items } in (
+      answered_sound c.self.inside.files c.self.inside.places.items c.as_mut_slice.result.now c.register.new.places c.self.inside.places.len (search rules) (search rules) (search rules)
+          c.register.result (table_registered c.args.seat c.args.name.now c.args.size c.args.other old) (search rules)
+          c.register.ensures.refused (registering_stays_sound c.args.seat c.args.name.now c.args.size c.args.other old c.self.invariant.0) c.self.invariant.0,
+      search rules,
+    )
 
 pub returns-clause-slot : goal.returns-clause-slot
 returns-clause-slot c =

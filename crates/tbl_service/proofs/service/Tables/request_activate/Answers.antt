@@ -8,8 +8,10 @@ use Rattle.tbl_service.proofs.service.Tables.request_activate.Goals as goal
 
 pub invariant_of-self : goal.invariant_of-self
 invariant_of-self c =
-    let old : TableService = record { files = c.self.inside.files; places = c.self.inside.places.items } in
-    answered_sound c.self.inside.files c.self.inside.places.items c.as_mut_slice.result.now c.change_among.new.places c.self.inside.places.len (search rules) (search rules) (search rules)
-    c.change_among.result (table_commanded (Manage Activate c.args.table.now) old)
-    (of_places c.change_among.result c.self.inside.files c.self.inside.places.items c.change_among.new.places (moved_among Activate c.args.table.now c.self.inside.places.items) (search rules))
-    c.change_among.ensures.refused (commands_stay_sound (Manage Activate c.args.table.now) old c.self.invariant) c.self.invariant
+    let old : TableService = record { files = c.self.inside.files; places = c.self.inside.places.items } in (
+      answered_sound c.self.inside.files c.self.inside.places.items c.as_mut_slice.result.now c.change_among.new.places c.self.inside.places.len (search rules) (search rules) (search rules)
+          c.change_among.result (table_commanded (Manage Activate c.args.table.now) old)
+          (of_places c.change_among.result c.self.inside.files c.self.inside.places.items c.change_among.new.places (moved_among Activate c.args.table.now c.self.inside.places.items) (search rules))
+          c.change_among.ensures.refused (commands_stay_sound (Manage Activate c.args.table.now) old c.self.invariant.0) c.self.invariant.0,
+      search rules,
+    )

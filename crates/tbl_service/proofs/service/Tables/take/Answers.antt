@@ -4,6 +4,8 @@ use Rattle.tbl_service.proofs.Sound.{changed_sound}
 use Rattle.tbl_service.proofs.service.Tables.take.Goals as goal
 
 pub invariant_of-self : goal.invariant_of-self
-invariant_of-self c =
-    changed_sound c.self.inside.files c.self.inside.places.items c.as_mut_slice.result.now c.take.new.places c.self.inside.places.len (search rules) (search rules) (search rules)
-    taken c.args.slot c.take.ensures.taken c.self.invariant
+invariant_of-self c = (
+  changed_sound c.self.inside.files c.self.inside.places.items c.as_mut_slice.result.now c.take.new.places c.self.inside.places.len (search rules) (search rules) (search rules)
+      taken c.args.slot c.take.ensures.taken c.self.invariant.0,
+  search rules,
+)

@@ -6,4 +6,4 @@ use Rattle.tbl_service.proofs.service.Tables.unregister.Goals as goal
 pub invariant_of-self : goal.invariant_of-self
 invariant_of-self c =
     let old : TableService = record { files = c.self.inside.files; places = c.self.inside.places.items } in
-    subst IsTableService (sym (search rules)) (unregistering_stays_sound c.args.seat old c.self.invariant)
+    (subst IsTableService (sym (search rules)) (unregistering_stays_sound c.args.seat old c.self.invariant.0), search rules)
