@@ -1,13 +1,15 @@
-//! Judges the rule texts of `data/`, two of them also as tables and one by schedules. It also makes 4,000 conditions at
+//! Judges the rule texts of `data/`, two of them also as tables and one by schedules, and what changed from one to another. It also makes 4,000 conditions at
 //! random and compares their judgements with what trying all values shows.
 #![tactic(auto)]
 
+mod changing;
 mod comparing;
 mod making;
 mod measuring;
 mod random;
 mod trying;
 
+use crate::changing::show_changes;
 use crate::comparing::Counts;
 use crate::measuring::measure;
 use analysis_listing::{LineChoice, list_actionpoints, list_outcomes};
@@ -121,6 +123,8 @@ fn show_all(rt: &HostRuntime) -> anyhow::Result<()> {
     show_tables(rt, "dead_rules.rules")?;
     show_tables(rt, "shared_bits.rules")?;
     show_apart(rt, "dead_rules.rules", "double_rules.rules")?;
+    show_changes(rt, "before.rules", "after.rules")?;
+    show_changes(rt, "before.rules", "before.rules")?;
     show_counts(rt, "free fields", Counts::of_free_fields(rt.alloc())?)?;
     show_counts(rt, "shared bits", Counts::of_shared_bits(rt.alloc())?)
 }

@@ -92,11 +92,11 @@ tables_keep found fuller more (Join o a b) =
 -- ---- numbers of a history
 
 -- what the last packets say of the fields, 0 where there is none
-abbrev reading_of : Place → Option (List ℕ × ℕ) → ℕ
+abbrev pub reading_of : Place → Option (List ℕ × ℕ) → ℕ
 reading_of p None = 0
 reading_of p (Some (packet, agings)) = raw p.kind (slice_range packet p.offset (p.offset + width p.kind))
 
-abbrev readings_in : History → Readings
+abbrev pub readings_in : History → Readings
 readings_in h p = reading_of p (last_packet p.mid h)
 
 pub refines-same : (x : Truth) → Refines x x
@@ -106,7 +106,7 @@ refines-same Stale = tt
 refines-same Error = tt
 
 -- a term's truth in a history is what these numbers say, or it is unknown
-term_refines : (h : History) (t : Term) → Refines (truth_of_term t h) (found_by (readings_in h) t)
+pub term_refines : (h : History) (t : Term) → Refines (truth_of_term t h) (found_by (readings_in h) t)
 term_refines h t = by_last (last_packet t.mid h)
   where
     judged : Option (List ℕ × ℕ) → Truth

@@ -76,8 +76,8 @@ pub(crate) fn negation(alloc: Global, cond: &Cond) -> Result<Cond, AllocError>
     Ok(Cond::Not(Box::new(alloc, operand)?))
 }
 
-/// The condition that the first one is true and the second one false.
-pub(crate) fn but_not(alloc: Global, first: &Cond, second: &Cond) -> Result<Cond, AllocError>
+/// The condition that the first one is true and the second one false. The only error is a lack of memory.
+pub fn but_not(alloc: Global, first: &Cond, second: &Cond) -> Result<Cond, AllocError>
     ensures { IfOk result (λ both. condition_of both ≡
         Join And (condition_of first.now) (Not (condition_of second.now))) }
 {

@@ -20,11 +20,16 @@ use std::alloc::{AllocError, Global};
 
 /// Whether values of its fields make a condition true.
 #[derive(Drop)]
-pub(crate) enum Decision {
+pub enum Decision {
     /// No values make it true.
     Never,
     /// It is true if the first of these fields have these bits, whatever the other fields have.
-    Holds { fields: Vec<Field>, bits: Vec<u32> },
+    Holds {
+        /// The fields that it reads, each once.
+        fields: Vec<Field>,
+        /// Bits of the first of them, at most one for each.
+        bits: Vec<u32>,
+    },
     /// Unknown: more steps are needed.
     Spent,
 }
@@ -66,8 +71,9 @@ fn find(
     Ok((outcome, bits))
 }
 
-/// Looks for bits of its fields that make the condition true, in at most `steps` steps; subtracts the steps that it takes.
-pub(crate) fn decide(alloc: Global, cond: &Cond, steps: &mut u32) -> Result<Decision, AllocError>
+/// Looks for bits of its fields that make the condition true, in at most `steps` steps; subtracts the steps that it takes. Each field
+/// is free, also one that shares bits with another. The only error is a lack of memory.
+pub fn decide(alloc: Global, cond: &Cond, steps: &mut u32) -> Result<Decision, AllocError>
     ensures { IfOk result (λ decision. IsDecided (condition_of cond.now) steps.old decision) }
 {
     let mut terms = Vec::new(alloc);

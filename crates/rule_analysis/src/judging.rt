@@ -110,8 +110,8 @@ fn comparisons(alloc: Global, terms: &[Term]) -> Result<Vec<ComparisonJudgement>
     Ok(judged)
 }
 
-/// The comparisons of a condition, from left to right.
-pub(crate) fn comparisons_of(alloc: Global, cond: &Cond) -> Result<Vec<Term>, AllocError>
+/// The comparisons of a condition, from left to right. The only error is a lack of memory.
+pub fn comparisons_of(alloc: Global, cond: &Cond) -> Result<Vec<Term>, AllocError>
     ensures { IfOk result (λ terms. terms.items ≡ mentions (condition_of cond.now)) }
 {
     let mut terms = Vec::new(alloc);

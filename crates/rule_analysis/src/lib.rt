@@ -26,13 +26,16 @@ mod thresholds;
 mod walk;
 
 pub use bits::bits_read;
+pub use conditions::but_not;
+pub use deciding::{Decision, decide};
 pub use fields::{Field, field_of};
 pub use finding::{
     ComparisonJudgement, Constancy, Finding, Judgement, PairJudgement, PairJudgements, Relation,
     RuleJudgement, SpareComparison, SpareJudgements, UnknownReason,
 };
-pub use judging::{RULE_STEPS, can_be_true, judge, judge_condition};
+pub use judging::{RULE_STEPS, can_be_true, comparisons_of, judge, judge_condition};
+pub use packets::lay_out;
 pub use pairs::{TEXT_STEPS, judge_pairs};
 pub use reach::never_sampled;
-pub use seen::value_with;
+pub use seen::{are_telemetry, last_of, value_in, value_with};
 pub use spare::spare_comparisons;

@@ -153,12 +153,8 @@ fn packets_of(alloc: Global, chosen: &[Chosen]) -> Result<Vec<Vec<u8>>, AllocErr
 }
 
 /// Packets in which these fields have these bits, one for each message id; all other bits are zero. If fields share bits, some may have
-/// other bits than chosen.
-pub(crate) fn lay_out(
-    alloc: Global,
-    fields: &[Field],
-    bits: &[u32],
-) -> Result<Vec<Vec<u8>>, AllocError>
+/// other bits than chosen. The only error is a lack of memory.
+pub fn lay_out(alloc: Global, fields: &[Field], bits: &[u32]) -> Result<Vec<Vec<u8>>, AllocError>
     ensures { IfOk result (λ packets. AreLaid (chosen_of fields.now bits.now) packets.items) }
 {
     let chosen = pair_bits(alloc, fields, bits)?;

@@ -12,7 +12,7 @@ use lc_model::packet::{padded_message_id, stream_fault};
 use lc_model::{Cond, Term, Truth, mids};
 
 /// The value of the term's field in a packet; `None` if the packet ends before the field does.
-fn value(term: &Term, packet: &[u8]) -> Option<i64>
+pub fn value_in(term: &Term, packet: &[u8]) -> Option<i64>
     ensures { result ≡ value_of term.now packet.now }
 {
     let start = term.offset as usize;
@@ -25,7 +25,7 @@ fn value(term: &Term, packet: &[u8]) -> Option<i64>
 }
 
 /// The latest packet of a message id. The packets are listed latest first.
-pub(crate) fn last_of(packets: &[Vec<u8>], mid: u16) -> Option<&[u8]>
+pub fn last_of(packets: &[Vec<u8>], mid: u16) -> Option<&[u8]>
     ensures { last_packet mid (history_of packets.now) ≡ option_map (λ packet.
         (packet.now, 0)) result }
 {
@@ -44,7 +44,7 @@ pub fn value_with(term: &Term, packets: &[Vec<u8>]) -> Option<i64>
 {
     match last_of(packets, term.mid) {
         None => None,
-        Some(packet) => value(term, packet),
+        Some(packet) => value_in(term, packet),
     }
 }
 
@@ -63,7 +63,7 @@ fn term_with(term: &Term, packets: &[Vec<u8>]) -> Truth
 {
     match last_of(packets, term.mid) {
         None => Truth::Stale,
-        Some(packet) => match value(term, packet) {
+        Some(packet) => match value_in(term, packet) {
             None => Truth::Error,
             Some(value) => if term.op.holds(value, term.value) {
                 Truth::True
@@ -101,8 +101,8 @@ fn is_telemetry(packet: &[u8]) -> bool
     stream_fault(packet).is_none() && mids::is_telemetry(padded_message_id(packet))
 }
 
-/// Whether all these packets are such telemetry.
-fn are_telemetry(packets: &[Vec<u8>]) -> bool
+/// Whether all these packets are telemetry that a stream may bring.
+pub fn are_telemetry(packets: &[Vec<u8>]) -> bool
     ensures only { IsTrue result → AllByRecursion (λ packet. IsTelemetry packet.items) packets.now }
     ensures all { AllByRecursion (λ packet. IsTelemetry packet.items) packets.now → IsTrue result }
 {

@@ -1,0 +1,26 @@
+pub mod Numbers
+pub mod Lifting
+pub mod Comparing
+pub mod Settled
+pub mod Situations
+pub mod FormLaws
+pub mod Reworded
+pub mod Matched
+pub mod Tied
+pub mod Fitting
+pub mod RunsSeats
+pub mod RunsComparison
+pub mod RunsSlots
+pub mod RunsOneChecker
+pub mod RunsStations
+pub mod RunsLimitChecker
+pub mod RunsCores
+pub mod RunsWorlds
+pub mod RunsSent
+pub mod RunsRules
+pub mod RunsAlike
+pub mod RunsNoSooner
+pub mod RunsTexts
+pub mod RunsLaws
+mod RunsExamples
+pub mod Trees

@@ -1,0 +1,6 @@
+use Rattle.lc_model.specs.Condition.{Condition, condition_of}
+use Rattle.rule_changes.specs.Known.{IsTied}
+use Rattle.rule_changes.proofs.ties.with_ties_of.Given as goal
+
+abbrev pub invariant-loop-other : goal.invariant-loop-other
+invariant-loop-other l = (q : Condition) → IsTied l.terms q (condition_of l.fn.question) → IsTied l.terms q (condition_of l.tied)
