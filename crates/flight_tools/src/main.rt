@@ -8,7 +8,7 @@ ghost use Rattle.tool_faults.specs.Status.{status_by};
 
 mod serving;
 
-use check_command::{CheckOptions, check, explain, told};
+use check_command::{CheckOptions, check, compare_texts, explain, told};
 use flight_tools_args::{CommandPlan, WordsError, read_words};
 use program_io::{Lasting, STANDARD, arguments_of, lend_words};
 use run_commands::{CompareOptions, ComparedFiles, PageTimes};
@@ -132,6 +132,7 @@ fn obey<'a, R: Files + Eprint + AllocGlobal, I: Read + Drop, W: Write>(
         }
         CommandPlan::LanguageServer => serving::serve(rt.alloc(), input, out),
         CommandPlan::Export { stream, out: raw } => file_commands::export(rt, stream, raw),
+        CommandPlan::Changes { old, new } => compare_texts(rt, old, new, out),
         CommandPlan::Compare {
             schedule,
             stream,

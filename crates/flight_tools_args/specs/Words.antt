@@ -10,7 +10,7 @@ use Rattle.flight_tools_args.specs.declared.error.WordsError.TheVariants as word
 use Rattle.flight_tools_args.specs.declared.kind.CommandKind.{CommandKind}
 use Rattle.flight_tools_args.specs.declared.kind.CommandKind.TheVariants as command
 use Rattle.flight_tools_args.specs.declared.plan.CommandPlan.{CommandPlan}
-use Rattle.flight_tools_args.specs.declared.plan.CommandPlan.TheVariants.{Said, Table, Stream, Packets, Scenario, Import, Export, Report, Check, Explain, Compare, Try, Live, Format, LanguageServer}
+use Rattle.flight_tools_args.specs.declared.plan.CommandPlan.TheVariants.{Said, Table, Stream, Packets, Scenario, Import, Export, Report, Check, Explain, Changes, Compare, Try, Live, Format, LanguageServer}
 use Rattle.flight_tools_args.specs.declared.plan.ImportWords.{ImportWords}
 use Rattle.flight_tools_args.specs.declared.plan.PageWords.{PageWords}
 use Rattle.flight_tools_args.specs.declared.plan.RowWords.{RowWords}
@@ -37,6 +37,7 @@ word_of command.Import = codes "import"
 word_of command.Export = codes "export"
 word_of command.Report = codes "report"
 word_of command.Check = codes "check"
+word_of command.Changes = codes "changes"
 word_of command.Compare = codes "compare"
 word_of command.Try = codes "try"
 word_of command.Live = codes "live"
@@ -107,6 +108,8 @@ HoldsRows found (Check schedule rules all strict json) = (found.0 ≡ codes "che
     × IsFlag (codes "all") found.1 all × IsFlag (codes "strict") found.1 strict × IsFlag (codes "json") found.1 json
     × (first_of (codes "explain") found.1 ≡ None)
 HoldsRows found (Explain name) = (found.0 ≡ codes "check") × (first_of (codes "explain") found.1 ≡ Some name.now)
+HoldsRows found (Changes old new) = (found.0 ≡ codes "changes")
+    × (first_of (codes "OLD") found.1 ≡ Some old.now) × (first_of (codes "NEW") found.1 ≡ Some new.now)
 HoldsRows found (Compare schedule stream old new further json fail_on) = (found.0 ≡ codes "compare")
     × (first_of (codes "schedule") found.1 ≡ Some schedule.now) × (first_of (codes "stream") found.1 ≡ Some stream.now)
     × (first_of (codes "OLD") found.1 ≡ Some old.now) × (first_of (codes "NEW") found.1 ≡ Some new.now)

@@ -102,6 +102,22 @@ const ROW_EPOCH: WordEntry = WordEntry {
     help: "The UTC time of second 0, for example 2000-01-01T12:00:00Z (only with --csv or --json)",
 };
 
+/// The rule text that is changed.
+const OLD: WordEntry = WordEntry {
+    name: "OLD",
+    value: "OLD",
+    form: Form::File,
+    help: "The old rule text",
+};
+
+/// The rule text after a change.
+const NEW: WordEntry = WordEntry {
+    name: "NEW",
+    value: "NEW",
+    form: Form::File,
+    help: "The new rule text",
+};
+
 /// The words of `check`.
 pub const CHECK: [WordEntry; 6] = [
     WordEntry {
@@ -183,19 +199,12 @@ pub const COMPARE: [WordEntry; 7] = [
         form: Form::Options,
         help: "A rule text that the stream uploads, as text 1; repeat the option for text 2 and so on",
     },
-    WordEntry {
-        name: "OLD",
-        value: "OLD",
-        form: Form::File,
-        help: "The old rule text",
-    },
-    WordEntry {
-        name: "NEW",
-        value: "NEW",
-        form: Form::File,
-        help: "The new rule text",
-    },
+    OLD,
+    NEW,
 ];
+
+/// The words of `changes`.
+pub const CHANGES: [WordEntry; 2] = [OLD, NEW];
 
 /// The words of `import`.
 pub const IMPORT: [WordEntry; 13] = [

@@ -13,7 +13,7 @@ struct CommandEntry {
 }
 
 /// All commands, as the help lists them: rules, streams, runs, services.
-const COMMANDS: [CommandEntry; 13] = [
+const COMMANDS: [CommandEntry; 14] = [
     CommandEntry {
         word: "check",
         about: "Report errors and warnings of rule texts, before any packet comes",
@@ -28,6 +28,11 @@ const COMMANDS: [CommandEntry; 13] = [
         word: "try",
         about: "Run scripts and check their expectations",
         words: &command_words::TRY,
+    },
+    CommandEntry {
+        word: "changes",
+        about: "List what a new rule text does differently, whatever packets come",
+        words: &command_words::CHANGES,
     },
     CommandEntry {
         word: "compare",

@@ -45,6 +45,7 @@ fn plan_by<'a>(
         CommandKind::Export => Ok(export_plan(found)),
         CommandKind::Report => report_plan(alloc, found),
         CommandKind::Check => check_plan(alloc, found),
+        CommandKind::Changes => Ok(changes_plan(found)),
         CommandKind::Compare => compare_plan(alloc, found),
         CommandKind::Try => try_plan(alloc, found),
         CommandKind::Live => live_plan(alloc, found),
@@ -252,6 +253,14 @@ fn check_plan<'a>(
         Some(rules) => Ok(Some(check_of(found, rules))),
         None => Ok(None),
     }
+}
+
+fn changes_plan<'a>(found: &ArgMatches<'a>) -> Option<CommandPlan<'a>>
+    ensures { IfSome result (HoldsRows (codes "changes", rows_of (found_of found.now))) }
+{
+    let old = file_of(found, "OLD")?;
+    let new = file_of(found, "NEW")?;
+    Some(CommandPlan::Changes { old, new })
 }
 
 /// The plan of a comparison with these further rule texts.

@@ -22,6 +22,8 @@ pub enum CommandKind {
     Report,
     /// `check`.
     Check,
+    /// `changes`.
+    Changes,
     /// `compare`.
     Compare,
     /// `try`.
@@ -66,6 +68,7 @@ fn of_rules(word: &str) -> Option<CommandKind>
     match word {
         "report" => Some(CommandKind::Report),
         "check" => Some(CommandKind::Check),
+        "changes" => Some(CommandKind::Changes),
         "compare" => Some(CommandKind::Compare),
         "try" => Some(CommandKind::Try),
         "live" => Some(CommandKind::Live),

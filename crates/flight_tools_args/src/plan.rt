@@ -64,6 +64,11 @@ pub enum CommandPlan<'a> {
     Explain {
         name: &'a str,
     },
+    /// `changes OLD NEW`: lists what the new rule text does differently, whatever packets come.
+    Changes {
+        old: &'a str,
+        new: &'a str,
+    },
     /// `compare --schedule SCHEDULE --stream STREAM [--with RULES].. [--json] [--fail-on WHAT] OLD NEW`: lists the requests and events in
     /// which two rule texts differ, over a stream that may bring further texts.
     Compare {

@@ -333,7 +333,7 @@ impl Listing<'_, '_, '_> {
         Ok(())
     }
 
-    /// Writes the whole object. `stop` says why both runs ended before the stream did.
+    /// Writes the whole object. `stop` is why both runs ended before the stream did.
     fn write_whole<W: Write>(
         &self,
         stop: Option<Stop>,
