@@ -169,19 +169,27 @@ fn write_sequence<'a, W: Write>(
     listing_result(writeln!(out, "sequence {sequence}: {words}"))
 }
 
-/// Whether each sequence is requested at the same records.
-fn are_requests_same(found: &Changes) -> bool {
-    found
-        .sequences
-        .iter()
-        .all(|listed| listed.change == SequenceChange::Same)
+/// Whether each rule's sequence is listed, as one that is requested at the same records. The rules are looked at and not the list, so
+/// that a sequence that is not listed is never taken for the same.
+fn are_same_for(text: NamedText<'_, '_, '_>, found: &Changes) -> bool {
+    let rules = text.text.rules.rules.as_slice();
+    rules.iter().all(|rule| {
+        found.sequences.iter().any(|listed| {
+            listed.sequence == rule.sequence && listed.change == SequenceChange::Same
+        })
+    })
+}
+
+/// Whether each sequence of both texts is requested at the same records.
+fn are_requests_same(texts: BothTexts<'_, '_, '_>, found: &Changes) -> bool {
+    are_same_for(texts.old, found) && are_same_for(texts.new, found)
 }
 
 /// What holds of every run without table files of the two texts.
-fn last_line(found: &Changes) -> &'static str {
+fn last_line(texts: BothTexts<'_, '_, '_>, found: &Changes) -> &'static str {
     if found.is_same {
         "every byte is the same, without table files of these texts in the stream"
-    } else if are_requests_same(found) {
+    } else if are_requests_same(texts, found) {
         "each sequence comes at the same records, without table files of these texts in the stream"
     } else {
         "requests may differ"
@@ -205,7 +213,7 @@ fn write_changes<'a, W: Write>(
     for listed in &found.sequences {
         write_sequence(texts, *listed, out)?;
     }
-    let last = last_line(found);
+    let last = last_line(texts, found);
     listing_result(writeln!(out, "{last}"))?;
     listing_result(out.flush())
 }
@@ -224,8 +232,9 @@ fn compare_valid<'s, 't, 'a, W: Write>(
         new: &new_names,
     };
     let found = changes(alloc, &old.text.rules.rules, &new.text.rules.rules)?;
-    write_changes(alloc, BothTexts { old, new, names }, &found, out)?;
-    if found.is_same || are_requests_same(&found) {
+    let texts = BothTexts { old, new, names };
+    write_changes(alloc, texts, &found, out)?;
+    if found.is_same || are_requests_same(texts, &found) {
         Ok(())
     } else {
         Err(Fault::Differs)
